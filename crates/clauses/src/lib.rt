@@ -1,0 +1,8 @@
+// The clauses of a table.
+
+// What writing the clause list answers.
+pub enum Listed {
+    List { clauses: usize, words: usize },
+    // 1 to 8, 10
+    Refused(u8),
+}

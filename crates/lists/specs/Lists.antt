@@ -1,0 +1,62 @@
+-- Walks over lists that the definitions of the other crates are written with, and how a call is refused. Assumes nothing.
+use mathlib.Core.Bool.{Bool, true, false, _&&_, _||_}
+use mathlib.Core.List.{List, [], _∷_, _++_}
+use Prim.Native.Nat.{ℕ, zero, suc, max}
+use lib.ListN.{length, take, drop}
+use lib.Dec.{eqb}
+
+module _ {A : Type 0} where
+  -- some element passes
+  unfoldable pub any : (A → Bool) → List A → Bool
+  any f [] = false
+  any f (x ∷ xs) = f x || any f xs
+
+  -- every element passes
+  unfoldable pub all : (A → Bool) → List A → Bool
+  all f [] = true
+  all f (x ∷ xs) = f x && all f xs
+
+  -- the elements that pass, in their order
+  unfoldable pub keep : (A → Bool) → List A → List A
+  keep f [] = []
+  keep f (x ∷ xs) = elim (f x) [ true ↦ x ∷ keep f xs | false ↦ keep f xs ]
+
+-- the lists that the elements give, one behind the other
+unfoldable pub gather : {A B : Type 0} → (A → List B) → List A → List B
+gather f [] = []
+gather f (x ∷ xs) = f x ++ gather f xs
+
+-- the numbers below n, ascending
+unfoldable pub upto : ℕ → List ℕ
+upto zero = []
+upto (suc n) = upto n ++ (n ∷ [])
+
+-- x stands in the list
+unfoldable pub mem : ℕ → List ℕ → Bool
+mem x = any (eqb x)
+
+-- two lists of numbers are equal
+unfoldable pub same : List ℕ → List ℕ → Bool
+same [] [] = true
+same [] (y ∷ ys) = false
+same (x ∷ xs) [] = false
+same (x ∷ xs) (y ∷ ys) = eqb x y && same xs ys
+
+-- k parts of w elements each, from the front
+unfoldable pub parts : ℕ → ℕ → List ℕ → List (List ℕ)
+parts zero w xs = []
+parts (suc k) w xs = take w xs ∷ parts k w (drop w xs)
+
+-- the lists, one behind the other
+unfoldable pub flat : List (List ℕ) → List ℕ
+flat [] = []
+flat (x ∷ xs) = x ++ flat xs
+
+-- a buffer whose first elements are xs and whose later elements are as they were
+unfoldable pub over : List ℕ → List ℕ → List ℕ
+over xs buffer = xs ++ drop (length xs) buffer
+
+-- "Where several apply, the first one listed": the number of the first test that fails, or 0
+unfoldable pub firstFailed : List (ℕ × Bool) → ℕ
+firstFailed [] = 0
+firstFailed (t ∷ ts) = elim (t .1) [ true ↦ firstFailed ts | false ↦ t .0 ]

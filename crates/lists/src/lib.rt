@@ -1,0 +1,1 @@
+// Definitions and laws on lists that the other crates cite. No code.

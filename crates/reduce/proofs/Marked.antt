@@ -1,0 +1,107 @@
+-- The marked cases M1 to M14 of document 01, and the figures that it gives for table T: one list of what the definitions answer, computed
+-- by the checker, and one list of what the document says. Assumes nothing.
+use mathlib.Core.Path.{_≡_, refl}
+use mathlib.Core.List.{List, [], _∷_, _++_, map}
+use Prim.Native.Nat.{ℕ, _^_}
+use lib.ListN.{length, getD, set, replicate, take, drop}
+use lib.Count.{onesIn}
+use Rattle.lists.specs.Lists.{any, all, keep, gather, upto, mem, same, parts, flat, over, firstFailed}
+use Rattle.lists.specs.Bits.{has, hasBit, onesOver}
+use Rattle.cnf.specs.Clauses.{wordsOf, clausesWithin, clausesIn, wholeWithin, whole, distinct, clauseFits}
+use Rattle.cnf.specs.Search.{isRight, isUnset, byUnset, seen, both, scan, undo, lowestUnset, decide, act, step, run, searchFrom}
+use Rattle.table.specs.Limits.{standard, longest}
+use Rattle.table.specs.File.{word16, trailer, distance, version, start, records, tableOf, bytes16, fromReturns, fromCalls, fromInternals, fromStates, fromSymbols, trailerOf, bytesOf}
+use Rattle.table.specs.Reading.{lengthFits, distancesFit, countsFit, bytesFit, isInitial, isAccepting, startFits, recordFits, recordsFit, before, ascendFrom, ascend, orderFits, tableTests, readNumber}
+use Rattle.table.specs.Language.{look, targets}
+use Rattle.table.specs.Maps.{joins, classes, numberedFrom, numbered}
+use Rattle.tops.specs.Tops.{add, byInternals, byCalls, live, byReturns, round, rounds, startWords, topWords, topCount, topsOf, liveReturns}
+use Rattle.clauses.specs.Pairs.{pairs, variableOf}
+use Rattle.clauses.specs.Clauses.{opposite, once, tidy, lookClauses, past, triangle, transitivity, premise, matching, moveClause, moveClauses, returnClause, topStates, returnClauses, clauseList, clauseWords, clausesNumber, clausesOf, listedNumber, listedValues}
+use Rattle.clauses.specs.Maps.{joinedBy, nextClass, mapOf}
+use Rattle.search.specs.Answers.{listFits, searchNumber, searched, searchOf, solutionNumber, solutionValues}
+use Rattle.quotient.specs.Check.{looksAgree, moveMatched, movesMatched, returnMatched, returnsMatched, mapTests, checkNumber, checkOf, checkedNumber, checkedValues}
+use Rattle.quotient.specs.Quotient.{image, insert, ascending, images, memberHas, bitOf, classByte, quotientTable, quotientBytes, quotientNumber, quotientOf, writtenNumber, writtenValues}
+use Rattle.reduce.specs.Reduce.{beforeSearch, searchOfTable, deliver, afterSearch, reduceOf, reductionNumber, reductionValues}
+
+-- "Table T, 35 bytes"
+abbrev pub T : List ℕ
+T =
+    0x00 ∷ 0x01 ∷ 0x02
+    ∷ 0x01 ∷ 0x00 ∷ 0x00 ∷ 0x02
+    ∷ 0x00 ∷ 0x00 ∷ 0x02 ∷ 0x01 ∷ 0x00 ∷ 0x01 ∷ 0x02 ∷ 0x00 ∷ 0x02
+    ∷ 0x00 ∷ 0x01 ∷ 0x01
+    ∷ 0x01 ∷ 0x02 ∷ 0x00 ∷ 0x03
+    ∷ 0x17 ∷ 0x00 ∷ 0x14 ∷ 0x00 ∷ 0x10 ∷ 0x00 ∷ 0x07 ∷ 0x00 ∷ 0x04 ∷ 0x00 ∷ 0x01 ∷ 0x00
+    ∷ []
+
+-- "T with call 00 01 02 added"
+abbrev pub T-call : List ℕ
+T-call = take 19 T ++ (0x00 ∷ 0x01 ∷ 0x02 ∷ 0x01 ∷ 0x02 ∷ 0x00 ∷ 0x03 ∷ 0x1a ∷ 0x00 ∷ 0x17 ∷ 0x00 ∷ 0x13 ∷ 0x00 ∷ 0x0a ∷ 0x00 ∷ 0x04 ∷ 0x00 ∷ 0x01 ∷ 0x00 ∷ [])
+
+-- "with return 02 02 00 03 added to T"
+abbrev pub T-return : List ℕ
+T-return = take 23 T ++ (0x02 ∷ 0x02 ∷ 0x00 ∷ 0x03 ∷ 0x1b ∷ 0x00 ∷ 0x18 ∷ 0x00 ∷ 0x14 ∷ 0x00 ∷ 0x0b ∷ 0x00 ∷ 0x08 ∷ 0x00 ∷ 0x01 ∷ 0x00 ∷ [])
+
+-- an answer as one list: the number, then the values
+checked : List ℕ → List ℕ → List ℕ
+unfolding checkedNumber checkedValues
+checked b m = let a = checkOf standard b m in checkedNumber a ∷ checkedValues a
+
+searching : ℕ → List ℕ → List ℕ
+unfolding solutionNumber solutionValues
+searching n ws = let a = searchOf (pairs 24) ws n 9 (replicate n 7) in (solutionNumber (a .solution) ∷ solutionValues (a .solution)) ++ a .answer
+
+writing : List ℕ → List ℕ → List ℕ
+unfolding writtenNumber writtenValues
+writing b m = let a = quotientOf standard b m (replicate 40 7) in (writtenNumber (a .answer) ∷ writtenValues (a .answer)) ++ a .out
+
+reducing : List ℕ → ℕ → ℕ → ℕ → ℕ → List ℕ
+unfolding reductionNumber reductionValues
+reducing b budget words states bytes = let a = reduceOf standard b budget (replicate words 7) (replicate states 7) (replicate bytes 7) in (reductionNumber (a .answer) ∷ reductionValues (a .answer)) ++ a .map ++ a .out
+
+pub answers : List (List ℕ)
+answers =
+    (let a = topsOf standard T in a .number ∷ a .found ∷ a .words)
+    ∷ checked T (0 ∷ 1 ∷ 1 ∷ 2 ∷ [])
+    ∷ checked T (0 ∷ 1 ∷ 1 ∷ 1 ∷ [])
+    ∷ checked T (0 ∷ 0 ∷ 1 ∷ 2 ∷ [])
+    ∷ checked T (0 ∷ 1 ∷ 0 ∷ 2 ∷ [])
+    ∷ checked T (0 ∷ 2 ∷ 1 ∷ 1 ∷ [])
+    ∷ checked T (0 ∷ 1 ∷ 1 ∷ [])
+    ∷ checked T-call (0 ∷ 1 ∷ 1 ∷ 2 ∷ [])
+    ∷ reducing T 0 100 4 4
+    ∷ searching 2 (2 ∷ 0 ∷ 2 ∷ [])
+    ∷ searching 2 (2 ∷ 0 ∷ 2 ∷ 2 ∷ 1 ∷ 3 ∷ [])
+    ∷ searching 0 (0 ∷ [])
+    ∷ writing T (0 ∷ 1 ∷ 2 ∷ 3 ∷ [])
+    ∷ writing T-return (0 ∷ 1 ∷ 2 ∷ 3 ∷ [])
+    ∷ (let a = clausesOf standard T (replicate 72 7) in listedNumber (a .answer) ∷ listedValues (a .answer))
+    ∷ reducing T 100000 32768 5 33
+    ∷ []
+
+pub said : List (List ℕ)
+said =
+    (0 ∷ 4 ∷ 2 ^ 24 ∷ 1 ∷ 2 ^ 24 ∷ 2 ^ 24 ∷ replicate 20 0)
+    ∷ (0 ∷ 3 ∷ [])
+    ∷ (17 ∷ [])
+    ∷ (18 ∷ [])
+    ∷ (19 ∷ [])
+    ∷ (16 ∷ [])
+    ∷ (15 ∷ [])
+    ∷ (20 ∷ [])
+    ∷ (13 ∷ replicate 8 7)
+    ∷ (0 ∷ 2 ∷ 1 ∷ 1 ∷ [])
+    ∷ (0 ∷ 1 ∷ 1 ∷ 0 ∷ [])
+    ∷ (12 ∷ [])
+    ∷ ((0 ∷ 35 ∷ T) ++ replicate 5 7)
+    ∷ ((0 ∷ 35 ∷ T) ++ replicate 5 7)
+    ∷ (0 ∷ 23 ∷ 72 ∷ [])
+    ∷ ((0 ∷ 3 ∷ 1 ∷ 72 ∷ 31 ∷ 0 ∷ 1 ∷ 1 ∷ 2 ∷ 7 ∷ [])
+    ++ (0x00 ∷ 0x01 ∷ 0x02 ∷ 0x01 ∷ 0x00 ∷ 0x02 ∷ 0x00 ∷ 0x00 ∷ 0x01 ∷ 0x01 ∷ 0x00 ∷ 0x01 ∷ 0x00 ∷ 0x01 ∷ 0x01 ∷ 0x01 ∷ 0x02 ∷ 0x00 ∷ 0x02
+    ∷ 0x13 ∷ 0x00 ∷ 0x10 ∷ 0x00 ∷ 0x0d ∷ 0x00 ∷ 0x07 ∷ 0x00 ∷ 0x04 ∷ 0x00 ∷ 0x01 ∷ 0x00 ∷ 7 ∷ 7 ∷ []))
+    ∷ []
+
+-- M1 to M14, the clause count and word count of T, and what the program prints for T
+pub marked : answers ≡ said
+unfolding answers said checked searching writing reducing any all keep gather upto mem same parts flat over firstFailed has hasBit onesOver onesIn wordsOf clausesWithin clausesIn wholeWithin whole distinct clauseFits isRight isUnset byUnset seen both scan undo lowestUnset decide act step run searchFrom longest word16 trailer distance version start records tableOf bytes16 fromReturns fromCalls fromInternals fromStates fromSymbols trailerOf bytesOf lengthFits distancesFit countsFit bytesFit isInitial isAccepting startFits recordFits recordsFit before ascendFrom ascend orderFits tableTests readNumber look targets joins classes numberedFrom numbered add byInternals byCalls live byReturns round rounds startWords topWords topCount topsOf liveReturns pairs variableOf opposite once tidy lookClauses past triangle transitivity premise matching moveClause moveClauses returnClause topStates returnClauses clauseList clauseWords clausesNumber clausesOf listedNumber listedValues joinedBy nextClass mapOf listFits searchNumber searched searchOf solutionNumber solutionValues looksAgree moveMatched movesMatched returnMatched returnsMatched mapTests checkNumber checkOf checkedNumber checkedValues image insert ascending images memberHas bitOf classByte quotientTable quotientBytes quotientNumber quotientOf writtenNumber writtenValues beforeSearch searchOfTable deliver afterSearch reduceOf reductionNumber reductionValues
+marked = refl

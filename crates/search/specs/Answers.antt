@@ -1,0 +1,48 @@
+-- The operation search: what is refused, the answer, and the answer bytes at exit (document 01, "The search" and "Refused calls").
+-- Assumes nothing.
+use mathlib.Core.Bool.{Bool, true, false, _&&_}
+use mathlib.Core.List.{List, [], _∷_}
+use Prim.Native.Nat.{ℕ}
+use lib.ListN.{length}
+use lib.Dec.{eqb, leb}
+use Rattle.lists.specs.Lists.{all, over, firstFailed}
+use Rattle.cnf.specs.Clauses.{clausesIn, whole, clauseFits}
+use Rattle.cnf.specs.Search.{Outcome, solved, none-exists, spent, unfinished, searchFrom}
+use Rattle.search.specs.declared.Solution.{Solution}
+use Rattle.search.specs.declared.Solution.the-variants.{Solved, Refused}
+
+-- 11: "over 276 variables, a clause past the end, a variable past the count or twice in a clause"; most is the 276
+unfoldable pub listFits : ℕ → List ℕ → ℕ → Bool
+listFits most list variables = leb variables most && whole list && all (clauseFits variables) (clausesIn list)
+
+-- what is judged before the search, in order: 11, then 14: "fewer answer bytes than variables"
+unfoldable pub searchNumber : ℕ → List ℕ → ℕ → List ℕ → ℕ
+searchNumber most list variables answer = firstFailed ((11, listFits most list variables) ∷ (14, leb variables (length answer)) ∷ [])
+
+-- the answer, and the answer bytes at exit
+pub record Searched : Type 0 where
+  pub solution : Solution
+  pub answer : List ℕ
+
+-- "Solved writes 1 or 0 a variable; later bytes keep their content"; "12 none exists", "13 spent"
+unfoldable pub searched : List ℕ → Outcome → Searched
+searched answer (solved v k) = record { solution = Solved k; answer = over v answer }
+searched answer (none-exists k) = record { solution = Refused 12; answer = answer }
+searched answer (spent k) = record { solution = Refused 13; answer = answer }
+searched answer unfinished = record { solution = Refused 13; answer = answer }
+
+-- the operation
+unfoldable pub searchOf : ℕ → List ℕ → ℕ → ℕ → List ℕ → Searched
+searchOf most list variables budget answer = elim (eqb (searchNumber most list variables answer) 0) [
+  | true ↦ searched answer (searchFrom (clausesIn list) variables budget)
+  | false ↦ record { solution = Refused (searchNumber most list variables answer); answer = answer }
+]
+
+-- an answer's number, 0 where it is none, and its values
+unfoldable pub solutionNumber : Solution → ℕ
+solutionNumber (Solved k) = 0
+solutionNumber (Refused n) = n
+
+unfoldable pub solutionValues : Solution → List ℕ
+solutionValues (Solved k) = k ∷ []
+solutionValues (Refused n) = []

@@ -1,0 +1,9 @@
+// The search over clause words.
+
+// What the search answers.
+pub enum Solution {
+    // solved: the guesses made
+    Solved(u64),
+    // 11 to 14
+    Refused(u8),
+}

@@ -1,0 +1,43 @@
+-- The automaton of a table, and the words that bytes accept (document 01, "Runs and reachable tops"). Assumes nothing.
+use mathlib.Core.Path.{_≡_}
+use mathlib.Core.List.{List, [], _∷_, map, List·Memᴰ}
+use Prim.Native.Nat.{ℕ, _/_, _%_, _<_}
+use lib.ListN.{length, getD, take}
+use Rattle.lists.specs.Lists.{keep, same}
+use Rattle.vpa.specs.Automata.{Automaton, Accepts}
+use Rattle.table.specs.File.{Table, tableOf}
+
+-- how many states
+abbrev pub count : Table → ℕ
+count t = length (t .states)
+
+-- a state's byte: "1 for initial plus 2 for accepting"
+abbrev pub byteOf : Table → ℕ → ℕ
+byteOf t q = getD (t .states) q 0
+
+-- what joined states must agree on, of a state's byte
+unfoldable pub look : ℕ → ℕ
+look byte = byte / 2
+
+-- the targets of the records that start with the key (q, a) or (q, r, u), in file order
+unfoldable pub targets : List (List ℕ) → List ℕ → List ℕ
+targets rs key = map (λ r. getD r (length key) 0) (keep (λ r. same key (take (length key) r)) rs)
+
+-- a record (q, a, q') is an internal or a call by symbol a, a record (q, r, s, q') a return that pops s
+abbrev pub automaton : Table → Automaton ℕ
+automaton t = record {
+  state = λ q. q < count t;
+  initial = λ q. byteOf t q % 2 ≡ 1;
+  accepting = λ q. byteOf t q / 2 % 2 ≡ 1;
+  internal = λ q a q'. List·Memᴰ (q ∷ a ∷ q' ∷ []) (t .internals);
+  call = λ q a q'. List·Memᴰ (q ∷ a ∷ q' ∷ []) (t .calls);
+  return = λ q a s q'. List·Memᴰ (q ∷ a ∷ s ∷ q' ∷ []) (t .returns);
+}
+
+-- the automaton of the table that bytes hold
+abbrev pub automatonOf : List ℕ → Automaton ℕ
+automatonOf b = automaton (tableOf b)
+
+-- the word is accepted by the table that the bytes hold
+abbrev pub AcceptsWord : List ℕ → List ℕ → Type 0
+AcceptsWord b w = Accepts (automatonOf b) w

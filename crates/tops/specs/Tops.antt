@@ -1,0 +1,78 @@
+-- Reachable tops as words, and which returns are live (document 01, "Runs and reachable tops"). Assumes nothing.
+use mathlib.Core.Bool.{Bool, true, false}
+use mathlib.Core.List.{List, [], _∷_, _++_, map}
+use mathlib.Core.Option.{Option, none, some}
+use Prim.Native.Nat.{ℕ, zero, suc, _-_, _*_, _^_}
+use lib.ListN.{length, getD, set, replicate}
+use lib.Dec.{eqb}
+use lib.Bits.{bitOr}
+use Rattle.lists.specs.Lists.{keep, same}
+use Rattle.lists.specs.Bits.{has, onesOver}
+use Rattle.table.specs.Limits.{Limits, standard}
+use Rattle.table.specs.File.{Table, tableOf}
+use Rattle.table.specs.Reading.{isInitial, readNumber}
+use Rattle.table.specs.Language.{count}
+use Rattle.tops.specs.declared.TopWords.{TopWords}
+
+-- "bottom is a top too, numbered 24"
+abbrev pub bottomOf : Limits → ℕ
+bottomOf L = L .states
+
+-- the top that a number stands for
+unfoldable pub topNamed : Limits → ℕ → Option ℕ
+topNamed L t = elim (eqb t (bottomOf L)) [ true ↦ none | false ↦ some t ]
+
+-- word q gains the tops of w
+unfoldable pub add : List ℕ → ℕ → ℕ → List ℕ
+add f q w = set f q (bitOr (getD f q 0) w)
+
+-- by an internal (q, a, q') the tops of q are tops of q'
+unfoldable pub byInternals : List (List ℕ) → List ℕ → List ℕ
+byInternals [] f = f
+byInternals (r ∷ rs) f = byInternals rs (add f (getD r 2 0) (getD f (getD r 0 0) 0))
+
+-- by a call (q, a, q') the state q is a top of q', if q has a top
+unfoldable pub byCalls : List (List ℕ) → List ℕ → List ℕ
+byCalls [] f = f
+byCalls (r ∷ rs) f = byCalls rs (elim (eqb (getD f (getD r 0 0) 0) 0) [ true ↦ f | false ↦ add f (getD r 2 0) (2 ^ getD r 0 0) ])
+
+-- "A return record is live when its stack state is in tops of its state"
+unfoldable pub live : List ℕ → List ℕ → Bool
+live f r = has f (getD r 0 0) (getD r 2 0)
+
+-- by a live return (q, a, s, q') the tops of s are tops of q'
+unfoldable pub byReturns : List (List ℕ) → List ℕ → List ℕ
+byReturns [] f = f
+byReturns (r ∷ rs) f = byReturns rs (elim (live f r) [ true ↦ add f (getD r 3 0) (getD f (getD r 2 0) 0) | false ↦ f ])
+
+-- all records once, in file order
+unfoldable pub round : Table → List ℕ → List ℕ
+round t f = byReturns (t .returns) (byCalls (t .calls) (byInternals (t .internals) f))
+
+-- rounds until one changes nothing, at most k
+unfoldable pub rounds : ℕ → Table → List ℕ → List ℕ
+rounds zero t f = f
+rounds (suc k) t f = elim (same (round t f) f) [ true ↦ f | false ↦ rounds k t (round t f) ]
+
+-- an initial state has bottom
+unfoldable pub startWords : Limits → Table → List ℕ
+startWords L t = map (λ byte. elim (isInitial byte) [ true ↦ 2 ^ bottomOf L | false ↦ 0 ]) (t .states)
+
+-- "bit t of word q"; "States past the count have the zero word"; so many rounds are enough (proofs/Exact)
+unfoldable pub topWords : Limits → Table → List ℕ
+topWords L t = rounds (suc (count t * suc (count t))) t (startWords L t) ++ replicate (L .states - count t) 0
+
+-- "the number of tops found over all states"
+unfoldable pub topCount : Limits → Table → ℕ
+topCount L t = onesOver (suc (bottomOf L)) (topWords L t)
+
+-- the operation
+unfoldable pub topsOf : Limits → List ℕ → TopWords
+topsOf L b = elim (eqb (readNumber L b) 0) [
+  | true ↦ record { number = 0; words = topWords L (tableOf b); found = topCount L (tableOf b) }
+  | false ↦ record { number = readNumber L b; words = replicate (L .states) 0; found = 0 }
+]
+
+-- the live returns, in file order
+unfoldable pub liveReturns : Limits → Table → List (List ℕ)
+liveReturns L t = keep (live (topWords L t)) (t .returns)

@@ -1,0 +1,1 @@
+// Definitions and laws on visibly pushdown automata, given by relations over any type of states. No code.
