@@ -11,7 +11,7 @@ use Rattle.table.specs.Reading.{before, isInitial, isAccepting}
 use Rattle.table.specs.Language.{count, byteOf}
 use Rattle.table.specs.Maps.{classOf, classes}
 use Rattle.tops.specs.Tops.{liveReturns}
-use Rattle.quotient.specs.Check.{checkNumber}
+use Rattle.maps.specs.Check.{checkNumber}
 use Rattle.quotient.specs.declared.Written.{Written}
 use Rattle.quotient.specs.declared.Written.the-variants.{Length, Refused}
 

@@ -1,12 +1,4 @@
-// Checking a state map, and writing the quotient under it.
-
-// What the check answers.
-pub enum Checked {
-    // accepted: the class count
-    Accepted(usize),
-    // 1 to 8, 15 to 20
-    Refused(u8),
-}
+// Writing the quotient of a table under a map.
 
 // What writing the quotient answers.
 pub enum Written {

@@ -19,7 +19,7 @@ use Rattle.clauses.specs.Pairs.{pairs, variableOf}
 use Rattle.clauses.specs.Clauses.{opposite, once, tidy, lookClauses, past, triangle, transitivity, premise, matching, moveClause, moveClauses, returnClause, topStates, returnClauses, clauseList, clauseWords, clausesNumber, clausesOf, listedNumber, listedValues}
 use Rattle.clauses.specs.Maps.{joinedBy, nextClass, mapOf}
 use Rattle.search.specs.Answers.{listFits, searchNumber, searched, searchOf, solutionNumber, solutionValues}
-use Rattle.quotient.specs.Check.{looksAgree, moveMatched, movesMatched, returnMatched, returnsMatched, mapTests, checkNumber, checkOf, checkedNumber, checkedValues}
+use Rattle.maps.specs.Check.{looksAgree, moveMatched, movesMatched, returnMatched, returnsMatched, mapTests, checkNumber, checkOf, checkedNumber, checkedValues}
 use Rattle.quotient.specs.Quotient.{image, insert, ascending, images, memberHas, bitOf, classByte, quotientTable, quotientBytes, quotientNumber, quotientOf, writtenNumber, writtenValues}
 use Rattle.reduce.specs.Reduce.{beforeSearch, searchOfTable, deliver, afterSearch, reduceOf, reductionNumber, reductionValues}
 

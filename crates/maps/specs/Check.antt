@@ -12,8 +12,8 @@ use Rattle.table.specs.Reading.{readNumber}
 use Rattle.table.specs.Language.{count, byteOf, look, targets}
 use Rattle.table.specs.Maps.{joins, classes, numbered}
 use Rattle.tops.specs.Tops.{topWords, live}
-use Rattle.quotient.specs.declared.Checked.{Checked}
-use Rattle.quotient.specs.declared.Checked.the-variants.{Accepted, Refused}
+use Rattle.maps.specs.declared.Checked.{Checked}
+use Rattle.maps.specs.declared.Checked.the-variants.{Accepted, Refused}
 
 -- (i) "joined states agree on accepting"
 unfoldable pub looksAgree : Table → List ℕ → Bool

@@ -1,0 +1,5 @@
+pub mod Pairs
+pub mod Tidy
+pub mod Related
+pub mod Groups
+pub mod Models
