@@ -1,0 +1,5 @@
+pub mod Tops
+pub mod Simulation
+pub mod Equal
+pub mod Relations
+pub mod Correspondence
