@@ -3,3 +3,4 @@ pub mod Tidy
 pub mod Related
 pub mod Groups
 pub mod Models
+pub mod Maps
