@@ -2,10 +2,10 @@
 use mathlib.Core.Path.{_≡_}
 use mathlib.Core.Bool.{Bool, true, false, _&&_, not}
 use mathlib.Core.List.{List, [], _∷_, List·Memᴰ}
-use Prim.Native.Nat.{ℕ, zero, suc, _+_, _*_, _/_, _%_, _<_}
+use Prim.Native.Nat.{ℕ, zero, suc, _+_, _*_, _/_, _%_, _≤_, _<_}
 use lib.ListN.{length, getD, take, drop}
 use lib.Dec.{eqb, ltb, leb}
-use Rattle.lists.specs.Lists.{any, all, gather, mem}
+use Rattle.lists.specs.Lists.{any, all, keep, gather, mem}
 
 -- "Literal 2v says v is true, 2v+1 says v is false."
 abbrev pub positive : ℕ → ℕ
@@ -31,6 +31,18 @@ pub record Assignment (n : ℕ) (v : List ℕ) : Type 0 where
 pub record Model (cs : List (List ℕ)) (n : ℕ) (v : List ℕ) : Type 0 where
   pub assigns : Assignment n v
   pub each : (c : List ℕ) → List·Memᴰ c cs → (l : ℕ) × List·Memᴰ l c × Right v l
+
+-- of the assignments that satisfy the list, only v makes every variable true that v makes true
+pub record Maximal (cs : List (List ℕ)) (n : ℕ) (v : List ℕ) : Type 0 where
+  pub only : (a : List ℕ) → Model cs n a → ((x : ℕ) → valueOf v x ≡ 1 → valueOf a x ≡ 1) → a ≡ v
+
+-- the literal says that its variable is true
+unfoldable pub isPositive : ℕ → Bool
+isPositive l = eqb (l % 2) 0
+
+-- no clause has more than one positive literal
+pub record Horn (cs : List (List ℕ)) : Type 0 where
+  pub one : (c : List ℕ) → List·Memᴰ c cs → length (keep isPositive c) ≤ 1
 
 -- "A clause is 16-bit words: its literal count, then the literals."
 unfoldable pub wordsOf : List (List ℕ) → List ℕ

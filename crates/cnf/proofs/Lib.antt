@@ -1,0 +1,10 @@
+pub mod Values
+pub mod Found
+pub mod Steps
+pub mod Sound
+pub mod Ends
+pub mod Horn
+pub mod Order
+pub mod Closure
+pub mod Words
+pub mod Theorems
