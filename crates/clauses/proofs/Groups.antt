@@ -56,7 +56,7 @@ module _ (v : List ℕ) where
   unless-satisfied true cs h e = absurd (true≢false e)
   unless-satisfied false cs h e = h
 
-past-mem : (n p q : ℕ) → List·Memᴰ q (past n p) → (p < q) × (q < n)
+pub past-mem : (n p q : ℕ) → List·Memᴰ q (past n p) → (p < q) × (q < n)
 unfolding past
 past-mem n p q m = let r = keep-mem (ltb p) (upto n) q m in (ltb-true p q (r .1), upto-mem n q (r .0))
 

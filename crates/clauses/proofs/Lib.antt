@@ -4,3 +4,5 @@ pub mod Related
 pub mod Groups
 pub mod Models
 pub mod Maps
+pub mod Formed
+pub mod Assignments

@@ -1,6 +1,6 @@
 -- The automaton of a table, and the words that bytes accept (document 01, "Runs and reachable tops"). Assumes nothing.
 use mathlib.Core.Path.{_≡_}
-use mathlib.Core.List.{List, [], _∷_, map, List·Memᴰ}
+use mathlib.Core.List.{List, [], _∷_, _++_, map, List·Memᴰ}
 use Prim.Native.Nat.{ℕ, _/_, _%_, _<_}
 use lib.ListN.{length, getD, take}
 use Rattle.lists.specs.Lists.{keep, same}
@@ -41,3 +41,9 @@ automatonOf b = automaton (tableOf b)
 -- the word is accepted by the table that the bytes hold
 abbrev pub AcceptsWord : List ℕ → List ℕ → Type 0
 AcceptsWord b w = Accepts (automatonOf b) w
+
+-- "Each move has at most one target where no two records of one section differ in their target alone."
+pub record OneTarget (t : Table) : Type 0 where
+  pub internals : (key : List ℕ) (q q' : ℕ) → List·Memᴰ (key ++ (q ∷ [])) (t .internals) → List·Memᴰ (key ++ (q' ∷ [])) (t .internals) → q ≡ q'
+  pub calls : (key : List ℕ) (q q' : ℕ) → List·Memᴰ (key ++ (q ∷ [])) (t .calls) → List·Memᴰ (key ++ (q' ∷ [])) (t .calls) → q ≡ q'
+  pub returns : (key : List ℕ) (q q' : ℕ) → List·Memᴰ (key ++ (q ∷ [])) (t .returns) → List·Memᴰ (key ++ (q' ∷ [])) (t .returns) → q ≡ q'

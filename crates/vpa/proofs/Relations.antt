@@ -53,6 +53,30 @@ module _ {S : Type 0} (A : Automaton S) (R : S → S → Type 0) where
       returns = λ e f. agreed e f (reachable? _ _ (equivalence .within e .0) (equivalence .within f .0)) (reachable? _ _ (equivalence .within e .1) (equivalence .within f .1));
     }
 
+-- Definition 1 of a relation is Definition 1 of any that relates the same states
+module _ {S : Type 0} (A : Automaton S) (R Q : S → S → Type 0) (forth : (p q : S) → R p q → Q p q) (back : (p q : S) → Q p q → R p q) where
+  along : {f g : ℕ → S → Type 0} → Closed R f g → Closed Q f g
+  along k = record { forth = λ r. let j = k .forth r in (j .0, j .1, forth _ _ (j .2)); back = λ r. let j = k .back r in (j .0, j .1, forth _ _ (j .2)) }
+
+  agree-along : {p q s u : S} → ReturnsAgree A R p q s u → ReturnsAgree A Q p q s u
+  agree-along (closed k) = closed (along k)
+  agree-along (second-unreachable n) = second-unreachable n
+  agree-along (first-unreachable n) = first-unreachable n
+
+  pub raq-along : Raq A R → Raq A Q
+  raq-along raq = record {
+    equivalence = record {
+      within = λ h. raq .equivalence .within (back _ _ h);
+      reflexive = λ h. forth _ _ (raq .equivalence .reflexive h);
+      symmetric = λ h. forth _ _ (raq .equivalence .symmetric (back _ _ h));
+      transitive = λ h k. forth _ _ (raq .equivalence .transitive (back _ _ h) (back _ _ k));
+    };
+    accepting = λ h. raq .accepting (back _ _ h);
+    internals = λ h. along (raq .internals (back _ _ h));
+    calls = λ h. along (raq .calls (back _ _ h));
+    returns = λ h k. agree-along (raq .returns (back _ _ h) (back _ _ k));
+  }
+
 module _ {S T : Type 0} (A : Automaton S) (m : S → T) where
   -- a map's relation is an equivalence over the states
   pub joined-equivalence : Equivalence A (Joined A m)
