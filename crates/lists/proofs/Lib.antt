@@ -2,3 +2,5 @@ pub mod Members
 pub mod Refusals
 pub mod Parts
 pub mod Bits
+pub mod Counts
+pub mod Words

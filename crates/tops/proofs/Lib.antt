@@ -1,0 +1,4 @@
+pub mod Bounded
+pub mod Walks
+pub mod Exact
+pub mod Count
