@@ -1,0 +1,4 @@
+pub mod Passed
+pub mod Bytes
+pub mod Order
+pub mod Examples
