@@ -1,1 +1,5 @@
+pub mod Passed
+pub mod Bytes
+pub mod Order
 pub mod Facts
+pub mod Examples

@@ -1,0 +1,73 @@
+-- Examples of reading: one list of what the definitions answer, computed by the checker, and one list of what document 01 says. Where two
+-- refusals apply, the first one listed is given. Assumes nothing.
+use mathlib.Core.Path.{_≡_, refl}
+use mathlib.Core.List.{List, [], _∷_, _++_, map}
+use Prim.Native.Nat.{ℕ}
+use lib.ListN.{replicate}
+use Rattle.lists.specs.Lists.{any, all, parts, gather, firstFailed}
+use Rattle.table.specs.Limits.{standard, longest}
+use Rattle.table.specs.File.{word16, trailer, distance, version, start, records, tableOf, bytes16}
+use Rattle.table.specs.Reading.{lengthFits, distancesFit, countsFit, bytesFit, isInitial, startFits, recordFits, recordsFit, before, ascendFrom, ascend, orderFits, tableTests, readNumber, startsOf, readOf, readingValues}
+
+-- sections, the five distances and the version
+abbrev file : List ℕ → ℕ → ℕ → ℕ → ℕ → ℕ → ℕ → List ℕ
+file b d0 d1 d2 d3 d4 v = b ++ gather bytes16 (d0 ∷ d1 ∷ d2 ∷ d3 ∷ d4 ∷ v ∷ [])
+
+-- "Table T"
+abbrev T : List ℕ
+T =
+    file
+    (0 ∷ 1 ∷ 2 ∷ 1 ∷ 0 ∷ 0 ∷ 2 ∷ 0 ∷ 0 ∷ 2 ∷ 1 ∷ 0 ∷ 1 ∷ 2 ∷ 0 ∷ 2 ∷ 0 ∷ 1 ∷ 1 ∷ 1 ∷ 2 ∷ 0 ∷ 3 ∷ [])
+    23
+    20
+    16
+    7
+    4
+    1
+
+-- each file and its number
+abbrev files : List (List ℕ)
+files =
+    -- T, and the shortest table: one initial state
+    T
+    ∷ file (1 ∷ []) 1 1 0 0 0 1
+    -- "11 bytes give 1", and the version is 0; one byte too many; the longest file that is not
+    ∷ replicate 11 0
+    ∷ replicate 22597 0
+    ∷ replicate 22596 0
+    -- version 2, and the first distance is not the length less 12
+    ∷ file [] 1 0 0 0 0 2
+    -- a first distance short by one, and no state
+    ∷ file (1 ∷ []) 0 0 0 0 0 1
+    -- distances rising, and no state
+    ∷ file (1 ∷ []) 1 1 1 1 2 1
+    -- two bytes of internals, of calls, of returns, and no state
+    ∷ file (1 ∷ 1 ∷ []) 2 2 2 0 0 1
+    ∷ file (1 ∷ 1 ∷ []) 2 2 2 2 0 1
+    ∷ file (1 ∷ 1 ∷ []) 2 2 2 2 2 1
+    -- "a trailer alone with five zero distances and version 1 gives 4"; no state, and a symbol byte 3
+    ∷ file [] 0 0 0 0 0 1
+    ∷ file (3 ∷ []) 1 0 0 0 0 1
+    -- 25 states, of which none is initial
+    ∷ file (replicate 25 0) 25 25 0 0 0 1
+    -- a state byte 4, which is not initial
+    ∷ file (4 ∷ []) 1 1 0 0 0 1
+    -- no initial state, and an internal whose symbol is past the count
+    ∷ file (0 ∷ 0 ∷ 0 ∷ 0 ∷ []) 4 4 3 0 0 1
+    -- two equal internals whose symbol is past the count; whose symbol is a call
+    ∷ file (1 ∷ 0 ∷ 0 ∷ 0 ∷ 0 ∷ 0 ∷ 0 ∷ []) 7 7 6 0 0 1
+    ∷ file (1 ∷ 1 ∷ 0 ∷ 0 ∷ 0 ∷ 0 ∷ 0 ∷ 0 ∷ []) 8 7 6 0 0 1
+    -- two equal internals, calls, returns
+    ∷ file (0 ∷ 1 ∷ 0 ∷ 0 ∷ 0 ∷ 0 ∷ 0 ∷ 0 ∷ []) 8 7 6 0 0 1
+    ∷ file (1 ∷ 1 ∷ 0 ∷ 0 ∷ 0 ∷ 0 ∷ 0 ∷ 0 ∷ []) 8 7 6 6 0 1
+    ∷ file (2 ∷ 1 ∷ 0 ∷ 0 ∷ 0 ∷ 0 ∷ 0 ∷ 0 ∷ 0 ∷ 0 ∷ []) 10 9 8 8 8 1
+    ∷ []
+
+numbers : map (readNumber standard) files ≡ 0 ∷ 0 ∷ 1 ∷ 1 ∷ 2 ∷ 2 ∷ 3 ∷ 3 ∷ 3 ∷ 3 ∷ 3 ∷ 4 ∷ 4 ∷ 4 ∷ 5 ∷ 6 ∷ 7 ∷ 7 ∷ 8 ∷ 8 ∷ 8 ∷ []
+unfolding any all parts gather firstFailed longest word16 trailer distance version start records tableOf bytes16 lengthFits distancesFit countsFit bytesFit isInitial startFits recordFits recordsFit before ascendFrom ascend orderFits tableTests readNumber
+numbers = refl
+
+-- "Reading answers the five section starts."
+starts-of-T : readingValues (readOf standard T) ≡ 0 ∷ 3 ∷ 7 ∷ 16 ∷ 19 ∷ []
+unfolding any all parts gather firstFailed longest word16 trailer distance version start records tableOf bytes16 lengthFits distancesFit countsFit bytesFit isInitial startFits recordFits recordsFit before ascendFrom ascend orderFits tableTests readNumber startsOf readOf readingValues
+starts-of-T = refl

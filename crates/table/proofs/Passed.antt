@@ -1,0 +1,174 @@
+-- What it says that reading refuses nothing (document 01, "Refused calls", 1 to 8): of the bytes, and of the table, test by test and both ways.
+-- Assumes nothing.
+use mathlib.Core.Path.{_≡_, refl, _∙_}
+use mathlib.Core.Bool.{true}
+use mathlib.Core.List.{List, [], List·Memᴰ}
+use Prim.Native.Nat.{ℕ, _-_, _%_, _≤_}
+use native.Mathlib.Omega.{arith}
+use lib.ListN.{length}
+use lib.Dec.{eqb, leb}
+use borrow.Author.Tests.{eqb-true, leb-true, eq-eqb, le-leb}
+use Rattle.lists.specs.Lists.{any, all, firstFailed}
+use Rattle.lists.proofs.Members.{and-true, and-of, all-true, all-of}
+use Rattle.lists.proofs.Refusals.{passed, passes}
+use Rattle.table.specs.Limits.{Limits, longest, moveLimit, returnLimit}
+use Rattle.table.specs.File.{Table, trailer, distance, version, tableOf}
+use Rattle.table.specs.Reading.{lengthFits, distancesFit, countsFit, bytesFit, isInitial, startFits, recordFits, recordsFit, ascend, orderFits, tableTests, readNumber, Readable, WellFormed}
+
+-- ---- what it says that bytes are readable
+
+pub record Passed (L : Limits) (b : List ℕ) : Type 0 where
+  pub long : 12 ≤ length b
+  pub short : length b ≤ longest L
+  pub dated : version b ≡ 1
+  pub whole : distance b 0 ≡ trailer b
+  pub falls-1 : distance b 1 ≤ distance b 0
+  pub falls-2 : distance b 2 ≤ distance b 1
+  pub falls-3 : distance b 3 ≤ distance b 2
+  pub falls-4 : distance b 4 ≤ distance b 3
+  pub threes-2 : (distance b 2 - distance b 3) % 3 ≡ 0
+  pub threes-3 : (distance b 3 - distance b 4) % 3 ≡ 0
+  pub fours-4 : distance b 4 % 4 ≡ 0
+  pub fits : firstFailed (tableTests L (tableOf b)) ≡ 0
+
+pub read-passed : (L : Limits) (b : List ℕ) → Readable L b → Passed L b
+unfolding readNumber lengthFits distancesFit
+read-passed L b e =
+    let p1 = passed 1 _ _ (λ z. absurd (omega arith)) e in
+    let p2 = passed 2 _ _ (λ z. absurd (omega arith)) (p1 .1) in
+    let p3 = passed 3 _ _ (λ z. absurd (omega arith)) (p2 .1) in
+    let l = and-true _ _ (p1 .0) in
+    let d7 = and-true _ _ (p3 .0) in
+    let d6 = and-true _ _ (d7 .0) in
+    let d5 = and-true _ _ (d6 .0) in
+    let d4 = and-true _ _ (d5 .0) in
+    let d3 = and-true _ _ (d4 .0) in
+    let d2 = and-true _ _ (d3 .0) in
+    let d1 = and-true _ _ (d2 .0) in
+    record {
+      long = leb-true _ _ (l .0);
+      short = leb-true _ _ (l .1);
+      dated = eqb-true _ _ (p2 .0);
+      whole = eqb-true _ _ (d1 .0);
+      falls-1 = leb-true _ _ (d1 .1);
+      falls-2 = leb-true _ _ (d2 .1);
+      falls-3 = leb-true _ _ (d3 .1);
+      falls-4 = leb-true _ _ (d4 .1);
+      threes-2 = eqb-true _ _ (d5 .1);
+      threes-3 = eqb-true _ _ (d6 .1);
+      fours-4 = eqb-true _ _ (d7 .1);
+      fits = p3 .1;
+    }
+
+pub passed-read : (L : Limits) (b : List ℕ) → Passed L b → Readable L b
+unfolding readNumber lengthFits distancesFit
+passed-read L b p =
+    passes 1 _ (and-of (le-leb _ _ (p .long)) (le-leb _ _ (p .short)))
+    ∙ passes 2 _ (eq-eqb _ _ (p .dated))
+    ∙ passes 3 _
+    (and-of (and-of (and-of (and-of (and-of (and-of (and-of (eq-eqb _ _ (p .whole)) (le-leb _ _ (p .falls-1)))
+    (le-leb _ _ (p .falls-2))) (le-leb _ _ (p .falls-3))) (le-leb _ _ (p .falls-4))) (eq-eqb _ _ (p .threes-2))) (eq-eqb _ _ (p .threes-3)))
+    (eq-eqb _ _ (p .fours-4)))
+    ∙ p .fits
+
+-- ---- what it says that a table is well formed
+
+pub record Wide (t : Table) : Type 0 where
+  pub internals : (r : List ℕ) → List·Memᴰ r (t .internals) → length r ≡ 3
+  pub calls : (r : List ℕ) → List·Memᴰ r (t .calls) → length r ≡ 3
+  pub returns : (r : List ℕ) → List·Memᴰ r (t .returns) → length r ≡ 4
+
+-- 4 to 8 do not apply
+pub record Tested (L : Limits) (t : Table) : Type 0 where
+  pub symbols-few : length (t .symbols) ≤ L .symbols
+  pub some-state : 1 ≤ length (t .states)
+  pub states-few : length (t .states) ≤ L .states
+  pub internals-few : length (t .internals) ≤ moveLimit
+  pub calls-few : length (t .calls) ≤ moveLimit
+  pub returns-few : length (t .returns) ≤ returnLimit
+  pub symbol-bytes : (x : ℕ) → List·Memᴰ x (t .symbols) → x ≤ 2
+  pub state-bytes : (x : ℕ) → List·Memᴰ x (t .states) → x ≤ 3
+  pub initial : any isInitial (t .states) ≡ true
+  pub internals-fit : (r : List ℕ) → List·Memᴰ r (t .internals) → recordFits t 0 r ≡ true
+  pub calls-fit : (r : List ℕ) → List·Memᴰ r (t .calls) → recordFits t 1 r ≡ true
+  pub returns-fit : (r : List ℕ) → List·Memᴰ r (t .returns) → recordFits t 2 r ≡ true
+  pub internals-ascend : ascend (t .internals) ≡ true
+  pub calls-ascend : ascend (t .calls) ≡ true
+  pub returns-ascend : ascend (t .returns) ≡ true
+
+pub tests-passed : (L : Limits) (t : Table) → firstFailed (tableTests L t) ≡ 0 → Tested L t
+unfolding tableTests countsFit bytesFit startFits recordsFit orderFits
+tests-passed L t e =
+    let p4 = passed 4 _ _ (λ z. absurd (omega arith)) e in
+    let p5 = passed 5 _ _ (λ z. absurd (omega arith)) (p4 .1) in
+    let p6 = passed 6 _ _ (λ z. absurd (omega arith)) (p5 .1) in
+    let p7 = passed 7 _ _ (λ z. absurd (omega arith)) (p6 .1) in
+    let p8 = passed 8 _ _ (λ z. absurd (omega arith)) (p7 .1) in
+    let c5 = and-true _ _ (p4 .0) in
+    let c4 = and-true _ _ (c5 .0) in
+    let c3 = and-true _ _ (c4 .0) in
+    let c2 = and-true _ _ (c3 .0) in
+    let c1 = and-true _ _ (c2 .0) in
+    let b1 = and-true _ _ (p5 .0) in
+    let r2 = and-true _ _ (p7 .0) in
+    let r1 = and-true _ _ (r2 .0) in
+    let o2 = and-true _ _ (p8 .0) in
+    let o1 = and-true _ _ (o2 .0) in
+    record {
+      symbols-few = leb-true _ _ (c1 .0);
+      some-state = leb-true _ _ (c1 .1);
+      states-few = leb-true _ _ (c2 .1);
+      internals-few = leb-true _ _ (c3 .1);
+      calls-few = leb-true _ _ (c4 .1);
+      returns-few = leb-true _ _ (c5 .1);
+      symbol-bytes = λ x m. leb-true x 2 (all-true (λ x. leb x 2) (t .symbols) (b1 .0) x m);
+      state-bytes = λ x m. leb-true x 3 (all-true (λ x. leb x 3) (t .states) (b1 .1) x m);
+      initial = p6 .0;
+      internals-fit = all-true (recordFits t 0) (t .internals) (r1 .0);
+      calls-fit = all-true (recordFits t 1) (t .calls) (r1 .1);
+      returns-fit = all-true (recordFits t 2) (t .returns) (r2 .1);
+      internals-ascend = o1 .0;
+      calls-ascend = o1 .1;
+      returns-ascend = o2 .1;
+    }
+
+no-test : firstFailed [] ≡ 0
+unfolding firstFailed
+no-test = refl
+
+pub tests-pass : (L : Limits) (t : Table) → Tested L t → firstFailed (tableTests L t) ≡ 0
+unfolding tableTests countsFit bytesFit startFits recordsFit orderFits
+tests-pass L t p =
+    passes 4 _
+    (and-of (and-of (and-of (and-of (and-of (le-leb _ _ (p .symbols-few)) (le-leb _ _ (p .some-state))) (le-leb _ _ (p .states-few)))
+    (le-leb _ _ (p .internals-few))) (le-leb _ _ (p .calls-few))) (le-leb _ _ (p .returns-few)))
+    ∙ passes 5 _ (and-of (all-of (λ x. leb x 2) (t .symbols) (λ x m. le-leb x 2 (p .symbol-bytes x m))) (all-of (λ x. leb x 3) (t .states) (λ x m. le-leb x 3 (p .state-bytes x m))))
+    ∙ passes 6 _ (p .initial)
+    ∙ passes 7 _
+    (and-of (and-of (all-of (recordFits t 0) (t .internals) (p .internals-fit)) (all-of (recordFits t 1) (t .calls) (p .calls-fit))) (all-of (recordFits t 2) (t .returns) (p .returns-fit)))
+    ∙ passes 8 _ (and-of (and-of (p .internals-ascend) (p .calls-ascend)) (p .returns-ascend))
+    ∙ no-test
+
+pub formed-wide : {L : Limits} {t : Table} → WellFormed L t → Wide t
+formed-wide {L} {t} f = record {
+  internals = wide 3 (t .internals) (f .internals-wide);
+  calls = wide 3 (t .calls) (f .calls-wide);
+  returns = wide 4 (t .returns) (f .returns-wide);
+}
+  where
+    wide : (w : ℕ) (rs : List (List ℕ)) → all (λ r. eqb (length r) w) rs ≡ true → (r : List ℕ) → List·Memᴰ r rs → length r ≡ w
+    wide w rs e r m = eqb-true (length r) w (all-true (λ r. eqb (length r) w) rs e r m)
+
+pub formed-tested : {L : Limits} {t : Table} → WellFormed L t → Tested L t
+formed-tested {L} {t} f = tests-passed L t (f .fits)
+
+pub formed-of : {L : Limits} {t : Table} → Wide t → Tested L t → WellFormed L t
+formed-of {L} {t} w p = record {
+  internals-wide = wide 3 (t .internals) (w .internals);
+  calls-wide = wide 3 (t .calls) (w .calls);
+  returns-wide = wide 4 (t .returns) (w .returns);
+  fits = tests-pass L t p;
+}
+  where
+    wide : (w : ℕ) (rs : List (List ℕ)) → ((r : List ℕ) → List·Memᴰ r rs → length r ≡ w) → all (λ r. eqb (length r) w) rs ≡ true
+    wide w rs h = all-of (λ r. eqb (length r) w) rs (λ r m. eq-eqb (length r) w (h r m))
