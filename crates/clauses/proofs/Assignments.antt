@@ -4,7 +4,6 @@ use mathlib.Core.Path.{_≡_, refl, sym, ap, _∙_, subst}
 use mathlib.Core.Logic.{_⊎_, inl, inr, _≢_, _↔_}
 use mathlib.Core.Bool.{Bool, true, false}
 use mathlib.Core.List.{List, [], _∷_, map}
-use mathlib.Core.Option.{some}
 use Prim.Native.Nat.{ℕ, zero, suc, _<_}
 use native.Mathlib.Omega.{arith}
 use native.Mathlib.Decide.{ℕ-discrete}
@@ -12,10 +11,8 @@ use lib.ListN.{length, getD, length-map}
 use lib.Dec.{eqb}
 use borrow.Author.Tests.{eqb-true, eqb-false}
 use Rattle.lists.specs.Lists.{upto}
-use Rattle.lists.specs.Bits.{has}
 use Rattle.lists.proofs.Members.{length-upto, getD-upto}
 use Rattle.cnf.specs.Clauses.{valueOf, Assignment, Model}
-use Rattle.vpa.specs.Automata.{Tops}
 use Rattle.vpa.specs.Quotients.{Joined, Raq}
 use Rattle.vpa.proofs.Relations.{raq-along, equality-raq}
 use Rattle.table.specs.Limits.{Limits}
@@ -23,7 +20,6 @@ use Rattle.table.specs.File.{Table}
 use Rattle.table.specs.Reading.{WellFormed}
 use Rattle.table.specs.Language.{count, automaton}
 use Rattle.table.proofs.Facts.{lawful}
-use Rattle.tops.specs.Tops.{topWords}
 use Rattle.clauses.specs.Pairs.{pairs, variableOf, pairOf}
 use Rattle.clauses.specs.Clauses.{clauseList}
 use Rattle.clauses.proofs.Pairs.{variable-sym, variable-below, pair-variable, in-order}
@@ -101,11 +97,11 @@ module _ (t : Table) (f : ℕ → ℕ) where
       go (yes e) = record { left = j .left; right = j .right; joined = inl e }
       go (no d) = record { left = j .left; right = j .right; joined = inr (value-joined f (count t) p q d (j .left) (j .right) .1 (j .classes)) }
 
-module _ (L : Limits) (t : Table) (wf : WellFormed L t) (exact : (q s : ℕ) → s < count t → (has (topWords L t) q s ≡ true) ↔ Tops (automaton t) q (some s)) where
+module _ (L : Limits) (t : Table) (wf : WellFormed L t) where
   -- a map that meets Definition 1 satisfies the list
   pub map-model : (f : ℕ → ℕ) → Raq (automaton t) (Joined (automaton t) f) → Model (clauseList L t) (pairs (count t)) (assignmentOf f (count t))
   map-model f raq =
-      model-raq L t wf exact (assignmentOf f (count t)) (assigned f (count t)) .1
+      model-raq L t wf (assignmentOf f (count t)) (assigned f (count t)) .1
       (raq-along (automaton t) (Joined (automaton t) f) (Related (count t) (assignmentOf f (count t))) (joined-related t f) (related-joined t f) raq)
 
   -- the list is satisfiable: nothing joined

@@ -1,13 +1,9 @@
 -- An assignment satisfies a table's list exactly when its relation meets Definition 1. Assumes nothing.
 use mathlib.Core.Path.{_≡_, refl, sym, ap, _∙_, subst}
 use mathlib.Core.Logic.{_↔_}
-use mathlib.Core.Bool.{Bool, true, false, true≢false}
 use mathlib.Core.List.{List, [], _∷_, _++_, List·Memᴰ}
-use mathlib.Core.Option.{some}
 use Prim.Native.Nat.{ℕ, _<_}
-use Rattle.lists.specs.Bits.{has}
 use Rattle.cnf.specs.Clauses.{Assignment, Model}
-use Rattle.vpa.specs.Automata.{Tops}
 use Rattle.vpa.specs.Quotients.{Equivalence, Raq}
 use Rattle.vpa.proofs.Relations.{Matched, matched-of, raq-of}
 use Rattle.table.specs.Limits.{Limits}
@@ -15,19 +11,14 @@ use Rattle.table.specs.File.{Table}
 use Rattle.table.specs.Reading.{WellFormed}
 use Rattle.table.specs.Language.{count, automaton}
 use Rattle.table.proofs.Facts.{internals-fit, calls-fit, returns-fit, look-accepting, accepting-look}
-use Rattle.tops.specs.Tops.{topWords}
+use Rattle.tops.proofs.Formed.{told, reachable?}
 use Rattle.clauses.specs.Pairs.{pairs}
 use Rattle.clauses.specs.Clauses.{lookClauses, transitivity, moveClauses, returnClauses, clauseList}
 use Rattle.clauses.proofs.Tidy.{Satisfied}
 use Rattle.clauses.proofs.Related.{Related, related-refl, related-sym}
 use Rattle.clauses.proofs.Groups.{satisfied-left, satisfied-right, satisfied-both, LooksAgree, looks-of, looks-satisfied, Transitive, transitive-of, transitive-satisfied, moves-of, moves-satisfied, returns-of, returns-satisfied}
 
--- whether a top is reachable can be told
-told : {P : Type 0} (b : Bool) → (b ≡ true) ↔ P → Dec P
-told true e = yes (e .0 refl)
-told false e = no (λ p. true≢false (sym (e .1 p)))
-
-module _ (L : Limits) (t : Table) (wf : WellFormed L t) (exact : (q s : ℕ) → s < count t → (has (topWords L t) q s ≡ true) ↔ Tops (automaton t) q (some s)) (v : List ℕ) (full : Assignment (pairs (count t)) v) where
+module _ (L : Limits) (t : Table) (wf : WellFormed L t) (v : List ℕ) (full : Assignment (pairs (count t)) v) where
   abbrev one : List (List ℕ)
   one = lookClauses t
 
@@ -54,7 +45,7 @@ module _ (L : Limits) (t : Table) (wf : WellFormed L t) (exact : (q s : ℕ) →
         accepting = λ {p} {q} r. look-accepting wf p q (looks-of t v full (satisfied-left v one _ h2) p q r);
         internals = λ {p} {q} {p'} {a} r k. moves-of t v full 0 (t .internals) (internals-fit wf) (satisfied-right v two _ h3) p q p' a r k;
         calls = λ {p} {q} {p'} {a} r k. moves-of t v full 1 (t .calls) (calls-fit wf) (satisfied-right v three _ h4) p q p' a r k;
-        returns = λ {p} {q} {s} {u} {p'} {a} r z tp tq k. returns-of t v full L (returns-fit wf) (satisfied-right v four _ h) p q s u p' a r z (exact p s (z .left) .1 tp) (exact q u (z .right) .1 tq) k;
+        returns = λ {p} {q} {s} {u} {p'} {a} r z tp tq k. returns-of t v full L (returns-fit wf) (satisfied-right v four _ h) p q s u p' a r z (told wf p s (z .left) .1 tp) (told wf q u (z .right) .1 tq) k;
       }
 
   pub matched-satisfied : ((p q : ℕ) → Related (count t) v p q → automaton t .accepting p ↔ automaton t .accepting q) → Transitive t v full → Matched (automaton t) (Related (count t) v) → Satisfied v (clauseList L t)
@@ -66,7 +57,7 @@ module _ (L : Limits) (t : Table) (wf : WellFormed L t) (exact : (q s : ℕ) →
       (satisfied-both v one _ (looks-satisfied t v full (λ p q r. accepting-look wf p q (agree p q r))) (transitive-satisfied t v full trans))
       (moves-satisfied t v full 0 (t .internals) (internals-fit wf) (λ p q p' a r k. h .internals r k)))
       (moves-satisfied t v full 1 (t .calls) (calls-fit wf) (λ p q p' a r k. h .calls r k)))
-      (returns-satisfied t v full L (returns-fit wf) (λ p q s u p' a r z hp hq k. h .returns r z (exact p s (z .left) .0 hp) (exact q u (z .right) .0 hq) k))
+      (returns-satisfied t v full L (returns-fit wf) (λ p q s u p' a r z hp hq k. h .returns r z (told wf p s (z .left) .0 hp) (told wf q u (z .right) .0 hq) k))
 
   related-equivalence : Transitive t v full → Equivalence (automaton t) (Related (count t) v)
   related-equivalence trans = record {
@@ -79,5 +70,5 @@ module _ (L : Limits) (t : Table) (wf : WellFormed L t) (exact : (q s : ℕ) →
   -- "All assignments satisfying Φ represent valid RAQ relations", and the other way
   pub model-raq : Model (clauseList L t) (pairs (count t)) v ↔ Raq (automaton t) (Related (count t) v)
   model-raq = (
-    λ h. raq-of (automaton t) (Related (count t) v) (related-equivalence (satisfied-transitive (h .each))) (λ q s lq ls. told (has (topWords L t) q s) (exact q s ls)) (satisfied-matched (h .each)),
+    λ h. raq-of (automaton t) (Related (count t) v) (related-equivalence (satisfied-transitive (h .each))) (λ q s lq ls. reachable? wf q s) (satisfied-matched (h .each)),
     λ h. record { assigns = full; each = matched-satisfied (λ p q r. h .accepting r) (λ p q s r z. h .equivalence .transitive r z) (matched-of (automaton t) (Related (count t) v) h) })

@@ -3,7 +3,6 @@ use mathlib.Core.Path.{_≡_, refl, sym, ap, _∙_, subst}
 use mathlib.Core.Logic.{_↔_}
 use mathlib.Core.Bool.{Bool, true, false, _&&_, _||_, not}
 use mathlib.Core.List.{List, [], _∷_, _++_, List·Memᴰ}
-use mathlib.Core.Option.{some}
 use Prim.Native.Nat.{ℕ, suc, _<_}
 use native.Mathlib.Omega.{arith}
 use lib.ListN.{length, getD}
@@ -12,7 +11,6 @@ use borrow.Author.Tests.{eqb-true, eq-eqb}
 use Rattle.lists.specs.Lists.{any, all, upto}
 use Rattle.lists.specs.Bits.{has}
 use Rattle.lists.proofs.Members.{and-true, and-of, gives, gives-of, any-true, any-of, all-true, all-of, upto-mem, upto-of}
-use Rattle.vpa.specs.Automata.{Tops}
 use Rattle.vpa.specs.Quotients.{Joined}
 use Rattle.vpa.proofs.Relations.{Matched}
 use Rattle.table.specs.Limits.{Limits}
@@ -22,6 +20,7 @@ use Rattle.table.specs.Language.{count, byteOf, look, targets, automaton}
 use Rattle.table.specs.Maps.{classOf, joins, JoinedBy}
 use Rattle.table.proofs.Facts.{Fit, internals-fit, calls-fit, returns-fit, three-bytes, four-bytes, targets-mem, mem-targets, look-accepting, accepting-look}
 use Rattle.tops.specs.Tops.{topWords}
+use Rattle.tops.proofs.Formed.{told}
 use Rattle.maps.specs.Check.{looksAgree, moveMatched, movesMatched, returnMatched, returnsMatched}
 
 pub joins-true : (m : List ℕ) (p q : ℕ) → joins m p q ≡ true → classOf m p ≡ classOf m q
@@ -119,13 +118,13 @@ pub record Passed (L : Limits) (t : Table) (m : List ℕ) : Type 0 where
   pub calls : movesMatched (t .calls) (count t) m ≡ true
   pub returns : returnsMatched (topWords L t) (t .returns) (count t) m ≡ true
 
-module _ (L : Limits) (t : Table) (wf : WellFormed L t) (exact : (q s : ℕ) → s < count t → (has (topWords L t) q s ≡ true) ↔ Tops (automaton t) q (some s)) (m : List ℕ) where
+module _ (L : Limits) (t : Table) (wf : WellFormed L t) (m : List ℕ) where
   pub passed-matched : Passed L t m → Matched (automaton t) (JoinedBy t m)
   passed-matched h = record {
     accepting = λ {p} {q} j. look-accepting wf p q (looks-true t m (h .looks) p q j);
     internals = λ {p} {q} {p'} {a} j k. moves-true t m 0 (t .internals) (internals-fit wf) (h .internals) p q p' a j k;
     calls = λ {p} {q} {p'} {a} j k. moves-true t m 1 (t .calls) (calls-fit wf) (h .calls) p q p' a j k;
-    returns = λ {p} {q} {s} {u} {p'} {a} j i tp tq k. returns-true t m (topWords L t) (t .returns) (returns-fit wf) (h .returns) p q s u p' a j i (exact p s (i .left) .1 tp) (exact q u (i .right) .1 tq) k;
+    returns = λ {p} {q} {s} {u} {p'} {a} j i tp tq k. returns-true t m (topWords L t) (t .returns) (returns-fit wf) (h .returns) p q s u p' a j i (told wf p s (i .left) .1 tp) (told wf q u (i .right) .1 tq) k;
   }
 
   pub matched-passed : ((p q : ℕ) → JoinedBy t m p q → automaton t .accepting p ↔ automaton t .accepting q) → Matched (automaton t) (JoinedBy t m) → Passed L t m
@@ -133,5 +132,5 @@ module _ (L : Limits) (t : Table) (wf : WellFormed L t) (exact : (q s : ℕ) →
     looks = looks-test t m (λ p q j. accepting-look wf p q (agree p q j));
     internals = moves-test t m 0 (t .internals) (internals-fit wf) (λ p q p' a j k. h .internals j k);
     calls = moves-test t m 1 (t .calls) (calls-fit wf) (λ p q p' a j k. h .calls j k);
-    returns = returns-test t m (topWords L t) (t .returns) (returns-fit wf) (λ p q s u p' a j i hp hq k. h .returns j i (exact p s (i .left) .0 hp) (exact q u (i .right) .0 hq) k);
+    returns = returns-test t m (topWords L t) (t .returns) (returns-fit wf) (λ p q s u p' a j i hp hq k. h .returns j i (told wf p s (i .left) .0 hp) (told wf q u (i .right) .0 hq) k);
   }

@@ -2,3 +2,4 @@ pub mod Bounded
 pub mod Walks
 pub mod Exact
 pub mod Count
+pub mod Formed
