@@ -6,3 +6,4 @@ pub mod Models
 pub mod Maps
 pub mod Formed
 pub mod Assignments
+pub mod Theorems

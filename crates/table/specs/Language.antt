@@ -1,5 +1,6 @@
 -- The automaton of a table, and the words that bytes accept (document 01, "Runs and reachable tops"). Assumes nothing.
 use mathlib.Core.Path.{_≡_}
+use mathlib.Core.Logic.{_↔_}
 use mathlib.Core.List.{List, [], _∷_, _++_, map, List·Memᴰ}
 use Prim.Native.Nat.{ℕ, _/_, _%_, _<_}
 use lib.ListN.{length, getD, take}
@@ -41,6 +42,10 @@ automatonOf b = automaton (tableOf b)
 -- the word is accepted by the table that the bytes hold
 abbrev pub AcceptsWord : List ℕ → List ℕ → Type 0
 AcceptsWord b w = Accepts (automatonOf b) w
+
+-- two files accept the same words
+pub record SameWords (b c : List ℕ) : Type 0 where
+  pub each : (w : List ℕ) → AcceptsWord b w ↔ AcceptsWord c w
 
 -- "Each move has at most one target where no two records of one section differ in their target alone."
 pub record OneTarget (t : Table) : Type 0 where
