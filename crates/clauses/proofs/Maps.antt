@@ -64,7 +64,8 @@ module _ (n : ℕ) (v : List ℕ) (trans : (p q s : ℕ) → Related n v p q →
       small = omega arith;
       members = λ p b. (
         λ f. absurd (omega (arith, class-below m p (omega (arith, h .long)))),
-        λ r. absurd (not-nil (subst (λ (ps : List ℕ). List·Memᴰ p ps) e (keep-of (joinedBy v k) (upto k) p (upto-of k p b) (joined p b r)))));
+        λ r. absurd (not-nil (subst (λ (ps : List ℕ). List·Memᴰ p ps) e (keep-of (joinedBy v k) (upto k) p (upto-of k p b) (joined p b r)))),
+      );
     }
     class-of (s ∷ ps) e =
         let f = keep-mem (joinedBy v k) (upto k) s (subst (λ (qs : List ℕ). List·Memᴰ s qs) (sym e) (List·Memᴰ·head refl)) in

@@ -71,4 +71,5 @@ module _ (L : Limits) (t : Table) (wf : WellFormed L t) (v : List ℕ) (full : A
   pub model-raq : Model (clauseList L t) (pairs (count t)) v ↔ Raq (automaton t) (Related (count t) v)
   model-raq = (
     λ h. raq-of (automaton t) (Related (count t) v) (related-equivalence (satisfied-transitive (h .each))) (λ q s lq ls. reachable? wf q s) (satisfied-matched (h .each)),
-    λ h. record { assigns = full; each = matched-satisfied (λ p q r. h .accepting r) (λ p q s r z. h .equivalence .transitive r z) (matched-of (automaton t) (Related (count t) v) h) })
+    λ h. record { assigns = full; each = matched-satisfied (λ p q r. h .accepting r) (λ p q s r z. h .equivalence .transitive r z) (matched-of (automaton t) (Related (count t) v) h) },
+  )

@@ -83,8 +83,9 @@ module _ (L : Limits) (b : List ℕ) (readable : Readable L b) (v : List ℕ) wh
   -- an assignment satisfies the list exactly when it is the relation of a map that meets Definition 1
   pub model-exact : Assignment (pairs (count (tableOf b))) v
       → Model (clauseList L (tableOf b)) (pairs (count (tableOf b))) v
-        ↔ ((m : List ℕ) × RaqMap (tableOf b) m × ((p q : ℕ) → JoinedBy (tableOf b) m p q ↔ Related (count (tableOf b)) v p q))
+      ↔ ((m : List ℕ) × RaqMap (tableOf b) m × ((p q : ℕ) → JoinedBy (tableOf b) m p q ↔ Related (count (tableOf b)) v p q))
   model-exact full =
-      let wf = read-well-formed L b readable in
-      (λ model. (mapOf v (count (tableOf b)), map-raq L (tableOf b) wf v model, λ p q. (related-of L (tableOf b) wf v model p q, joined-of L (tableOf b) wf v model p q)),
-      λ (m, raq, same). model-raq L (tableOf b) wf v full .1 (raq-along (automaton (tableOf b)) (JoinedBy (tableOf b) m) (Related (count (tableOf b)) v) (λ p q. same p q .0) (λ p q. same p q .1) raq))
+      let wf = read-well-formed L b readable in (
+        λ model. (mapOf v (count (tableOf b)), map-raq L (tableOf b) wf v model, λ p q. (related-of L (tableOf b) wf v model p q, joined-of L (tableOf b) wf v model p q)),
+        λ (m, raq, same). model-raq L (tableOf b) wf v full .1 (raq-along (automaton (tableOf b)) (JoinedBy (tableOf b) m) (Related (count (tableOf b)) v) (λ p q. same p q .0) (λ p q. same p q .1) raq),
+      )

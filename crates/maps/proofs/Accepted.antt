@@ -30,9 +30,10 @@ module _ (L : Limits) (t : Table) (wf : WellFormed L t) (m : List ℕ) where
       let c = passed 17 _ _ (omega arith) (b .1) in
       let d = passed 18 _ _ (omega arith) (c .1) in
       let f = passed 19 _ _ (omega arith) (d .1) in
-      let g = passed 20 _ _ (omega arith) (f .1) in
-      (record { long = eqb-true _ _ (a .0); in-order = b .0 },
-      joined-raq (automaton t) (classOf m) (λ q s lq ls. reachable? wf q s) .0 (passed-matched L t wf m (record { looks = c .0; internals = d .0; calls = f .0; returns = g .0 })))
+      let g = passed 20 _ _ (omega arith) (f .1) in (
+        record { long = eqb-true _ _ (a .0); in-order = b .0 },
+        joined-raq (automaton t) (classOf m) (λ q s lq ls. reachable? wf q s) .0 (passed-matched L t wf m (record { looks = c .0; internals = d .0; calls = f .0; returns = g .0 })),
+      )
 
   no-test : firstFailed [] ≡ 0
   unfolding firstFailed

@@ -107,8 +107,8 @@ module _ (t : Table) (m : List ℕ) where
             let d = and-true (joins m p q && joins m s u) (has f p s) (c .0) in
             let b = and-true (joins m p q) (joins m s u) (d .0) in
             let r = h p q s u p' a
-                (record { left = fit .states _ k 0 (omega arith) (omega arith); right = lq; classes = joins-true m p q (b .0) })
-                (record { left = fit .states _ k 2 (omega arith) (omega arith); right = lu; classes = joins-true m s u (b .1) }) (d .1) (c .1) k in
+            (record { left = fit .states _ k 0 (omega arith) (omega arith); right = lq; classes = joins-true m p q (b .0) })
+            (record { left = fit .states _ k 2 (omega arith) (omega arith); right = lu; classes = joins-true m s u (b .1) }) (d .1) (c .1) k in
             any-reaches rs (q ∷ a ∷ u ∷ []) p' (fit .wide) (r .0, r .1, r .2 .classes)
 
 -- the four tests together

@@ -1,0 +1,38 @@
+-- What a delivery promises (demand 3), over the lent bytes and what is written. Assumes nothing.
+use mathlib.Core.Path.{_≡_}
+use mathlib.Core.List.{List}
+use Prim.Native.Nat.{ℕ, _-_, _*_, _/_, _≤_}
+use lib.ListN.{take}
+use Rattle.table.specs.Limits.{Limits}
+use Rattle.table.specs.File.{tableOf}
+use Rattle.table.specs.Language.{count, SameWords, OneTarget}
+use Rattle.table.specs.Maps.{NoneCoarser}
+use Rattle.maps.specs.Check.{checkOf}
+use Rattle.maps.specs.declared.Checked.the-variants.{Accepted}
+use Rattle.reduce.specs.declared.Reduction.{Reduction}
+use Rattle.reduce.specs.declared.Reduction.the-variants.{Delivered, Refused}
+
+-- P of a delivery's class count, guesses, clause words and quotient length; a refusal promises nothing here
+abbrev pub OnDelivery : Reduction → (ℕ → ℕ → ℕ → ℕ → Type 0) → Type 0
+OnDelivery (Delivered c g w l) P = P c g w l
+OnDelivery (Refused k) P = Unit {0}
+
+-- the map that was written: "the first bytes of the map buffer"
+abbrev pub mapWritten : List ℕ → List ℕ → List ℕ
+mapWritten b map = take (count (tableOf b)) map
+
+-- "for every word of any length, the written quotient accepts the word exactly when the input does"
+abbrev pub KeepsWords : Reduction → List ℕ → List ℕ → Type 0
+KeepsWords r b out = OnDelivery r (λ c g w l. SameWords b (take l out))
+
+-- the map delivered is one that the check accepts, with as many classes
+abbrev pub DeliversChecked : Limits → Reduction → List ℕ → List ℕ → Type 0
+DeliversChecked L r b map = OnDelivery r (λ c g w l. checkOf L b (mapWritten b map) ≡ Accepted c)
+
+-- "No map meeting Definition 1 joins all pairs of a delivered map and one more."
+abbrev pub DeliversMaximal : Reduction → List ℕ → List ℕ → Type 0
+DeliversMaximal r b map = OnDelivery r (λ c g w l. NoneCoarser (tableOf b) (mapWritten b map))
+
+-- "Where each move has at most one target, no reduction of n states, under any budget, reports more than n(n-1)/2 guesses."
+abbrev pub FewGuesses : Reduction → List ℕ → Type 0
+FewGuesses r b = OnDelivery r (λ c g w l. OneTarget (tableOf b) → g ≤ count (tableOf b) * (count (tableOf b) - 1) / 2)
