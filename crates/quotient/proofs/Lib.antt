@@ -1,0 +1,6 @@
+pub mod Ascending
+pub mod Image
+pub mod Classes
+pub mod States
+pub mod Automaton
+pub mod Table
