@@ -3,7 +3,7 @@ use mathlib.Core.Path.{_≡_, refl, sym, _∙_}
 use mathlib.Core.Logic.{_≢_}
 use mathlib.Core.Bool.{Bool, true, false}
 use mathlib.Core.List.{List, [], _∷_}
-use Prim.Native.Nat.{ℕ}
+use Prim.Native.Nat.{ℕ, _≤_, zero-le}
 use Rattle.lists.specs.Lists.{firstFailed}
 
 -- where none fails, the first passes and none of the others fails
@@ -19,3 +19,13 @@ passes k ts p = rw (p, firstFailed)
 pub fails : (k : ℕ) {t : Bool} (ts : List (ℕ × Bool)) → t ≡ false → firstFailed ((k, t) ∷ ts) ≡ k
 unfolding firstFailed
 fails k ts p = rw (p, firstFailed)
+
+-- the number given is one of the numbers listed, or 0
+pub failed-within : (n k : ℕ) (t : Bool) (ts : List (ℕ × Bool)) → k ≤ n → firstFailed ts ≤ n → firstFailed ((k, t) ∷ ts) ≤ n
+unfolding firstFailed
+failed-within n k true ts h r = r
+failed-within n k false ts h r = h
+
+pub none-failed : (n : ℕ) → firstFailed [] ≤ n
+unfolding firstFailed
+none-failed n = zero-le

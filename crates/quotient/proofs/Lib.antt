@@ -4,3 +4,4 @@ pub mod Classes
 pub mod States
 pub mod Automaton
 pub mod Table
+pub mod Theorems

@@ -20,6 +20,7 @@ use Rattle.table.specs.File.{tableOf}
 use Rattle.table.specs.Reading.{readNumber, Readable}
 use Rattle.table.specs.Language.{count}
 use Rattle.table.specs.Maps.{classes}
+use Rattle.table.proofs.Passed.{read-within}
 use Rattle.table.proofs.Bytes.{read-well-formed}
 use Rattle.maps.specs.Check.{checkNumber}
 use Rattle.clauses.specs.Pairs.{pairs}
@@ -56,6 +57,22 @@ begun L b list map e = one (eqb (readNumber L b) 0) refl e
         → Begun L b list map
     one true p f = two (eqb-true (readNumber L b) 0 p) (leb (count (tableOf b)) (length map)) refl f
     one false p f = absurd (eqb-false (readNumber L b) 0 p f)
+
+-- the numbers that come before the search
+pub data FirstNumber (k : ℕ) : Type 0 where
+  of-reading : k ≤ 8 → FirstNumber k
+  map-short : k ≡ 22 → FirstNumber k
+  list-long : k ≡ 10 → FirstNumber k
+
+pub first-number : (L : Limits) (b list map : List ℕ) → FirstNumber (beforeSearch L b list map)
+unfolding beforeSearch
+first-number L b list map = go (eqb (readNumber L b) 0) (leb (count (tableOf b)) (length map)) (leb (length (clauseWords L (tableOf b))) (length list))
+  where
+    go : (s t u : Bool) → FirstNumber (elim s [ true ↦ elim t [ true ↦ elim u [ true ↦ 0 | false ↦ 10 ] | false ↦ 22 ] | false ↦ readNumber L b ])
+    go true true true = of-reading (omega arith)
+    go true true false = list-long refl
+    go true false u = map-short refl
+    go false t u = of-reading (read-within L b)
 
 module _ (L : Limits) (b : List ℕ) (budget : ℕ) (list map out : List ℕ) where
   -- a map that the search found, with the guesses it made

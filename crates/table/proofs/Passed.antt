@@ -10,7 +10,7 @@ use lib.Dec.{eqb, leb}
 use borrow.Author.Tests.{eqb-true, leb-true, eq-eqb, le-leb}
 use Rattle.lists.specs.Lists.{any, all, firstFailed}
 use Rattle.lists.proofs.Members.{and-true, and-of, all-true, all-of}
-use Rattle.lists.proofs.Refusals.{passed, passes}
+use Rattle.lists.proofs.Refusals.{passed, passes, failed-within, none-failed}
 use Rattle.table.specs.Limits.{Limits, longest, moveLimit, returnLimit}
 use Rattle.table.specs.File.{Table, trailer, distance, version, tableOf}
 use Rattle.table.specs.Reading.{lengthFits, distancesFit, countsFit, bytesFit, isInitial, startFits, recordFits, recordsFit, ascend, orderFits, tableTests, readNumber, Readable, WellFormed}
@@ -172,3 +172,10 @@ formed-of {L} {t} w p = record {
   where
     wide : (w : ℕ) (rs : List (List ℕ)) → ((r : List ℕ) → List·Memᴰ r rs → length r ≡ w) → all (λ r. eqb (length r) w) rs ≡ true
     wide w rs h = all-of (λ r. eqb (length r) w) rs (λ r m. eq-eqb (length r) w (h r m))
+
+-- reading refuses by 1 to 8
+pub read-within : (L : Limits) (b : List ℕ) → readNumber L b ≤ 8
+unfolding readNumber tableTests
+read-within L b =
+    failed-within 8 1 _ _ (omega arith) (failed-within 8 2 _ _ (omega arith) (failed-within 8 3 _ _ (omega arith) (failed-within 8 4 _ _ (omega arith)
+    (failed-within 8 5 _ _ (omega arith) (failed-within 8 6 _ _ (omega arith) (failed-within 8 7 _ _ (omega arith) (failed-within 8 8 _ _ (omega arith) (none-failed 8))))))))

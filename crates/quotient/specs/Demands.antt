@@ -1,0 +1,38 @@
+-- What a written quotient is (demand 2): the quotient of source 000 under the map, without the input's dead returns. Assumes nothing.
+use mathlib.Core.Path.{_≡_}
+use mathlib.Core.Logic.{_↔_}
+use mathlib.Core.List.{List}
+use Prim.Native.Nat.{ℕ}
+use lib.ListN.{take}
+use Rattle.vpa.specs.Quotients.{quotient}
+use Rattle.table.specs.Limits.{Limits}
+use Rattle.table.specs.File.{tableOf}
+use Rattle.table.specs.Reading.{Readable}
+use Rattle.table.specs.Language.{count, automatonOf, SameWords}
+use Rattle.table.specs.Maps.{classOf, classes}
+use Rattle.quotient.specs.declared.Written.{Written}
+use Rattle.quotient.specs.declared.Written.the-variants.{Length, Refused}
+
+-- c holds the quotient of b under m: "one state a class, initial or accepting if a member is", and the images of internals, calls and live
+-- returns. "They are again a readable table"
+pub record IsQuotient (L : Limits) (b m c : List ℕ) : Type 0 where
+  pub readable : Readable L c
+  pub symbols : tableOf c .symbols ≡ tableOf b .symbols
+  pub states : count (tableOf c) ≡ classes m
+  pub initial : (P : ℕ) → automatonOf c .initial P ↔ quotient (automatonOf b) (classOf m) .initial P
+  pub accepting : (P : ℕ) → automatonOf c .accepting P ↔ quotient (automatonOf b) (classOf m) .accepting P
+  pub internals : (P a Q : ℕ) → automatonOf c .internal P a Q ↔ quotient (automatonOf b) (classOf m) .internal P a Q
+  pub calls : (P a Q : ℕ) → automatonOf c .call P a Q ↔ quotient (automatonOf b) (classOf m) .call P a Q
+  pub returns : (P a U Q : ℕ) → automatonOf c .return P a U Q ↔ quotient (automatonOf b) (classOf m) .return P a U Q
+
+-- where the quotient was written, of its bytes: "the output's first bytes, as many as that length"
+abbrev pub OnWriting : Written → (ℕ → Type 0) → Type 0
+OnWriting (Length n) P = P n
+OnWriting (Refused k) P = Unit {0}
+
+abbrev pub WritesQuotient : Limits → Written → List ℕ → List ℕ → List ℕ → Type 0
+WritesQuotient L r b m out = OnWriting r (λ n. IsQuotient L b m (take n out))
+
+-- demand 3: "for every word of any length, the written quotient accepts the word exactly when the input does"
+abbrev pub WritesSameWords : Written → List ℕ → List ℕ → Type 0
+WritesSameWords r b out = OnWriting r (λ n. SameWords b (take n out))
