@@ -105,3 +105,9 @@ said =
 pub marked : answers ≡ said
 unfolding answers said checked searching writing reducing any all keep gather upto mem same parts flat over firstFailed has hasBit onesOver onesIn wordsOf clausesWithin clausesIn wholeWithin whole distinct clauseFits isRight isUnset byUnset seen both scan undo lowestUnset decide act step run searchFrom longest word16 trailer distance version start records tableOf bytes16 fromReturns fromCalls fromInternals fromStates fromSymbols trailerOf bytesOf lengthFits distancesFit countsFit bytesFit isInitial isAccepting startFits recordFits recordsFit before ascendFrom ascend orderFits tableTests readNumber look targets joins classes numberedFrom numbered add byInternals byCalls live byReturns round rounds startWords topWords topCount topsOf liveReturns pairs variableOf opposite once tidy lookClauses past triangle transitivity premise matching moveClause moveClauses returnClause topStates returnClauses clauseList clauseWords clausesNumber clausesOf listedNumber listedValues joinedBy nextClass mapOf listFits searchNumber searched searchOf solutionNumber solutionValues looksAgree moveMatched movesMatched returnMatched returnsMatched mapTests checkNumber checkOf checkedNumber checkedValues image insert ascending images memberHas bitOf classByte quotientTable quotientBytes quotientNumber quotientOf writtenNumber writtenValues beforeSearch searchOfTable deliver afterSearch reduceOf reductionNumber reductionValues
 marked = refl
+
+-- the order of reduce's refusals: an unreadable table before a short map buffer, that before a short clause buffer, that before a spent budget,
+-- and that before a short output
+pub order : map (λ a. reductionNumber (a .answer)) (reduceOf standard [] 0 [] [] [] ∷ reduceOf standard T 0 [] [] [] ∷ reduceOf standard T 0 (replicate 71 0) (replicate 4 0) [] ∷ reduceOf standard T 0 (replicate 72 0) (replicate 4 0) [] ∷ reduceOf standard T 1 (replicate 72 0) (replicate 4 0) (replicate 30 0) ∷ reduceOf standard T 1 (replicate 72 0) (replicate 4 0) (replicate 31 0) ∷ []) ≡ 1 ∷ 22 ∷ 10 ∷ 13 ∷ 21 ∷ 0 ∷ []
+unfolding any all keep gather upto mem same parts flat over firstFailed has hasBit onesOver onesIn wordsOf clausesWithin clausesIn wholeWithin whole distinct clauseFits isRight isUnset byUnset seen both scan undo lowestUnset decide act step run searchFrom longest word16 trailer distance version start records tableOf bytes16 fromReturns fromCalls fromInternals fromStates fromSymbols trailerOf bytesOf lengthFits distancesFit countsFit bytesFit isInitial isAccepting startFits recordFits recordsFit before ascendFrom ascend orderFits tableTests readNumber look targets joins classes numberedFrom numbered add byInternals byCalls live byReturns round rounds startWords topWords topCount topsOf liveReturns pairs variableOf opposite once tidy lookClauses past triangle transitivity premise matching moveClause moveClauses returnClause topStates returnClauses clauseList clauseWords clausesNumber clausesOf listedNumber listedValues joinedBy nextClass mapOf listFits searchNumber searched searchOf solutionNumber solutionValues looksAgree moveMatched movesMatched returnMatched returnsMatched mapTests checkNumber checkOf checkedNumber checkedValues image insert ascending images memberHas bitOf classByte quotientTable quotientBytes quotientNumber quotientOf writtenNumber writtenValues beforeSearch searchOfTable deliver afterSearch reduceOf reductionNumber reductionValues
+order = refl
