@@ -1,0 +1,557 @@
+//! The seven operations once more, written from document 01 alone, for comparison. Plain and slow: sets, vectors and nested loops.
+
+use std::collections::{BTreeMap, BTreeSet, VecDeque};
+
+pub const STATES: usize = 24;
+pub const SYMBOLS: usize = 32;
+pub const BOTTOM: usize = 24;
+
+/// A table as the file holds it.
+#[derive(Clone, Debug, PartialEq, Eq)]
+pub struct Table {
+    pub symbols: Vec<u8>,
+    pub states: Vec<u8>,
+    pub internals: Vec<[u8; 3]>,
+    pub calls: Vec<[u8; 3]>,
+    pub returns: Vec<[u8; 4]>,
+}
+
+impl Table {
+    pub fn count(&self) -> usize {
+        self.states.len()
+    }
+
+    pub fn initial(&self, q: usize) -> bool {
+        self.states[q] & 1 != 0
+    }
+
+    pub fn accepting(&self, q: usize) -> bool {
+        self.states[q] & 2 != 0
+    }
+
+    /// The file: five sections one behind the other, then the distances and version 1.
+    pub fn bytes(&self) -> Vec<u8> {
+        let mut out = Vec::new();
+        let mut starts = Vec::new();
+        starts.push(out.len());
+        out.extend_from_slice(&self.symbols);
+        starts.push(out.len());
+        out.extend_from_slice(&self.states);
+        starts.push(out.len());
+        self.internals.iter().for_each(|r| out.extend_from_slice(r));
+        starts.push(out.len());
+        self.calls.iter().for_each(|r| out.extend_from_slice(r));
+        starts.push(out.len());
+        self.returns.iter().for_each(|r| out.extend_from_slice(r));
+        let trailer = out.len();
+        for s in starts {
+            out.extend_from_slice(&((trailer - s) as u16).to_le_bytes());
+        }
+        out.extend_from_slice(&1u16.to_le_bytes());
+        out
+    }
+}
+
+fn triples(bytes: &[u8]) -> Vec<[u8; 3]> {
+    bytes.chunks_exact(3).map(|c| [c[0], c[1], c[2]]).collect()
+}
+
+fn quads(bytes: &[u8]) -> Vec<[u8; 4]> {
+    bytes.chunks_exact(4).map(|c| [c[0], c[1], c[2], c[3]]).collect()
+}
+
+/// Reading: the table and the five starts, or the number of the first refusal that applies.
+pub fn parse(b: &[u8]) -> Result<(Table, [usize; 5]), u8> {
+    if b.len() < 12 || b.len() > 22_596 {
+        return Err(1);
+    }
+    let t = b.len() - 12;
+    let word = |i: usize| u16::from_le_bytes([b[t + 2 * i], b[t + 2 * i + 1]]) as usize;
+    if word(5) != 1 {
+        return Err(2);
+    }
+    let d: Vec<usize> = (0..5).map(word).collect();
+    if d[0] != t || d.windows(2).any(|w| w[1] > w[0]) {
+        return Err(3);
+    }
+    if (d[2] - d[3]) % 3 != 0 || (d[3] - d[4]) % 3 != 0 || d[4] % 4 != 0 {
+        return Err(3);
+    }
+    let at: Vec<usize> = d.iter().map(|x| t - x).collect();
+    let table = Table {
+        symbols: b[at[0]..at[1]].to_vec(),
+        states: b[at[1]..at[2]].to_vec(),
+        internals: triples(&b[at[2]..at[3]]),
+        calls: triples(&b[at[3]..at[4]]),
+        returns: quads(&b[at[4]..t]),
+    };
+    let n = table.count();
+    if table.symbols.len() > SYMBOLS || n == 0 || n > STATES {
+        return Err(4);
+    }
+    if table.internals.len() > 1024 || table.calls.len() > 1024 || table.returns.len() > 4096 {
+        return Err(4);
+    }
+    if table.symbols.iter().any(|&x| x > 2) || table.states.iter().any(|&x| x > 3) {
+        return Err(5);
+    }
+    if !(0..n).any(|q| table.initial(q)) {
+        return Err(6);
+    }
+    let kind = |a: u8, k: u8| table.symbols.get(a as usize) == Some(&k);
+    let state = |q: u8| (q as usize) < n;
+    let fine = table.internals.iter().all(|r| state(r[0]) && kind(r[1], 0) && state(r[2]))
+        && table.calls.iter().all(|r| state(r[0]) && kind(r[1], 1) && state(r[2]))
+        && table.returns.iter().all(|r| state(r[0]) && kind(r[1], 2) && state(r[2]) && state(r[3]));
+    if !fine {
+        return Err(7);
+    }
+    let rising = table.internals.windows(2).all(|w| w[0] < w[1])
+        && table.calls.windows(2).all(|w| w[0] < w[1])
+        && table.returns.windows(2).all(|w| w[0] < w[1]);
+    if !rising {
+        return Err(8);
+    }
+    Ok((table, [at[0], at[1], at[2], at[3], at[4]]))
+}
+
+pub fn read(b: &[u8]) -> Result<[usize; 5], u8> {
+    parse(b).map(|x| x.1)
+}
+
+/// The reachable tops of each state, by a worklist over pairs of state and top.
+pub fn top_sets(t: &Table) -> Vec<BTreeSet<usize>> {
+    let n = t.count();
+    let mut tops = vec![BTreeSet::new(); n];
+    let mut work: VecDeque<(usize, usize)> = VecDeque::new();
+    for q in 0..n {
+        if t.initial(q) {
+            work.push_back((q, BOTTOM));
+        }
+    }
+    while let Some((q, x)) = work.pop_front() {
+        if !tops[q].insert(x) {
+            continue;
+        }
+        for r in &t.internals {
+            if r[0] as usize == q {
+                work.push_back((r[2] as usize, x));
+            }
+        }
+        for r in &t.calls {
+            if r[0] as usize == q {
+                work.push_back((r[2] as usize, q));
+            }
+        }
+        for r in &t.returns {
+            let (p, s, e) = (r[0] as usize, r[2] as usize, r[3] as usize);
+            // q just gained the top x: either x is what this return pops, or q is the state that is uncovered
+            if p == q && s == x {
+                for y in tops[s].clone() {
+                    work.push_back((e, y));
+                }
+            }
+            if s == q && tops[p].contains(&s) {
+                work.push_back((e, x));
+            }
+        }
+    }
+    tops
+}
+
+pub fn tops(b: &[u8]) -> Result<([u32; 24], u32), u8> {
+    let (t, _) = parse(b)?;
+    let mut words = [0u32; 24];
+    let mut found = 0;
+    for (q, set) in top_sets(&t).iter().enumerate() {
+        for &x in set {
+            words[q] |= 1 << x;
+            found += 1;
+        }
+    }
+    Ok((words, found))
+}
+
+/// The variable of two different states.
+fn variable(p: usize, q: usize) -> u16 {
+    let (p, q) = if p < q { (p, q) } else { (q, p) };
+    (q * (q - 1) / 2 + p) as u16
+}
+
+fn yes(p: usize, q: usize) -> u16 {
+    2 * variable(p, q)
+}
+
+fn no(p: usize, q: usize) -> u16 {
+    2 * variable(p, q) + 1
+}
+
+/// Repeated literals once, clauses with a variable both ways not at all.
+fn push(list: &mut Vec<Vec<u16>>, literals: Vec<u16>) {
+    let mut clause: Vec<u16> = Vec::new();
+    for l in literals {
+        if clause.contains(&(l ^ 1)) {
+            return;
+        }
+        if !clause.contains(&l) {
+            clause.push(l);
+        }
+    }
+    list.push(clause);
+}
+
+/// The list of a table, group by group.
+pub fn clause_list(t: &Table) -> Vec<Vec<u16>> {
+    let n = t.count();
+    let tops = top_sets(t);
+    let mut list = Vec::new();
+    for q in 0..n {
+        for p in 0..q {
+            if t.accepting(p) != t.accepting(q) {
+                list.push(vec![no(p, q)]);
+            }
+        }
+    }
+    for p in 0..n {
+        for q in p + 1..n {
+            for s in q + 1..n {
+                list.push(vec![no(p, q), no(q, s), yes(p, s)]);
+                list.push(vec![no(p, q), no(p, s), yes(q, s)]);
+                list.push(vec![no(p, s), no(q, s), yes(p, q)]);
+            }
+        }
+    }
+    for records in [&t.internals, &t.calls] {
+        let mut moves: BTreeMap<(usize, u8), Vec<usize>> = BTreeMap::new();
+        for r in records {
+            moves.entry((r[0] as usize, r[1])).or_default().push(r[2] as usize);
+        }
+        for r in records {
+            let (p, a, e) = (r[0] as usize, r[1], r[2] as usize);
+            for q in (0..n).filter(|&q| q != p) {
+                let targets = moves.get(&(q, a)).cloned().unwrap_or_default();
+                if targets.contains(&e) {
+                    continue;
+                }
+                let mut literals = vec![no(p, q)];
+                literals.extend(targets.iter().map(|&x| yes(e, x)));
+                push(&mut list, literals);
+            }
+        }
+    }
+    let mut pops: BTreeMap<(usize, u8, usize), Vec<usize>> = BTreeMap::new();
+    for r in &t.returns {
+        pops.entry((r[0] as usize, r[1], r[2] as usize)).or_default().push(r[3] as usize);
+    }
+    for r in &t.returns {
+        let (p, a, s, e) = (r[0] as usize, r[1], r[2] as usize, r[3] as usize);
+        if !tops[p].contains(&s) {
+            continue;
+        }
+        for q in 0..n {
+            for &u in tops[q].iter().filter(|&&u| u != BOTTOM) {
+                if q == p && u == s {
+                    continue;
+                }
+                let targets = pops.get(&(q, a, u)).cloned().unwrap_or_default();
+                if targets.contains(&e) {
+                    continue;
+                }
+                let mut literals = Vec::new();
+                if p != q {
+                    literals.push(no(p, q));
+                }
+                if s != u {
+                    literals.push(no(s, u));
+                }
+                literals.extend(targets.iter().map(|&x| yes(e, x)));
+                push(&mut list, literals);
+            }
+        }
+    }
+    list
+}
+
+pub fn words_of(list: &[Vec<u16>]) -> Vec<u16> {
+    let mut words = Vec::new();
+    for c in list {
+        words.push(c.len() as u16);
+        words.extend_from_slice(c);
+    }
+    words
+}
+
+pub fn clauses(b: &[u8], list: &mut [u16]) -> Result<(usize, usize), u8> {
+    let (t, _) = parse(b)?;
+    let all = clause_list(&t);
+    let words = words_of(&all);
+    if words.len() > list.len() {
+        return Err(10);
+    }
+    list[..words.len()].copy_from_slice(&words);
+    Ok((all.len(), words.len()))
+}
+
+/// The clauses that words hold, or nothing where one goes past the end.
+fn clauses_in(words: &[u16]) -> Option<Vec<Vec<u16>>> {
+    let mut list = Vec::new();
+    let mut at = 0;
+    while at < words.len() {
+        let k = words[at] as usize;
+        at += 1;
+        if words.len() - at < k {
+            return None;
+        }
+        list.push(words[at..at + k].to_vec());
+        at += k;
+    }
+    Some(list)
+}
+
+pub enum Outcome {
+    Solved(Vec<bool>, u64),
+    None,
+    Spent,
+}
+
+/// The search, one step of (a) to (e) after the other, with a copy of the values at each guess.
+pub fn run_search(list: &[Vec<u16>], variables: usize, budget: u64) -> Outcome {
+    let mut values: Vec<Option<bool>> = vec![None; variables];
+    let mut guesses: Vec<(usize, Vec<Option<bool>>)> = Vec::new();
+    let mut made = 0u64;
+    loop {
+        let value = |l: u16| values[(l / 2) as usize].map(|x| x == (l % 2 == 0));
+        let broken = list.iter().any(|c| c.iter().all(|&l| value(l) == Some(false)));
+        if broken {
+            match guesses.pop() {
+                None => return Outcome::None,
+                Some((x, before)) => {
+                    values = before;
+                    values[x] = Some(false);
+                }
+            }
+            continue;
+        }
+        let forced = list.iter().find_map(|c| {
+            if c.iter().any(|&l| value(l) == Some(true)) {
+                return None;
+            }
+            let open: Vec<u16> = c.iter().copied().filter(|&l| value(l).is_none()).collect();
+            if open.len() == 1 { Some(open[0]) } else { None }
+        });
+        if let Some(l) = forced {
+            values[(l / 2) as usize] = Some(l % 2 == 0);
+            continue;
+        }
+        match values.iter().position(|v| v.is_none()) {
+            None => return Outcome::Solved(values.iter().map(|v| v.unwrap()).collect(), made),
+            Some(x) => {
+                if made == budget {
+                    return Outcome::Spent;
+                }
+                guesses.push((x, values.clone()));
+                values[x] = Some(true);
+                made += 1;
+            }
+        }
+    }
+}
+
+pub fn search(list: &[u16], variables: usize, budget: u64, answer: &mut [u8]) -> Result<u64, u8> {
+    if variables > 276 {
+        return Err(11);
+    }
+    let all = clauses_in(list).ok_or(11)?;
+    for c in &all {
+        let mut seen = BTreeSet::new();
+        for l in c {
+            let v = (l / 2) as usize;
+            if v >= variables || !seen.insert(v) {
+                return Err(11);
+            }
+        }
+    }
+    if answer.len() < variables {
+        return Err(14);
+    }
+    match run_search(&all, variables, budget) {
+        Outcome::None => Err(12),
+        Outcome::Spent => Err(13),
+        Outcome::Solved(values, made) => {
+            for (x, v) in values.iter().enumerate() {
+                answer[x] = *v as u8;
+            }
+            Ok(made)
+        }
+    }
+}
+
+/// The map of an assignment: each state gets the class of its first joined state, or a new one.
+pub fn map_of(values: &[bool], n: usize) -> Vec<u8> {
+    let mut map: Vec<u8> = Vec::new();
+    let mut next = 0;
+    for q in 0..n {
+        match (0..q).find(|&p| values[variable(p, q) as usize]) {
+            Some(p) => map.push(map[p]),
+            None => {
+                map.push(next);
+                next += 1;
+            }
+        }
+    }
+    map
+}
+
+pub fn proper(map: &[u8]) -> bool {
+    let mut next = 0u16;
+    for &c in map {
+        if c as u16 > next {
+            return false;
+        }
+        next = next.max(c as u16 + 1);
+    }
+    true
+}
+
+/// Definition 1, condition by condition over pairs of states: the number of the first broken one.
+pub fn broken(t: &Table, map: &[u8]) -> Option<u8> {
+    let n = t.count();
+    let tops = top_sets(t);
+    let joined = |p: usize, q: usize| map[p] == map[q];
+    let pairs: Vec<(usize, usize)> = (0..n).flat_map(|p| (0..n).map(move |q| (p, q))).filter(|&(p, q)| joined(p, q)).collect();
+    if pairs.iter().any(|&(p, q)| t.accepting(p) != t.accepting(q)) {
+        return Some(17);
+    }
+    for (number, records) in [(18, &t.internals), (19, &t.calls)] {
+        for &(p, q) in &pairs {
+            for r in records.iter().filter(|r| r[0] as usize == p) {
+                let matched = records.iter().any(|s| s[0] as usize == q && s[1] == r[1] && joined(r[2] as usize, s[2] as usize));
+                if !matched {
+                    return Some(number);
+                }
+            }
+        }
+    }
+    for &(p, q) in &pairs {
+        for &(s, u) in &pairs {
+            if !tops[p].contains(&s) || !tops[q].contains(&u) {
+                continue;
+            }
+            for r in t.returns.iter().filter(|r| r[0] as usize == p && r[2] as usize == s) {
+                let matched = t
+                    .returns
+                    .iter()
+                    .any(|x| x[0] as usize == q && x[1] == r[1] && x[2] as usize == u && joined(r[3] as usize, x[3] as usize));
+                if !matched {
+                    return Some(20);
+                }
+            }
+        }
+    }
+    None
+}
+
+pub fn check(b: &[u8], map: &[u8]) -> Result<usize, u8> {
+    let (t, _) = parse(b)?;
+    if map.len() != t.count() {
+        return Err(15);
+    }
+    if !proper(map) {
+        return Err(16);
+    }
+    match broken(&t, map) {
+        Some(k) => Err(k),
+        None => Ok(*map.iter().max().unwrap() as usize + 1),
+    }
+}
+
+/// The quotient under an accepted map.
+pub fn quotient_table(t: &Table, map: &[u8]) -> Table {
+    let classes = *map.iter().max().unwrap() as usize + 1;
+    let tops = top_sets(t);
+    let m = |q: u8| map[q as usize];
+    let mut states = vec![0u8; classes];
+    for q in 0..t.count() {
+        states[map[q] as usize] |= t.states[q];
+    }
+    let internals: BTreeSet<[u8; 3]> = t.internals.iter().map(|r| [m(r[0]), r[1], m(r[2])]).collect();
+    let calls: BTreeSet<[u8; 3]> = t.calls.iter().map(|r| [m(r[0]), r[1], m(r[2])]).collect();
+    let returns: BTreeSet<[u8; 4]> = t
+        .returns
+        .iter()
+        .filter(|r| tops[r[0] as usize].contains(&(r[2] as usize)))
+        .map(|r| [m(r[0]), r[1], m(r[2]), m(r[3])])
+        .collect();
+    Table {
+        symbols: t.symbols.clone(),
+        states,
+        internals: internals.into_iter().collect(),
+        calls: calls.into_iter().collect(),
+        returns: returns.into_iter().collect(),
+    }
+}
+
+pub fn quotient(b: &[u8], map: &[u8], out: &mut [u8]) -> Result<usize, u8> {
+    check(b, map)?;
+    let (t, _) = parse(b)?;
+    let bytes = quotient_table(&t, map).bytes();
+    if bytes.len() > out.len() {
+        return Err(21);
+    }
+    out[..bytes.len()].copy_from_slice(&bytes);
+    Ok(bytes.len())
+}
+
+/// Class count, guesses, clause words and quotient length.
+pub fn reduce(b: &[u8], budget: u64, list: &mut [u16], map: &mut [u8], out: &mut [u8]) -> Result<(usize, u64, usize, usize), u8> {
+    let (t, _) = parse(b)?;
+    let n = t.count();
+    if map.len() < n {
+        return Err(22);
+    }
+    let all = clause_list(&t);
+    let words = words_of(&all);
+    if words.len() > list.len() {
+        return Err(10);
+    }
+    list[..words.len()].copy_from_slice(&words);
+    let (values, made) = match run_search(&all, n * (n - 1) / 2, budget) {
+        Outcome::Spent => return Err(13),
+        Outcome::None => unreachable!("the list of a table is satisfiable"),
+        Outcome::Solved(values, made) => (values, made),
+    };
+    let found = map_of(&values, n);
+    let classes = check(b, &found).expect("the check accepts the map");
+    let bytes = quotient_table(&t, &found).bytes();
+    if bytes.len() > out.len() {
+        return Err(21);
+    }
+    map[..n].copy_from_slice(&found);
+    out[..bytes.len()].copy_from_slice(&bytes);
+    Ok((classes, made, words.len(), bytes.len()))
+}
+
+/// Whether a run over the whole word ends in an accepting state: all configurations at once.
+pub fn accepts(t: &Table, word: &[u8]) -> bool {
+    let mut now: BTreeSet<(u8, Vec<u8>)> = (0..t.count()).filter(|&q| t.initial(q)).map(|q| (q as u8, Vec::new())).collect();
+    for &a in word {
+        let mut next = BTreeSet::new();
+        for (q, stack) in &now {
+            for r in t.internals.iter().filter(|r| r[0] == *q && r[1] == a) {
+                next.insert((r[2], stack.clone()));
+            }
+            for r in t.calls.iter().filter(|r| r[0] == *q && r[1] == a) {
+                let mut s = stack.clone();
+                s.push(*q);
+                next.insert((r[2], s));
+            }
+            for r in t.returns.iter().filter(|r| r[0] == *q && r[1] == a && stack.last() == Some(&r[2])) {
+                let mut s = stack.clone();
+                s.pop();
+                next.insert((r[3], s));
+            }
+        }
+        now = next;
+    }
+    now.iter().any(|(q, _)| t.accepting(*q as usize))
+}
