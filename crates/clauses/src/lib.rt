@@ -1,4 +1,7 @@
 // The clauses of a table.
+mod emit;
+mod literals;
+mod variables;
 
 // What writing the clause list answers.
 pub enum Listed {
