@@ -2,28 +2,23 @@
 use mathlib.Core.Path.{_≡_, refl, sym, ap, _∙_, subst}
 use mathlib.Core.Logic.{_≢_, _↔_}
 use mathlib.Core.Bool.{Bool, true, false, _&&_, true≢false}
-use mathlib.Core.List.{List, [], _∷_, _++_, map, List·Memᴰ, List·Memᴰ·head, List·Memᴰ·tail, Memᴰ·map, Memᴰ·of-map, Memᴰ·cast}
+use mathlib.Core.List.{List, [], _∷_, _++_, map, List·Memᴰ, Memᴰ·map, Memᴰ·of-map, Memᴰ·cast}
 use Prim.Native.Nat.{ℕ, zero, suc, _+_, _/_, _%_, _≤_, _<_}
 use native.Mathlib.Omega.{arith}
 use native.Mathlib.Decide.{ℕ-discrete, decLt}
 use lib.ListN.{length, getD, take, List·getD-eq-default}
 use lib.Seq.{take-suc, take-all, take-append-seam, getD-append-seam}
-use lib.Dec.{eqb, ltb, leb}
-use borrow.Author.Tests.{eqb-true, ltb-true, leb-true}
-use Rattle.lists.specs.Lists.{any, all, keep, same, firstFailed}
-use Rattle.lists.proofs.Members.{and-true, all-true, any-true, keep-mem, keep-of, same-true, same-refl}
-use Rattle.lists.proofs.Refusals.{passed}
+use lib.Dec.{eqb, ltb}
+use borrow.Author.Tests.{eqb-true, ltb-true}
+use Rattle.lists.specs.Lists.{keep, same}
+use Rattle.lists.proofs.Members.{and-true, all-true, keep-mem, keep-of, same-true, same-refl}
 use Rattle.vpa.specs.Automata.{Lawful}
-use Rattle.table.specs.Limits.{Limits, moveLimit, returnLimit}
+use Rattle.table.specs.Limits.{Limits}
 use Rattle.table.specs.File.{Table}
-use Rattle.table.specs.Reading.{countsFit, bytesFit, startFits, recordFits, recordsFit, orderFits, tableTests, WellFormed}
+use Rattle.table.specs.Reading.{recordFits, WellFormed}
 use Rattle.table.specs.Language.{count, byteOf, look, targets, automaton}
-
--- an element of a list, by its place
-pub getD-mem : {A : Type 0} (xs : List A) (i : ℕ) (d : A) → i < length xs → List·Memᴰ (getD xs i d) xs
-getD-mem [] i d h = absurd (omega arith)
-getD-mem (x ∷ xs) zero d h = List·Memᴰ·head refl
-getD-mem (x ∷ xs) (suc i) d h = List·Memᴰ·tail (getD-mem xs i d (omega arith))
+use Rattle.table.proofs.Passed.{formed-wide, formed-tested}
+use Rattle.table.proofs.Order.{getD-mem}
 
 -- ---- records
 
@@ -49,80 +44,33 @@ record-symbol t kind (p ∷ a ∷ qs) e =
     let k = and-true (ltb a (length (t .symbols))) (eqb (getD (t .symbols) a 0) kind) (and-true (ltb p (count t)) _ (and-true (ltb p (count t) && _) _ e .0) .1) in
     (ltb-true a (length (t .symbols)) (k .0), eqb-true _ _ (k .1))
 
-fit : (t : Table) (kind w : ℕ) (rs : List (List ℕ)) → all (λ r. eqb (length r) w) rs ≡ true → all (recordFits t kind) rs ≡ true → Fit t kind w rs
+fit : (t : Table) (kind w : ℕ) (rs : List (List ℕ)) → ((r : List ℕ) → List·Memᴰ r rs → length r ≡ w) → ((r : List ℕ) → List·Memᴰ r rs → recordFits t kind r ≡ true) → Fit t kind w rs
 fit t kind w rs wide fits =
-    let long : (r : List ℕ) → List·Memᴰ r rs → length r ≡ w = λ r m. eqb-true (length r) w (all-true (λ s. eqb (length s) w) rs wide r m) in
     record {
-      wide = long;
-      states = λ r m i n h. record-states t kind r (all-true (recordFits t kind) rs fits r m) i n (subst (λ (k : ℕ). i < k) (sym (long r m)) h);
-      symbol = λ r m. record-symbol t kind r (all-true (recordFits t kind) rs fits r m);
+      wide = wide;
+      states = λ r m i n h. record-states t kind r (fits r m) i n (subst (λ (k : ℕ). i < k) (sym (wide r m)) h);
+      symbol = λ r m. record-symbol t kind r (fits r m);
     }
 
--- what the tests 4 to 8 say
-pub record Tested (L : Limits) (t : Table) : Type 0 where
-  pub counts : countsFit L t ≡ true
-  pub bytes : bytesFit t ≡ true
-  pub starts : startFits t ≡ true
-  pub records : recordsFit t ≡ true
-  pub order : orderFits t ≡ true
-
-pub tested : {L : Limits} {t : Table} → WellFormed L t → Tested L t
-unfolding tableTests
-tested wf =
-    let a = passed 4 _ _ (omega arith) (wf .fits) in
-    let b = passed 5 _ _ (omega arith) (a .1) in
-    let c = passed 6 _ _ (omega arith) (b .1) in
-    let d = passed 7 _ _ (omega arith) (c .1) in
-    let e = passed 8 _ _ (omega arith) (d .1) in
-    record { counts = a .0; bytes = b .0; starts = c .0; records = d .0; order = e .0 }
-
-three-true : (a b c : Bool) → (a && b && c) ≡ true → (a ≡ true) × (b ≡ true) × (c ≡ true)
-three-true a b c e = let p = and-true (a && b) c e in let q = and-true a b (p .0) in (q .0, q .1, p .1)
-
-six-true : (a b c d e f : Bool) → (a && b && c && d && e && f) ≡ true → (a ≡ true) × (b ≡ true) × (c ≡ true) × (d ≡ true) × (e ≡ true) × (f ≡ true)
-six-true a b c d e f h =
-    let p = and-true (a && b && c && d && e) f h in
-    let q = and-true (a && b && c && d) e (p .0) in
-    let r = and-true (a && b && c) d (q .0) in
-    let s = three-true a b c (r .0) in
-    (s .0, s .1, s .2, r .1, q .1, p .1)
-
 module _ {L : Limits} {t : Table} (wf : WellFormed L t) where
-  records-tested : (all (recordFits t 0) (t .internals) ≡ true) × (all (recordFits t 1) (t .calls) ≡ true) × (all (recordFits t 2) (t .returns) ≡ true)
-  unfolding recordsFit
-  records-tested = three-true (all (recordFits t 0) (t .internals)) (all (recordFits t 1) (t .calls)) (all (recordFits t 2) (t .returns)) (tested wf .records)
-
   pub internals-fit : Fit t 0 3 (t .internals)
-  internals-fit = fit t 0 3 (t .internals) (wf .internals-wide) (records-tested .0)
+  internals-fit = fit t 0 3 (t .internals) (formed-wide wf .internals) (formed-tested wf .internals-fit)
 
   pub calls-fit : Fit t 1 3 (t .calls)
-  calls-fit = fit t 1 3 (t .calls) (wf .calls-wide) (records-tested .1)
+  calls-fit = fit t 1 3 (t .calls) (formed-wide wf .calls) (formed-tested wf .calls-fit)
 
   pub returns-fit : Fit t 2 4 (t .returns)
-  returns-fit = fit t 2 4 (t .returns) (wf .returns-wide) (records-tested .2)
+  returns-fit = fit t 2 4 (t .returns) (formed-wide wf .returns) (formed-tested wf .returns-fit)
 
-  -- the counts are within their limits
-  pub record Counts : Type 0 where
-    pub symbols : length (t .symbols) ≤ L .symbols
-    pub one-state : 1 ≤ count t
-    pub states : count t ≤ L .states
-    pub internals : length (t .internals) ≤ moveLimit
-    pub calls : length (t .calls) ≤ moveLimit
-    pub returns : length (t .returns) ≤ returnLimit
-
-  pub counts : Counts
-  unfolding countsFit
-  counts =
-      let e = six-true (leb (length (t .symbols)) (L .symbols)) (leb 1 (count t)) (leb (count t) (L .states)) (leb (length (t .internals)) moveLimit) (leb (length (t .calls)) moveLimit) (leb (length (t .returns)) returnLimit) (tested wf .counts) in
-      record { symbols = leb-true _ _ (e .0); one-state = leb-true _ _ (e .1); states = leb-true _ _ (e .2); internals = leb-true _ _ (e .3); calls = leb-true _ _ (e .4); returns = leb-true _ _ (e .5) }
+  pub few-states : count t ≤ L .states
+  few-states = formed-tested wf .states-few
 
   -- a state's byte is at most 3
   pub byte-small : (q : ℕ) → byteOf t q ≤ 3
-  unfolding bytesFit
   byte-small q = go (decLt q (count t))
     where
       go : Dec (q < count t) → byteOf t q ≤ 3
-      go (yes l) = leb-true (byteOf t q) 3 (all-true (λ x. leb x 3) (t .states) (and-true (all (λ x. leb x 2) (t .symbols)) (all (λ x. leb x 3) (t .states)) (tested wf .bytes) .1) (byteOf t q) (getD-mem (t .states) q 0 l))
+      go (yes l) = formed-tested wf .state-bytes (byteOf t q) (getD-mem (t .states) q 0 l)
       go (no l) = omega (arith, List·getD-eq-default (t .states) 0 {n = q} (omega arith))
 
   -- what joined states must agree on is whether they accept

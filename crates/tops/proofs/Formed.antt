@@ -12,7 +12,7 @@ use Rattle.table.specs.Limits.{Limits}
 use Rattle.table.specs.File.{Table}
 use Rattle.table.specs.Reading.{WellFormed}
 use Rattle.table.specs.Language.{count, automaton}
-use Rattle.table.proofs.Facts.{internals-fit, calls-fit, returns-fit, counts}
+use Rattle.table.proofs.Facts.{internals-fit, calls-fit, returns-fit, few-states}
 use Rattle.tops.specs.Tops.{topWords}
 use Rattle.tops.proofs.Bounded.{Bounded}
 use Rattle.tops.proofs.Exact.{top-state-has, tops?}
@@ -20,7 +20,7 @@ use Rattle.tops.proofs.Exact.{top-state-has, tops?}
 module _ {L : Limits} {t : Table} (wf : WellFormed L t) where
   pub bounded : Bounded L t
   bounded = record {
-    states = counts wf .states;
+    states = few-states wf;
     internals = λ r m. record { wide = internals-fit wf .wide r m; from = internals-fit wf .states r m 0 (omega arith) (omega arith); to = internals-fit wf .states r m 2 (omega arith) (omega arith) };
     calls = λ r m. record { wide = calls-fit wf .wide r m; from = calls-fit wf .states r m 0 (omega arith) (omega arith); to = calls-fit wf .states r m 2 (omega arith) (omega arith) };
     returns = λ r m. record {
@@ -33,7 +33,7 @@ module _ {L : Limits} {t : Table} (wf : WellFormed L t) where
 
   -- the test and the relation
   pub told : (q s : ℕ) → s < count t → (has (topWords L t) q s ≡ true) ↔ Tops (automaton t) q (some s)
-  told q s l = top-state-has bounded q (omega (arith, counts wf .states))
+  told q s l = top-state-has bounded q (omega (arith, few-states wf))
 
   pub reachable? : (q s : ℕ) → Dec (Tops (automaton t) q (some s))
   reachable? q s = tops? bounded q (some s)
