@@ -9,3 +9,5 @@ pub mod Assignments
 pub mod Theorems
 pub mod Collecting
 pub mod Emitting
+pub mod Stepping
+pub mod Pairwise

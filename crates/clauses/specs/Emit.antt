@@ -5,12 +5,15 @@ use mathlib.Core.Bool.{Bool, true, false, _&&_}
 use mathlib.Core.List.{List, [], _∷_, _++_}
 use Prim.Native.Nat.{ℕ, _+_, _≤_}
 use lib.ListN.{length, take, drop}
-use lib.Dec.{ltb, leb}
+use lib.Dec.{ltb, leb, eqb}
 use Rattle.lists.specs.Lists.{mem, over}
+use Rattle.table.specs.File.{Table}
+use Rattle.table.specs.Language.{byteOf, look}
 use Rattle.clauses.specs.declared.variables.Found.{Found}
 use Rattle.clauses.specs.declared.literals.Literals.{Literals}
 use Rattle.clauses.specs.declared.emit.Tally.{Tally}
 use Rattle.clauses.specs.Pairs.{Pair}
+use Rattle.clauses.specs.Clauses.{apart}
 
 abbrev pub pairFound : Found → Pair
 pairFound f = record { low = f .low; high = f .high }
@@ -63,3 +66,13 @@ emitOne c s = elim (ltb (length (s .list)) (s .tally .words)) [
 unfoldable pub emit : List (List ℕ) → State → State
 emit [] s = s
 emit (c ∷ cs) s = emit cs (emitOne c s)
+
+-- ---- what the groups are made of
+
+-- a table of which only the states are looked at
+abbrev pub statesOnly : List ℕ → Table
+statesOnly states = record { symbols = []; states = states; internals = []; calls = []; returns = [] }
+
+-- group 1, for p below q
+unfoldable pub lookClause : Table → ℕ → ℕ → List (List ℕ)
+lookClause t p q = elim (eqb (look (byteOf t p)) (look (byteOf t q))) [ true ↦ [] | false ↦ (apart p q ∷ []) ∷ [] ]

@@ -1,6 +1,7 @@
 // The clauses of a table.
 mod emit;
 mod literals;
+mod states;
 mod variables;
 
 // What writing the clause list answers.

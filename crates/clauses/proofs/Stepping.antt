@@ -1,0 +1,99 @@
+-- Loops over the states, over the variables and over the records: the clauses of each in turn. Assumes nothing.
+use mathlib.Core.Path.{_≡_, refl, sym, ap, _∙_}
+use mathlib.Core.Bool.{Bool, true, false}
+use mathlib.Core.List.{List, [], _∷_, _++_, append-nil, append-assoc, List·Memᴰ, List·Memᴰ·head, List·Memᴰ·tail}
+use Prim.Native.Nat.{ℕ, zero, suc, _+_, _≤_, _<_}
+use native.Mathlib.Numerals.{add-one}
+use native.Mathlib.Omega.{arith}
+use native.Mathlib.Nat.{add-zero, add-suc}
+use native.Mathlib.Decide.{decLt}
+use lib.ListN.{length, getD, drop, drop-of-length-le}
+use lib.Seq.{drop-cons, drop-append-le, drop-length}
+use lib.Dec.{ltb}
+use borrow.Author.Tests.{lt-ltb, le-ltb}
+use Rattle.lists.specs.Lists.{keep, gather, upto}
+use Rattle.lists.proofs.Members.{upto-mem, length-upto, getD-upto}
+use Rattle.lists.proofs.Counts.{keep-append, gather-append}
+use Rattle.clauses.specs.Pairs.{pairs, variableOf, pairOf}
+use Rattle.clauses.specs.Clauses.{past}
+use Rattle.clauses.specs.Emit.{State, Ordered, emit}
+use Rattle.clauses.proofs.Pairs.{pairs-suc, variable-lt, pair-variable}
+use Rattle.clauses.proofs.Emitting.{Coming, coming, come-on, come-as, come}
+
+-- ---- the numbers from q on
+
+pub from-here : (n q : ℕ) → q < n → drop q (upto n) ≡ q ∷ drop (q + 1) (upto n)
+from-here n q h = drop-cons (upto n) q 0 (omega (arith, length-upto n)) ∙ (λ i. getD-upto n q 0 h i ∷ drop (sym (add-one q) i) (upto n))
+
+pub from-end : (n q : ℕ) → n ≤ q → drop q (upto n) ≡ []
+from-end n q h = drop-of-length-le (upto n) {i = q} (omega (arith, length-upto n))
+
+-- those past p
+pub past-from : (n p : ℕ) → past n p ≡ drop (p + 1) (upto n)
+unfolding past keep upto
+past-from zero p = sym (from-end 0 (p + 1) (omega arith))
+past-from (suc n) p = keep-append (ltb p) (upto n) (n ∷ []) ∙ go (decLt p n) (past-from n p)
+  where
+    go : Dec (p < n) → keep (ltb p) (upto n) ≡ drop (p + 1) (upto n) → keep (ltb p) (upto n) ++ keep (ltb p) (n ∷ []) ≡ drop (p + 1) (upto n ++ (n ∷ []))
+    go (yes l) e = rw (lt-ltb p n l, keep) (ap (λ xs. xs ++ (n ∷ [])) e ∙ sym (drop-append-le (p + 1) (upto n) (n ∷ []) (omega (arith, length-upto n))))
+    go (no l) e =
+        let k : n ≤ p = omega arith in
+        rw (le-ltb p n k, keep) (append-nil _ ∙ e ∙ from-end n (p + 1) (omega arith) ∙ sym (from-end (suc n) (p + 1) (omega arith)))
+
+-- ---- a loop over the numbers below n
+
+module _ (f : ℕ → List (List ℕ)) (n : ℕ) where
+  pub record Over (all : List (List ℕ)) (start : State) (q : ℕ) (now : State) : Type 0 where
+    pub inside : q ≤ n
+    pub coming : Coming all start (gather f (drop q (upto n))) now
+
+  pub over-all : (start : State) → Ordered (start .tally) → Over (gather f (upto n)) start 0 start
+  over-all start h = record { inside = omega arith; coming = coming _ start h }
+
+  pub over-past : (p : ℕ) (start : State) → p < n → Ordered (start .tally) → Over (gather f (past n p)) start (p + 1) start
+  over-past p start l h = record { inside = omega arith; coming = come-as (ap (gather f) (past-from n p)) (coming _ start h) }
+
+module _ {f : ℕ → List (List ℕ)} {n : ℕ} {all : List (List ℕ)} {start : State} {q : ℕ} {now : State} (w : Over f n all start q now) where
+  pub over-on : {next : State} → q < n → next ≡ emit (f q) now → Over f n all start (q + 1) next
+  unfolding gather
+  over-on h e = record { inside = omega arith; coming = come-on (f q) _ (come-as (ap (gather f) (from-here n q h)) (w .coming)) e }
+
+  pub over-done : n ≤ q → now ≡ emit all start
+  unfolding gather
+  over-done h = come (come-as (ap (gather f) (from-end n q h)) (w .coming))
+
+-- ---- the pairs in the order of their variables
+
+gather-add : (g : ℕ → List (List ℕ)) (a b : ℕ) → gather g (upto (a + b)) ≡ gather g (upto a) ++ gather (λ p. g (a + p)) (upto b)
+unfolding upto gather
+gather-add g a zero = rw add-zero (sym (append-nil (gather g (upto a))))
+gather-add g a (suc b) =
+    let h : ℕ → List (List ℕ) = λ p. g (a + p) in
+    rw add-suc
+    (gather-append g (upto (a + b)) ((a + b) ∷ [])
+    ∙ ap (λ cs. cs ++ (g (a + b) ++ [])) (gather-add g a b)
+    ∙ append-assoc (gather g (upto a)) (gather h (upto b)) (g (a + b) ++ [])
+    ∙ ap (λ cs. gather g (upto a) ++ cs) (sym (gather-append h (upto b) (b ∷ []))))
+
+pub gather-same : {A : Type 0} (g h : A → List (List ℕ)) (xs : List A) → ((x : A) → List·Memᴰ x xs → g x ≡ h x) → gather g xs ≡ gather h xs
+unfolding gather
+gather-same g h [] e = refl
+gather-same g h (x ∷ xs) e = λ i. e x (List·Memᴰ·head refl) i ++ gather-same g h xs (λ y m. e y (List·Memᴰ·tail m)) i
+
+pub gather-pairs : (f : ℕ → ℕ → List (List ℕ)) (n : ℕ) → gather (λ v. f (pairOf v .low) (pairOf v .high)) (upto (pairs n)) ≡ gather (λ q. gather (λ p. f p q) (upto q)) (upto n)
+unfolding gather upto pairs
+gather-pairs f zero = refl
+gather-pairs f (suc n) =
+    ap (λ k. gather g (upto k)) (pairs-suc n)
+    ∙ gather-add g (pairs n) n
+    ∙ (λ i. gather-pairs f n i ++ last i)
+    ∙ sym (gather-append (λ q. gather (λ p. f p q) (upto q)) (upto n) (n ∷ []) ∙ ap (λ cs. gather (λ q. gather (λ p. f p q) (upto q)) (upto n) ++ cs) (append-nil _))
+  where
+    g : ℕ → List (List ℕ)
+    g v = f (pairOf v .low) (pairOf v .high)
+
+    at : (p : ℕ) → p < n → g (pairs n + p) ≡ f p n
+    at p l = ap g (sym (variable-lt p n l)) ∙ (λ i. f (pair-variable p n l .0 i) (pair-variable p n l .1 i))
+
+    last : gather (λ p. g (pairs n + p)) (upto n) ≡ gather (λ p. f p n) (upto n)
+    last = gather-same (λ p. g (pairs n + p)) (λ p. f p n) (upto n) (λ p m. at p (upto-mem n p m))

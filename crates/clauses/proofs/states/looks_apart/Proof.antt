@@ -1,0 +1,64 @@
+-- `clauses::states::looks_apart` meets its contract: the variables so far have their clauses. Assumes nothing.
+use Prim.Native.Nat.{_-_}
+use native.Mathlib.Omega.{arith}
+use borrow.Author.Needs.{needs}
+use Rattle.lists.specs.Lists.{gather, upto}
+use Rattle.clauses.specs.Pairs.{pairOf}
+use Rattle.clauses.specs.Emit.{state, statesOnly, lookClause}
+use Rattle.clauses.proofs.Stepping.{Over, over-all, over-on, over-done}
+use Rattle.clauses.proofs.Pairwise.{looked}
+use Rattle.clauses.proofs.states.looks_apart.Statement.{statement}
+use Rattle.clauses.proofs.states.looks_apart.Tie as tie
+use Rattle.clauses.proofs.states.looks_apart.Reads as reads
+use Rattle.clauses.proofs.states.looks_apart.Lts as lts
+use Rattle.clauses.proofs.states.look_apart.Reads as look-apart-reads
+use Rattle.clauses.proofs.variables.pairs_of.Reads as pairs-of-reads
+
+abbrev Inv-variables : tie.InvT-variables
+Inv-variables states list₀ end at₀ v₀ list at v = Over (λ v. lookClause (statesOnly states) (pairOf v .low) (pairOf v .high)) end (gather (λ v. lookClause (statesOnly states) (pairOf v .low) (pairOf v .high)) (upto end)) (state at₀ list₀) v (state at list)
+
+abbrev μ-variables : tie.MeasureT-variables
+μ-variables states list₀ end at₀ v₀ list at v = end - v
+
+cast-pairs-of : tie.Need-cast-pairs-of Inv-variables μ-variables
+cast-pairs-of c = search needs
+
+pairs-of-requires : tie.Need-pairs-of-requires Inv-variables μ-variables
+pairs-of-requires c κs = search needs
+
+variables-holds : tie.Need-variables-holds Inv-variables μ-variables
+variables-holds c = over-all _ _ _ (c .before .before .before .pre .1)
+
+look-apart-requires : tie.Need-look-apart-requires Inv-variables μ-variables
+look-apart-requires c κs = (c .before .before .before .before .before .before .pre .0, omega (arith, c .before .variables-test .taken, c .before .before .before .pairs-of .ensures), c .before .before .variables .inv .coming .ordered)
+
+add-v : tie.Need-add-v Inv-variables μ-variables
+add-v c = search needs
+
+variables-less : tie.Need-variables-less Inv-variables μ-variables
+variables-less c = search needs
+
+variables-again : tie.Need-variables-again Inv-variables μ-variables
+variables-again c = over-on (c .before .before .before .before .before .variables .inv) (c .before .before .before .before .variables-test .taken) (c .before .before .look-apart .ensures)
+
+same-length : tie.Need-same-length Inv-variables μ-variables
+same-length c = c .before .variables .inv .coming .long
+
+returns : tie.Need-returns Inv-variables μ-variables
+returns c = looked _ _ (c .before .before .pairs-of .ensures) (over-done (c .before .variables .inv) (c .variables-test .left))
+
+pub looks-apart-spec : {M : Type 1} → statement M
+looks-apart-spec =
+    tie.close
+    (tie.spec
+    Inv-variables
+    μ-variables
+    cast-pairs-of
+    pairs-of-requires
+    variables-holds
+    look-apart-requires
+    add-v
+    variables-less
+    variables-again
+    same-length
+    returns)
