@@ -1,4 +1,5 @@
 // The search over clause words.
+mod fits;
 
 // What the search answers.
 pub enum Solution {
