@@ -1,5 +1,6 @@
 // The search over clause words.
 mod fits;
+mod settle;
 
 // What the search answers.
 pub enum Solution {
