@@ -1,0 +1,181 @@
+//! Pseudo-random tables, clause lists and maps.
+
+use crate::reference::Table;
+use std::collections::BTreeSet;
+
+/// xorshift64*.
+pub struct Random(u64);
+
+impl Random {
+    pub fn new(seed: u64) -> Self {
+        Random(seed.wrapping_mul(0x9e37_79b9_7f4a_7c15) | 1)
+    }
+
+    pub fn next(&mut self) -> u64 {
+        self.0 ^= self.0 >> 12;
+        self.0 ^= self.0 << 25;
+        self.0 ^= self.0 >> 27;
+        self.0.wrapping_mul(0x2545_f491_4f6c_dd1d)
+    }
+
+    /// A number below n, which is not 0.
+    pub fn below(&mut self, n: usize) -> usize {
+        ((self.next() >> 33) % n as u64) as usize
+    }
+
+    pub fn chance(&mut self, percent: usize) -> bool {
+        self.below(100) < percent
+    }
+}
+
+fn symbols(r: &mut Random) -> Vec<u8> {
+    let most = if r.chance(5) { 32 } else { 5 };
+    let k = r.below(most + 1);
+    (0..k).map(|_| r.below(3) as u8).collect()
+}
+
+/// A valid table of n states. With `one`, each move has at most one target.
+pub fn table(r: &mut Random, n: usize, one: bool) -> Table {
+    let symbols = symbols(r);
+    let mut states: Vec<u8> = (0..n).map(|_| if r.chance(30) { 2 } else { 0 }).collect();
+    for _ in 0..1 + r.below(2) {
+        let q = r.below(n);
+        states[q] |= 1;
+    }
+    let density = 1 + r.below(if one { 60 } else { 30 });
+    let mut t = Table { symbols, states, internals: vec![], calls: vec![], returns: vec![] };
+    let kinds = t.symbols.clone();
+    for q in 0..n as u8 {
+        for (a, &kind) in kinds.iter().enumerate() {
+            let stack: Vec<Option<u8>> = if kind == 2 { (0..n as u8).map(Some).collect() } else { vec![None] };
+            for s in stack {
+                let targets: BTreeSet<u8> = if one {
+                    if r.chance(density) { BTreeSet::from([r.below(n) as u8]) } else { BTreeSet::new() }
+                } else {
+                    (0..n as u8).filter(|_| r.chance(density)).collect()
+                };
+                for e in targets {
+                    match (kind, s) {
+                        (0, _) if t.internals.len() < 1024 => t.internals.push([q, a as u8, e]),
+                        (1, _) if t.calls.len() < 1024 => t.calls.push([q, a as u8, e]),
+                        (2, Some(s)) if t.returns.len() < 4096 => t.returns.push([q, a as u8, s, e]),
+                        _ => {}
+                    }
+                }
+            }
+        }
+    }
+    t
+}
+
+/// A table whose states are copies of a smaller one's, so that merging succeeds.
+pub fn blown_up(r: &mut Random, n: usize, one: bool) -> Table {
+    let small = table(r, 1 + n / 3, one);
+    let m = small.count();
+    let of: Vec<u8> = (0..n).map(|q| if q < m { q as u8 } else { r.below(m) as u8 }).collect();
+    let copies = |p: u8| -> Vec<u8> { (0..n as u8).filter(|&q| of[q as usize] == p).collect() };
+    let mut t = Table { symbols: small.symbols.clone(), states: (0..n).map(|q| small.states[of[q] as usize]).collect(), internals: vec![], calls: vec![], returns: vec![] };
+    let (mut internals, mut calls, mut returns) = (BTreeSet::new(), BTreeSet::new(), BTreeSet::new());
+    for x in &small.internals {
+        for p in copies(x[0]) {
+            let e = copies(x[2]);
+            internals.insert([p, x[1], e[r.below(e.len())]]);
+        }
+    }
+    for x in &small.calls {
+        for p in copies(x[0]) {
+            let e = copies(x[2]);
+            calls.insert([p, x[1], e[r.below(e.len())]]);
+        }
+    }
+    for x in &small.returns {
+        for p in copies(x[0]) {
+            for s in copies(x[2]) {
+                let e = copies(x[3]);
+                returns.insert([p, x[1], s, e[r.below(e.len())]]);
+            }
+        }
+    }
+    t.internals = internals.into_iter().take(1024).collect();
+    t.calls = calls.into_iter().take(1024).collect();
+    t.returns = returns.into_iter().take(4096).collect();
+    t
+}
+
+pub fn any_table(r: &mut Random, most: usize) -> Table {
+    let n = 1 + r.below(most);
+    match r.below(4) {
+        0 => table(r, n, false),
+        1 => table(r, n, true),
+        2 => blown_up(r, n, true),
+        _ => blown_up(r, n, false),
+    }
+}
+
+/// Bytes that are near a table's: some changed, some lost, some more.
+pub fn damaged(r: &mut Random, bytes: &[u8]) -> Vec<u8> {
+    let mut b = bytes.to_vec();
+    match r.below(7) {
+        0 => b.truncate(r.below(b.len() + 1)),
+        1 => {
+            let k = r.below(20);
+            (0..k).for_each(|_| b.push(r.below(256) as u8));
+        }
+        2 => {
+            let i = r.below(b.len());
+            b.remove(i);
+        }
+        3 => {
+            let t = b.len() - 12;
+            let i = t + r.below(12);
+            b[i] = b[i].wrapping_add(1 + r.below(4) as u8);
+        }
+        4 if b.len() > 16 => {
+            let i = r.below(b.len() - 14);
+            b.swap(i, i + 1);
+        }
+        _ => {
+            for _ in 0..1 + r.below(3) {
+                let i = r.below(b.len());
+                b[i] = if r.chance(50) { r.below(6) as u8 } else { r.below(256) as u8 };
+            }
+        }
+    }
+    b
+}
+
+/// Clause words: mostly well formed.
+pub fn clause_words(r: &mut Random, variables: usize) -> Vec<u16> {
+    let mut words = Vec::new();
+    for _ in 0..r.below(30) {
+        let k = if r.chance(3) { 0 } else { 1 + r.below(4) };
+        let mut clause: Vec<u16> = Vec::new();
+        for _ in 0..k {
+            let past = if r.chance(1) { 2 } else { 0 };
+            let v = r.below(variables + past + (variables == 0) as usize);
+            if r.chance(98) && clause.iter().any(|l| (l / 2) as usize == v) {
+                continue;
+            }
+            clause.push((2 * v + r.below(2)) as u16);
+        }
+        words.push(clause.len() as u16);
+        words.extend(clause);
+    }
+    if r.chance(3) {
+        words.push(1 + r.below(5) as u16);
+    }
+    words
+}
+
+/// A map for n states: mostly properly numbered and of the right length.
+pub fn map(r: &mut Random, n: usize) -> Vec<u8> {
+    let mut m = Vec::new();
+    let mut next = 0;
+    let k = if r.chance(5) { r.below(n + 3) } else { n };
+    for _ in 0..k {
+        let c = if r.chance(97) { r.below(next + 1) } else { r.below(next + 3) };
+        next = next.max(c + 1);
+        m.push(c as u8);
+    }
+    m
+}
