@@ -19,9 +19,10 @@ use Rattle.lists.proofs.Members.{same-true}
 use Rattle.lists.proofs.Words.{ones-le}
 use Rattle.table.specs.Limits.{standard}
 use Rattle.table.specs.File.{Table, records}
+use Rattle.table.specs.Sections.{sectioned}
 use Rattle.table.specs.Reading.{isInitial}
 use Rattle.tops.specs.Tops.{add, live, byInternals, byCalls, byReturns, round, rounds, startWords}
-use Rattle.tops.specs.Sections.{Section, tableFrom}
+use Rattle.tops.specs.Sections.{Section}
 
 -- ---- records
 
@@ -230,8 +231,8 @@ module _ {s words : List ℕ} {q : ℕ} (p : Starting s words q) where
         meets = p .meets ∙ ap (λ zs. map startWord (take q s) ++ zs) (zeros h) ∙ ap (λ x. map startWord (take q s) ++ x ∷ replicate (24 - (q + 1)) 0) f ∙ one-more h;
       }
 
-  pub started : length s ≤ q → words ≡ startWords standard (tableFrom s [] [] []) ++ replicate (24 - length s) 0
-  unfolding startWords startWord
+  pub started : length s ≤ q → words ≡ startWords standard (sectioned [] s [] [] []) ++ replicate (24 - length s) 0
+  unfolding startWords startWord sectioned
   started h =
       let e : q ≡ length s = omega (arith, p .inside) in
       p .meets ∙ (λ i. map startWord (take-all q s h i) ++ replicate (24 - e i) 0)

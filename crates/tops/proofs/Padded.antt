@@ -14,10 +14,11 @@ use Rattle.lists.proofs.Members.{same-refl}
 use Rattle.lists.proofs.Words.{getD-padded}
 use Rattle.table.specs.Limits.{Limits, standard}
 use Rattle.table.specs.File.{Table, records}
+use Rattle.table.specs.Sections.{sectioned}
 use Rattle.table.specs.Language.{count}
 use Rattle.table.proofs.Bytes.{records-wide}
 use Rattle.tops.specs.Tops.{add, live, byInternals, byCalls, byReturns, round, rounds, startWords, topWords}
-use Rattle.tops.specs.Sections.{Section, Sections, tableFrom, topsFound}
+use Rattle.tops.specs.Sections.{Section, Sections, topsFound}
 use Rattle.tops.proofs.Bounded.{Bounded, Moves, Pops}
 use Rattle.tops.proofs.Count.{count-ones}
 use Rattle.tops.proofs.Walks.{internalStep, callStep, returnStep, walk, round-walk, Grows, internal-grows, call-grows, return-grows, walk-wide}
@@ -110,16 +111,17 @@ moves-of {n} {s} h r m = record { wide = records-wide 3 s r m; from = h .states 
 pops-of : {n : ℕ} {s : List ℕ} → Section 4 n s → (r : List ℕ) → List·Memᴰ r (records 4 s) → Pops n r
 pops-of {n} {s} h r m = record { wide = records-wide 4 s r m; from = h .states r m 0 (λ e. omega arith) (omega arith); under = h .states r m 2 (λ e. omega arith) (omega arith); to = h .states r m 3 (λ e. omega arith) (omega arith) }
 
-pub sections-bounded : {s i c r : List ℕ} → Sections s i c r → Bounded standard (tableFrom s i c r)
+pub sections-bounded : {s i c r : List ℕ} → Sections s i c r → Bounded standard (sectioned [] s i c r)
+unfolding sectioned
 sections-bounded h = record { states = h .few; internals = moves-of (h .internals-whole); calls = moves-of (h .calls-whole); returns = pops-of (h .returns-whole) }
 
 -- the words that the code starts with, and those that its rounds come to
-pub words-made : {s i c r start end : List ℕ} → Sections s i c r → start ≡ startWords standard (tableFrom s [] [] []) ++ replicate (24 - length s) 0 → end ≡ rounds (suc (length s * suc (length s))) (tableFrom s i c r) start → end ≡ topWords standard (tableFrom s i c r)
-unfolding startWords
-words-made {s} {i} {c} {r} h e f = f ∙ ap (rounds (suc (length s * suc (length s))) (tableFrom s i c r)) e ∙ words-padded (sections-bounded h)
+pub words-made : {s i c r start end : List ℕ} → Sections s i c r → start ≡ startWords standard (sectioned [] s [] [] []) ++ replicate (24 - length s) 0 → end ≡ rounds (suc (length s * suc (length s))) (sectioned [] s i c r) start → end ≡ topWords standard (sectioned [] s i c r)
+unfolding startWords sectioned
+words-made {s} {i} {c} {r} h e f = f ∙ ap (rounds (suc (length s * suc (length s))) (sectioned [] s i c r)) e ∙ words-padded (sections-bounded h)
 
 -- .. and the answer made of them
-pub answer-made : {s i c r words : List ℕ} {found : ℕ} → Sections s i c r → words ≡ topWords standard (tableFrom s i c r) → found ≡ onesOver 32 words → record { number = 0; words = words; found = found } ≡ topsFound standard (tableFrom s i c r)
+pub answer-made : {s i c r words : List ℕ} {found : ℕ} → Sections s i c r → words ≡ topWords standard (sectioned [] s i c r) → found ≡ onesOver 32 words → record { number = 0; words = words; found = found } ≡ topsFound standard (sectioned [] s i c r)
 unfolding topsFound
 answer-made h e f =
     let n = f ∙ ap (onesOver 32) e ∙ count-ones (sections-bounded h) 32 (omega arith) in

@@ -11,17 +11,18 @@ use Rattle.lists.specs.Lists.{same}
 use Rattle.lists.specs.Bits.{onesOver}
 use Rattle.table.specs.Limits.{Limits, standard}
 use Rattle.table.specs.File.{Table, trailer, distance, start, tableOf}
+use Rattle.table.specs.Sections.{sectioned}
 use Rattle.table.specs.Reading.{readNumber, Readable}
 use Rattle.table.proofs.Passed.{Passed, read-passed}
 use Rattle.table.proofs.Bytes.{read-well-formed}
 use Rattle.table.proofs.Facts.{internals-fit, calls-fit, returns-fit, few-states}
 use Rattle.tops.specs.Tops.{round, rounds, startWords, topWords, topCount, topsOf}
-use Rattle.tops.specs.Sections.{Sections, tableFrom, topsFound}
+use Rattle.tops.specs.Sections.{Sections, topsFound}
 
 -- ---- the tops do not look at the symbols
 
 module _ (L : Limits) (states : List ℕ) (internals calls returns : List (List ℕ)) where
-  abbrev with-symbols : List ℕ → Table
+  abbrev pub with-symbols : List ℕ → Table
   with-symbols symbols = record { symbols = symbols; states = states; internals = internals; calls = calls; returns = returns }
 
   rounds-alike : (y z : List ℕ) (n : ℕ) (f : List ℕ) → rounds n (with-symbols y) f ≡ rounds n (with-symbols z) f
@@ -34,11 +35,11 @@ module _ (L : Limits) (states : List ℕ) (internals calls returns : List (List 
       go true h = refl
       go false h = h
 
-  words-alike : (y z : List ℕ) → topWords L (with-symbols y) ≡ topWords L (with-symbols z)
+  pub words-alike : (y z : List ℕ) → topWords L (with-symbols y) ≡ topWords L (with-symbols z)
   unfolding topWords startWords
   words-alike y z = ap (λ f. f ++ replicate (L .states - length states) 0) (rounds-alike y z (suc (length states * suc (length states))) (startWords L (with-symbols y)))
 
-  found-alike : (y z : List ℕ) → topsFound L (with-symbols y) ≡ topsFound L (with-symbols z)
+  pub found-alike : (y z : List ℕ) → topsFound L (with-symbols y) ≡ topsFound L (with-symbols z)
   unfolding topsFound topCount
   found-alike y z = let e = words-alike y z in λ i. record { number = 0; words = e i; found = onesOver (suc (L .states)) (e i) }
 
@@ -73,8 +74,8 @@ module _ (b : List ℕ) (readable : Readable standard b) where
       }
 
   -- the operation's answer is that of its sections
-  pub tops-read : topsFound standard (tableFrom (slice (start b 1) (start b 2) b) (slice (start b 2) (start b 3) b) (slice (start b 3) (start b 4) b) (slice (start b 4) (trailer b) b)) ≡ topsOf standard b
-  unfolding tableOf topsOf topsFound
+  pub tops-read : topsFound standard (sectioned [] (slice (start b 1) (start b 2) b) (slice (start b 2) (start b 3) b) (slice (start b 3) (start b 4) b) (slice (start b 4) (trailer b) b)) ≡ topsOf standard b
+  unfolding tableOf topsOf topsFound sectioned
   tops-read =
       let t = tableOf b in
       let e : topsOf standard b ≡ topsFound standard t = rw (eq-eqb (readNumber standard b) 0 readable, topsOf) in

@@ -1,7 +1,7 @@
 -- The sections of a table that the tops are worked out from, as parts of the file. Assumes nothing.
 use mathlib.Core.Path.{_≡_}
 use mathlib.Core.Logic.{_≢_}
-use mathlib.Core.List.{List, [], List·Memᴰ}
+use mathlib.Core.List.{List, List·Memᴰ}
 use Prim.Native.Nat.{ℕ, _%_, _<_, _≤_}
 use lib.ListN.{length, getD}
 use Rattle.table.specs.Limits.{Limits}
@@ -13,10 +13,6 @@ use Rattle.tops.specs.Tops.{topWords, topCount}
 pub record Section (w n : ℕ) (s : List ℕ) : Type 0 where
   pub whole : length s % w ≡ 0
   pub states : (r : List ℕ) → List·Memᴰ r (records w s) → (i : ℕ) → i ≢ 1 → i < w → getD r i 0 < n
-
--- the table of four sections: what its symbols are does not matter to the tops
-abbrev pub tableFrom : List ℕ → List ℕ → List ℕ → List ℕ → Table
-tableFrom states internals calls returns = record { symbols = []; states = states; internals = records 3 internals; calls = records 3 calls; returns = records 4 returns }
 
 -- at most 24 states, and records that name states
 pub record Sections (states internals calls returns : List ℕ) : Type 0 where

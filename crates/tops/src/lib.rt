@@ -9,8 +9,9 @@ ghost use Rattle.lists.specs.Lists.{same};
 ghost use Rattle.lists.specs.Bits.{has, onesOver};
 ghost use Rattle.table.specs.Limits.{standard};
 ghost use Rattle.table.specs.File.{records};
+ghost use Rattle.table.specs.Sections.{sectioned};
 ghost use Rattle.tops.specs.Tops.{add, byInternals, byCalls, byReturns, startWords, rounds, topWords};
-ghost use Rattle.tops.specs.Sections.{Section, Sections, tableFrom, topsFound};
+ghost use Rattle.tops.specs.Sections.{Section, Sections, topsFound};
 
 // What tops answers: the refusal's number or 0, a word for each possible state, and the number of tops found.
 pub struct TopWords {
@@ -52,7 +53,7 @@ fn add(words: &mut [u32; 24], q: usize, w: u32)
 // An initial state has bottom, numbered 24.
 fn start_words(states: &[u8]) -> [u32; 24]
     requires { ⌜ length (now states) ≤ 24 ⌝ }
-    ensures { λ r. ⌜ r ≡ startWords standard (tableFrom (now (states .entry)) [] [] []) ++ replicate (24 - length (now (states .entry))) 0 ⌝ }
+    ensures { λ r. ⌜ r ≡ startWords standard (sectioned [] (now (states .entry)) [] [] []) ++ replicate (24 - length (now (states .entry))) 0 ⌝ }
 {
     let mut words = [0u32; 24];
     let mut q: usize = 0;
@@ -130,7 +131,7 @@ fn same_words(a: [u32; 24], b: [u32; 24]) -> bool
 // All records pass until a round changes nothing; so many rounds are enough (proofs/Exact).
 fn rest(states: &[u8], internals: &[u8], calls: &[u8], returns: &[u8], words: &mut [u32; 24])
     requires { ⌜ Sections (now states) (now internals) (now calls) (now returns) ⌝ }
-    ensures { λ _. ⌜ now (words .exit) ≡ rounds (suc (length (now (states .entry)) * suc (length (now (states .entry))))) (tableFrom (now (states .entry)) (now (internals .entry)) (now (calls .entry)) (now (returns .entry))) (now (words .entry)) ⌝ }
+    ensures { λ _. ⌜ now (words .exit) ≡ rounds (suc (length (now (states .entry)) * suc (length (now (states .entry))))) (sectioned [] (now (states .entry)) (now (internals .entry)) (now (calls .entry)) (now (returns .entry))) (now (words .entry)) ⌝ }
 {
     let n = states.len();
     let mut left = n * (n + 1) + 1;
@@ -150,7 +151,7 @@ fn rest(states: &[u8], internals: &[u8], calls: &[u8], returns: &[u8], words: &m
 // The top words of the table with these sections.
 pub fn words_of(states: &[u8], internals: &[u8], calls: &[u8], returns: &[u8]) -> [u32; 24]
     requires { ⌜ Sections (now states) (now internals) (now calls) (now returns) ⌝ }
-    ensures { λ r. ⌜ r ≡ topWords standard (tableFrom (now (states .entry)) (now (internals .entry)) (now (calls .entry)) (now (returns .entry))) ⌝ }
+    ensures { λ r. ⌜ r ≡ topWords standard (sectioned [] (now (states .entry)) (now (internals .entry)) (now (calls .entry)) (now (returns .entry))) ⌝ }
 {
     let mut words = start_words(states);
     rest(states, internals, calls, returns, &mut words);
@@ -180,7 +181,7 @@ pub fn count_tops(words: [u32; 24]) -> u32
 // The answer for the table with these sections.
 pub fn tops_of(states: &[u8], internals: &[u8], calls: &[u8], returns: &[u8]) -> TopWords
     requires { ⌜ Sections (now states) (now internals) (now calls) (now returns) ⌝ }
-    ensures { λ r. ⌜ r ≡ topsFound standard (tableFrom (now (states .entry)) (now (internals .entry)) (now (calls .entry)) (now (returns .entry))) ⌝ }
+    ensures { λ r. ⌜ r ≡ topsFound standard (sectioned [] (now (states .entry)) (now (internals .entry)) (now (calls .entry)) (now (returns .entry))) ⌝ }
 {
     let words = words_of(states, internals, calls, returns);
     TopWords {

@@ -3,15 +3,16 @@ use borrow.Author.Needs.{needs}
 use mathlib.Core.Path.{sym, _∙_}
 use Prim.Native.Nat.{suc, _*_}
 use native.Mathlib.Omega.{arith}
+use mathlib.Core.List.{[]}
 use lib.ListN.{length}
 use Rattle.tops.specs.Tops.{rounds}
-use Rattle.tops.specs.Sections.{tableFrom}
+use Rattle.table.specs.Sections.{sectioned}
 use Rattle.tops.proofs.Loops.{Resting, resting, rest-on, rested, rounded, spent, few-rounds, section-within}
 use Rattle.tops.proofs.rest.Statement.{statement}
 use Rattle.tops.proofs.rest.Tie as tie
 
 abbrev Inv-rounds : tie.InvT-rounds
-Inv-rounds states internals calls returns words₀ n left₀ words left = Resting (tableFrom states internals calls returns) (rounds (suc (length states * suc (length states))) (tableFrom states internals calls returns) words₀) words left
+Inv-rounds states internals calls returns words₀ n left₀ words left = Resting (sectioned [] states internals calls returns) (rounds (suc (length states * suc (length states))) (sectioned [] states internals calls returns) words₀) words left
 
 abbrev μ-rounds : tie.MeasureT-rounds
 μ-rounds states internals calls returns words₀ n left₀ words left = left
@@ -41,6 +42,7 @@ same-words-requires : tie.Need-same-words-requires Inv-rounds μ-rounds
 same-words-requires c κs = search needs
 
 returns : tie.Need-returns Inv-rounds μ-rounds
+unfolding sectioned
 returns c =
     let r = c .before .before .before in
     let b = r .before .before in
@@ -55,6 +57,7 @@ rounds-less : tie.Need-rounds-less Inv-rounds μ-rounds
 rounds-less c = search needs
 
 rounds-again : tie.Need-rounds-again Inv-rounds μ-rounds
+unfolding sectioned
 rounds-again c =
     let r = c .before .before .before in
     let b = r .before .before in
