@@ -11,3 +11,5 @@ pub mod Collecting
 pub mod Emitting
 pub mod Stepping
 pub mod Pairwise
+pub mod Tidying
+pub mod Targeting

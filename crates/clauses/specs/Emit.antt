@@ -2,18 +2,18 @@
 -- written one behind the other. Assumes nothing.
 use mathlib.Core.Path.{_≡_}
 use mathlib.Core.Bool.{Bool, true, false, _&&_}
-use mathlib.Core.List.{List, [], _∷_, _++_}
-use Prim.Native.Nat.{ℕ, _+_, _≤_}
-use lib.ListN.{length, take, drop}
+use mathlib.Core.List.{List, [], _∷_, _++_, map}
+use Prim.Native.Nat.{ℕ, _+_, _-_, _≤_}
+use lib.ListN.{length, getD, take, drop}
 use lib.Dec.{ltb, leb, eqb}
 use Rattle.lists.specs.Lists.{mem, over}
-use Rattle.table.specs.File.{Table}
+use Rattle.table.specs.File.{Table, records}
 use Rattle.table.specs.Language.{byteOf, look}
 use Rattle.clauses.specs.declared.variables.Found.{Found}
 use Rattle.clauses.specs.declared.literals.Literals.{Literals}
 use Rattle.clauses.specs.declared.emit.Tally.{Tally}
 use Rattle.clauses.specs.Pairs.{Pair}
-use Rattle.clauses.specs.Clauses.{apart}
+use Rattle.clauses.specs.Clauses.{together, apart, opposite}
 
 abbrev pub pairFound : Found → Pair
 pairFound f = record { low = f .low; high = f .high }
@@ -27,6 +27,19 @@ literalsOf c = take (c .n) (c .words)
 -- one literal more: "A repeated literal is written once, at its first place."
 unfoldable pub withLiteral : List ℕ → ℕ → List ℕ
 withLiteral ls l = elim (mem l ls) [ true ↦ ls | false ↦ ls ++ (l ∷ []) ]
+
+unfoldable pub withAll : List ℕ → List ℕ → List ℕ
+withAll ls [] = ls
+withAll ls (x ∷ xs) = withAll (withLiteral ls x) xs
+
+-- the clause that literals to come make of those kept so far, or none: "A clause with a variable both ways is left out."
+unfoldable pub tidyFrom : List ℕ → List ℕ → List (List ℕ)
+tidyFrom kept [] = kept ∷ []
+tidyFrom kept (l ∷ ls) = elim (mem (opposite l) kept) [ true ↦ [] | false ↦ tidyFrom (withLiteral kept l) ls ]
+
+-- the same with the targets to come: "Left out if some q' = p'."
+unfoldable pub matchingFrom : List ℕ → ℕ → List ℕ → List (List ℕ)
+matchingFrom kept p' qs = elim (mem p' qs) [ true ↦ [] | false ↦ tidyFrom kept (map (together p') qs) ]
 
 -- the clause has these literals
 pub record Holds (c : Literals) (ls : List ℕ) : Type 0 where
@@ -76,3 +89,7 @@ statesOnly states = record { symbols = []; states = states; internals = []; call
 -- group 1, for p below q
 unfoldable pub lookClause : Table → ℕ → ℕ → List (List ℕ)
 lookClause t p q = elim (eqb (look (byteOf t p)) (look (byteOf t q))) [ true ↦ [] | false ↦ (apart p q ∷ []) ∷ [] ]
+
+-- the targets of records of w bytes
+abbrev pub lastBytes : ℕ → List ℕ → List ℕ
+lastBytes w s = map (λ r. getD r (w - 1) 0) (records w s)

@@ -1,6 +1,7 @@
 // The clauses of a table.
 mod emit;
 mod literals;
+mod matched;
 mod states;
 mod variables;
 
