@@ -13,3 +13,4 @@ pub mod Stepping
 pub mod Pairwise
 pub mod Tidying
 pub mod Targeting
+pub mod Spanning

@@ -3,6 +3,7 @@ mod emit;
 mod literals;
 mod matched;
 mod states;
+mod targets;
 mod variables;
 
 pub use variables::Found;

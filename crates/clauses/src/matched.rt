@@ -26,7 +26,14 @@ pub(crate) fn with_premise(c: Literals, p: u8, q: u8) -> Literals
 }
 
 // "then {p',q'} true for each": the q' are the last bytes of the records found. "Left out if some q' = p'."
-pub(crate) fn matched(found: &[u8], width: usize, target: u8, premises: Literals, tally: Tally, list: &mut [u16]) -> Tally
+pub(crate) fn matched(
+    found: &[u8],
+    width: usize,
+    target: u8,
+    premises: Literals,
+    tally: Tally,
+    list: &mut [u16],
+) -> Tally
     requires { ⌜ (0 < width) × (premises .n + length (records width (now found)) ≤ 32) × Ordered tally ⌝ }
     ensures { λ r. ⌜ state r (now (list .exit)) ≡ emit (matchingFrom (literalsOf premises) target (lastBytes width (now (found .entry)))) (state tally (now (list .entry))) ⌝ }
 {

@@ -1,0 +1,75 @@
+-- `clauses::targets::first_at` meets its contract: the record is between the two ends. Assumes nothing.
+use Prim.Native.Nat.{_-_, _/_}
+use native.Mathlib.Omega.{arith}
+use native.Mathlib.Nat.{div-le-self}
+use lib.ListN.{length}
+use borrow.Author.Needs.{needs}
+use Rattle.table.specs.File.{records}
+use Rattle.clauses.proofs.Spanning.{length-records, Halving, halving, upper-half, lower-half, halved}
+use Rattle.clauses.proofs.targets.first_at.Statement.{statement}
+use Rattle.clauses.proofs.targets.first_at.Tie as tie
+use Rattle.clauses.proofs.targets.first_at.Reads as reads
+use Rattle.clauses.proofs.targets.first_at.Lts as lts
+use Rattle.clauses.proofs.targets.record_at.Reads as record-at-reads
+use Rattle.clauses.proofs.targets.stands_before.Reads as stands-before-reads
+
+abbrev Inv-halves : tie.InvT-halves
+Inv-halves section width key low₀ high₀ low high = Halving (records width section) key (length section / width) low high
+
+abbrev μ-halves : tie.MeasureT-halves
+μ-halves section width key low₀ high₀ low high = high - low
+
+div-high : tie.Need-div-high Inv-halves μ-halves
+div-high c = search needs
+
+halves-holds : tie.Need-halves-holds Inv-halves μ-halves
+halves-holds c = halving _ _ (length-records _ _)
+
+sub-middle : tie.Need-sub-middle Inv-halves μ-halves
+sub-middle c = search needs
+
+add-middle : tie.Need-add-middle Inv-halves μ-halves
+add-middle c = omega (arith, c .before .halves .inv, c .halves-test .taken, div-le-self (length (c .before .before .before .before .args .section .now)) (c .before .before .before .before .args .width), c .before .before .before .before .good .0 .0)
+
+record-at-requires : tie.Need-record-at-requires Inv-halves μ-halves
+record-at-requires c κs = search needs
+
+stands-before-requires : tie.Need-stands-before-requires Inv-halves μ-halves
+stands-before-requires c κs = search needs
+
+add-low : tie.Need-add-low Inv-halves μ-halves
+add-low c = omega (arith, c .before .before .before .before .halves .inv, c .before .before .before .halves-test .taken, div-le-self (length (c .before .before .before .before .before .before .before .args .section .now)) (c .before .before .before .before .before .before .before .args .width), c .before .before .before .before .before .before .before .good .0 .0)
+
+halves-less : tie.Need-halves-less Inv-halves μ-halves
+halves-less c = search needs
+
+halves-again : tie.Need-halves-again Inv-halves μ-halves
+halves-again c = upper-half (c .before .before .before .before .halves .inv) (omega arith) (omega (arith, c .before .before .before .halves-test .taken)) (c .before .before .record-at .ensures) (c .before .stands-before .ensures) (c .if1 .taken)
+
+halves-less-2 : tie.Need-halves-less-2 Inv-halves μ-halves
+halves-less-2 c = search needs
+
+halves-again-2 : tie.Need-halves-again-2 Inv-halves μ-halves
+halves-again-2 c = lower-half (c .before .before .before .before .halves .inv) (omega arith) (omega (arith, c .before .before .before .halves-test .taken)) (c .before .before .record-at .ensures) (c .before .stands-before .ensures) (c .if1 .left)
+
+returns : tie.Need-returns Inv-halves μ-halves
+returns c = (omega (arith, c .before .halves .inv), halved (c .before .halves .inv) (c .halves-test .left))
+
+pub first-at-spec : {M : Type 1} → statement M
+first-at-spec =
+    tie.close
+    (tie.spec
+    Inv-halves
+    μ-halves
+    div-high
+    halves-holds
+    sub-middle
+    add-middle
+    record-at-requires
+    stands-before-requires
+    add-low
+    halves-less
+    halves-again
+    halves-less-2
+    halves-again-2
+    returns)

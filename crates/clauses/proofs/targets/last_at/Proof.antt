@@ -1,0 +1,64 @@
+-- `clauses::targets::last_at` meets its contract: the records so far start with the key. Assumes nothing.
+use Prim.Native.Nat.{_-_, _/_}
+use native.Mathlib.Omega.{arith}
+use native.Mathlib.Nat.{div-le-self}
+use lib.ListN.{length}
+use borrow.Author.Tests.{not-true, not-false}
+use borrow.Author.Needs.{needs}
+use Rattle.table.specs.File.{records}
+use Rattle.clauses.proofs.Spanning.{length-records, Passing, passing, pass-on, pass-end, passed-all}
+use Rattle.clauses.proofs.targets.last_at.Statement.{statement}
+use Rattle.clauses.proofs.targets.last_at.Tie as tie
+use Rattle.clauses.proofs.targets.last_at.Reads as reads
+use Rattle.clauses.proofs.targets.last_at.Lts as lts
+use Rattle.clauses.proofs.targets.record_at.Reads as record-at-reads
+use Rattle.clauses.proofs.targets.starts_with.Reads as starts-with-reads
+
+abbrev Inv-records : tie.InvT-records
+Inv-records section width key from i₀ i = Passing (records width section) key (length section / width) from i
+
+abbrev μ-records : tie.MeasureT-records
+μ-records section width key from i₀ i = length section / width - i
+
+records-holds : tie.Need-records-holds Inv-records μ-records
+records-holds c = passing _ _ (length-records _ _) (c .before .before .pre .1)
+
+div-records : tie.Need-div-records Inv-records μ-records
+div-records c = search needs
+
+record-at-requires : tie.Need-record-at-requires Inv-records μ-records
+record-at-requires c κs = search needs
+
+starts-with-requires : tie.Need-starts-with-requires Inv-records μ-records
+starts-with-requires c κs = search needs
+
+returns : tie.Need-returns Inv-records μ-records
+returns c = pass-end (c .before .before .before .before .records .inv) (c .before .before .before .records-test .taken) (c .before .before .record-at .ensures) (c .before .starts-with .ensures) (not-true _ (c .if1 .taken))
+
+add-i : tie.Need-add-i Inv-records μ-records
+add-i c = omega (arith, c .before .before .before .before .records .inv, c .before .before .before .records-test .taken, div-le-self (length (c .before .before .before .before .before .before .before .args .section .now)) (c .before .before .before .before .before .before .before .args .width), c .before .before .before .before .before .before .before .good .0 .0)
+
+records-less : tie.Need-records-less Inv-records μ-records
+records-less c = search needs
+
+records-again : tie.Need-records-again Inv-records μ-records
+records-again c = pass-on (c .before .before .before .before .records .inv) (c .before .before .before .records-test .taken) (c .before .before .record-at .ensures) (c .before .starts-with .ensures) (not-false _ (c .if1 .left))
+
+returns-2 : tie.Need-returns-2 Inv-records μ-records
+returns-2 c = passed-all (c .before .records .inv) (c .records-test .left)
+
+pub last-at-spec : {M : Type 1} → statement M
+last-at-spec =
+    tie.close
+    (tie.spec
+    Inv-records
+    μ-records
+    records-holds
+    div-records
+    record-at-requires
+    starts-with-requires
+    returns
+    add-i
+    records-less
+    records-again
+    returns-2)

@@ -1,0 +1,61 @@
+-- `clauses::targets::starting` meets its contract. Assumes nothing.
+use Prim.Native.Nat.{_*_}
+use native.Mathlib.Omega.{arith}
+use lib.ListN.{length}
+use Rattle.clauses.proofs.Spanning.{Span, no-width, starts-before, ends-within, found}
+use borrow.Author.Needs.{needs}
+use Rattle.clauses.proofs.targets.starting.Statement.{statement}
+use Rattle.clauses.proofs.targets.starting.Tie as tie
+use Rattle.clauses.proofs.targets.starting.Reads as reads
+use Rattle.clauses.proofs.targets.starting.Lts as lts
+use Rattle.clauses.proofs.targets.first_at.Reads as first-at-reads
+use Rattle.clauses.proofs.targets.last_at.Reads as last-at-reads
+
+slice-aggregate-result : tie.Need-slice-aggregate-result
+slice-aggregate-result c = search needs
+
+returns : tie.Need-returns
+returns c = λ a. no-width (c .before .before .before .before .args .section .now) (c .before .before .before .before .args .key .now) (c .before .if1 .taken)
+
+first-at-requires : tie.Need-first-at-requires
+first-at-requires c κs = search needs
+
+last-at-requires : tie.Need-last-at-requires
+last-at-requires c κs = search needs
+
+-- the span found
+spanned : (c : tie.After-last-at) → Span (c .before .before .before .before .before .args .width) (c .before .before .before .before .before .args .section .now) (c .before .before .before .before .before .args .key .now) (c .before .first-at .result) (c .last-at .result)
+spanned c = record { some-width = omega arith; within = c .before .first-at .ensures .0; first = c .before .first-at .ensures .1; last = c .last-at .ensures }
+
+mul-at : tie.Need-mul-at
+mul-at c = let w = spanned c in omega (arith, starts-before w, ends-within w, c .before .before .before .before .before .good .0 .0)
+
+mul-end : tie.Need-mul-end
+mul-end c = let w = spanned c in omega (arith, ends-within w, c .before .before .before .before .before .good .0 .0)
+
+sub-result : tie.Need-sub-result
+sub-result c = starts-before (spanned c)
+
+part-result-start : tie.Need-part-result-start
+part-result-start c = starts-before (spanned c)
+
+part-result-end : tie.Need-part-result-end
+part-result-end c = ends-within (spanned c)
+
+returns-2 : tie.Need-returns-2
+returns-2 c = found (spanned (c .before))
+
+pub starting-spec : {M : Type 1} → statement M
+starting-spec =
+    tie.close
+    (tie.spec
+    slice-aggregate-result
+    returns
+    first-at-requires
+    last-at-requires
+    mul-at
+    mul-end
+    sub-result
+    part-result-start
+    part-result-end
+    returns-2)
