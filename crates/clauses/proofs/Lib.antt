@@ -14,3 +14,5 @@ pub mod Pairwise
 pub mod Tidying
 pub mod Targeting
 pub mod Spanning
+pub mod Few
+pub mod Moving

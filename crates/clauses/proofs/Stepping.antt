@@ -2,18 +2,20 @@
 use mathlib.Core.Path.{_≡_, refl, sym, ap, _∙_}
 use mathlib.Core.Bool.{Bool, true, false}
 use mathlib.Core.List.{List, [], _∷_, _++_, append-nil, append-assoc, List·Memᴰ, List·Memᴰ·head, List·Memᴰ·tail}
-use Prim.Native.Nat.{ℕ, zero, suc, _+_, _≤_, _<_}
+use Prim.Native.Nat.{ℕ, zero, suc, _+_, _-_, _≤_, _<_}
 use native.Mathlib.Numerals.{add-one}
 use native.Mathlib.Omega.{arith}
-use native.Mathlib.Nat.{add-zero, add-suc}
+use native.Mathlib.Nat.{add-zero, add-suc, div-eq-of-lt}
 use native.Mathlib.Decide.{decLt}
-use lib.ListN.{length, getD, drop, drop-of-length-le}
+use lib.ListN.{length, getD, take, drop, length-drop, drop-of-length-le}
 use lib.Seq.{drop-cons, drop-append-le, drop-length}
 use lib.Dec.{ltb}
 use borrow.Author.Tests.{lt-ltb, le-ltb}
-use Rattle.lists.specs.Lists.{keep, gather, upto}
+use Rattle.lists.specs.Lists.{keep, gather, upto, parts}
 use Rattle.lists.proofs.Members.{upto-mem, length-upto, getD-upto}
 use Rattle.lists.proofs.Counts.{keep-append, gather-append}
+use Rattle.table.specs.File.{records}
+use Rattle.tops.proofs.Loops.{records-cons}
 use Rattle.clauses.specs.Pairs.{pairs, variableOf, pairOf}
 use Rattle.clauses.specs.Clauses.{past}
 use Rattle.clauses.specs.Emit.{State, Ordered, emit}
@@ -61,6 +63,32 @@ module _ {f : ℕ → List (List ℕ)} {n : ℕ} {all : List (List ℕ)} {start 
   pub over-done : n ≤ q → now ≡ emit all start
   unfolding gather
   over-done h = come (come-as (ap (gather f) (from-end n q h)) (w .coming))
+
+-- ---- a loop over the records of a section
+
+pub records-end : (w : ℕ) (s : List ℕ) (at : ℕ) → length s - at < w → records w (drop at s) ≡ []
+unfolding records parts
+records-end w s at h = ap (λ k. parts k w (drop at s)) (div-eq-of-lt short)
+  where
+    short : length (drop at s) < w
+    short = omega (arith, length-drop at s)
+
+module _ (g : List ℕ → List (List ℕ)) (w : ℕ) (s : List ℕ) where
+  pub record Along (all : List (List ℕ)) (start : State) (at : ℕ) (now : State) : Type 0 where
+    pub inside : at ≤ length s
+    pub coming : Coming all start (gather g (records w (drop at s))) now
+
+  pub along-all : (start : State) → Ordered (start .tally) → Along (gather g (records w s)) start 0 start
+  along-all start h = record { inside = omega arith; coming = coming _ start h }
+
+module _ {g : List ℕ → List (List ℕ)} {w : ℕ} {s : List ℕ} {all : List (List ℕ)} {start : State} {at : ℕ} {now : State} (i : Along g w s all start at now) where
+  pub along-on : {next : State} → 0 < w → w ≤ length s - at → next ≡ emit (g (take w (drop at s))) now → Along g w s all start (at + w) next
+  unfolding gather
+  along-on p h e = record { inside = omega (arith, i); coming = come-on (g (take w (drop at s))) _ (come-as (ap (gather g) (records-cons w s at p (omega (arith, i)))) (i .coming)) e }
+
+  pub along-done : length s - at < w → now ≡ emit all start
+  unfolding gather
+  along-done h = come (come-as (ap (gather g) (records-end w s at h)) (i .coming))
 
 -- ---- the pairs in the order of their variables
 

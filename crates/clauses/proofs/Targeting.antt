@@ -5,17 +5,17 @@ use mathlib.Core.Bool.{Bool, true, false}
 use mathlib.Core.List.{List, [], _∷_, _++_, map}
 use Prim.Native.Nat.{ℕ, suc, _+_, _-_, _/_, _≤_, _<_}
 use native.Mathlib.Omega.{arith}
-use native.Mathlib.Nat.{div-eq-of-lt}
 use lib.ListN.{length, getD, take, drop, length-append, length-take, length-drop}
 use lib.Seq.{length-take-le}
 use lib.Dec.{eqb}
 use borrow.Author.Tests.{eq-eqb, ne-eqb}
-use Rattle.lists.specs.Lists.{any, mem, parts}
+use Rattle.lists.specs.Lists.{any, mem}
 use Rattle.table.specs.File.{records}
 use Rattle.tops.proofs.Loops.{records-cons, record-byte}
 use Rattle.clauses.specs.declared.literals.Literals.{Literals}
 use Rattle.clauses.specs.Clauses.{together, apart, opposite, premise}
 use Rattle.clauses.specs.Emit.{literalsOf, withLiteral, withAll, Holds, matchingFrom, lastBytes, State, emit}
+use Rattle.clauses.proofs.Stepping.{records-end}
 use Rattle.clauses.proofs.Tidying.{Matching, match-itself, match-both, match-on, matched}
 
 -- ---- premises
@@ -28,18 +28,9 @@ pub premise-one : (c d : Literals) (p q : ℕ) {l : ℕ} → p ≢ q → l ≡ a
 unfolding premise withAll
 premise-one c d p q n e h = rw (ne-eqb p q n, premise) (subst (λ (l : ℕ). Holds d (withLiteral (literalsOf c) l)) e h)
 
--- ---- records
-
-pub records-end : (w : ℕ) (s : List ℕ) (at : ℕ) → length s - at < w → records w (drop at s) ≡ []
-unfolding records parts
-records-end w s at h = ap (λ k. parts k w (drop at s)) (div-eq-of-lt short)
-  where
-    short : length (drop at s) < w
-    short = omega (arith, length-drop at s)
-
 -- ---- a loop over the records found
 
-with-length : (ls : List ℕ) (l : ℕ) → length (withLiteral ls l) ≤ length ls + 1
+pub with-length : (ls : List ℕ) (l : ℕ) → length (withLiteral ls l) ≤ length ls + 1
 unfolding withLiteral
 with-length ls l = go (mem l ls)
   where

@@ -2,12 +2,13 @@
 -- written one behind the other. Assumes nothing.
 use mathlib.Core.Path.{_≡_}
 use mathlib.Core.Bool.{Bool, true, false, _&&_}
-use mathlib.Core.List.{List, [], _∷_, _++_, map}
-use Prim.Native.Nat.{ℕ, _+_, _-_, _≤_}
+use mathlib.Core.List.{List, [], _∷_, _++_, map, List·Memᴰ}
+use Prim.Native.Nat.{ℕ, _+_, _-_, _≤_, _<_}
 use lib.ListN.{length, getD, take, drop}
 use lib.Dec.{ltb, leb, eqb}
 use Rattle.lists.specs.Lists.{mem, over}
 use Rattle.table.specs.File.{Table, records}
+use Rattle.table.specs.Reading.{ascend}
 use Rattle.table.specs.Language.{byteOf, look}
 use Rattle.clauses.specs.declared.variables.Found.{Found}
 use Rattle.clauses.specs.declared.literals.Literals.{Literals}
@@ -93,3 +94,8 @@ lookClause t p q = elim (eqb (look (byteOf t p)) (look (byteOf t q))) [ true ↦
 -- the targets of records of w bytes
 abbrev pub lastBytes : ℕ → List ℕ → List ℕ
 lastBytes w s = map (λ r. getD r (w - 1) 0) (records w s)
+
+-- a section of records of w bytes that ascend and whose targets are states
+pub record Sorted (w : ℕ) (s : List ℕ) : Type 0 where
+  pub ascends : ascend (records w s) ≡ true
+  pub few : (r : List ℕ) → List·Memᴰ r (records w s) → getD r (w - 1) 0 < 24

@@ -2,6 +2,7 @@
 mod emit;
 mod literals;
 mod matched;
+mod moves;
 mod states;
 mod targets;
 mod variables;
