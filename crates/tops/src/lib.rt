@@ -35,7 +35,7 @@ fn bit(x: usize) -> u32
 }
 
 // Top x is in word q.
-pub fn has_top(words: &[u32; 24], q: usize, x: usize) -> bool
+fn has_top(words: &[u32; 24], q: usize, x: usize) -> bool
     requires { ⌜ (q < 24) × (x < 32) ⌝ }
     ensures { λ r. ⌜ r ≡ has (now (words .entry)) q x ⌝ }
 {
@@ -149,7 +149,7 @@ fn rest(states: &[u8], internals: &[u8], calls: &[u8], returns: &[u8], words: &m
 }
 
 // The top words of the table with these sections.
-pub fn words_of(states: &[u8], internals: &[u8], calls: &[u8], returns: &[u8]) -> [u32; 24]
+fn words_of(states: &[u8], internals: &[u8], calls: &[u8], returns: &[u8]) -> [u32; 24]
     requires { ⌜ Sections (now states) (now internals) (now calls) (now returns) ⌝ }
     ensures { λ r. ⌜ r ≡ topWords standard (sectioned [] (now (states .entry)) (now (internals .entry)) (now (calls .entry)) (now (returns .entry))) ⌝ }
 {
@@ -179,7 +179,7 @@ pub fn count_tops(words: [u32; 24]) -> u32
 }
 
 // The answer for the table with these sections.
-pub fn tops_of(states: &[u8], internals: &[u8], calls: &[u8], returns: &[u8]) -> TopWords
+fn tops_of(states: &[u8], internals: &[u8], calls: &[u8], returns: &[u8]) -> TopWords
     requires { ⌜ Sections (now states) (now internals) (now calls) (now returns) ⌝ }
     ensures { λ r. ⌜ r ≡ topsFound standard (sectioned [] (now (states .entry)) (now (internals .entry)) (now (calls .entry)) (now (returns .entry))) ⌝ }
 {
@@ -200,8 +200,10 @@ pub fn next_top(word: u32) -> u32
 
 // The word without its lowest top.
 pub fn later_tops(word: u32) -> u32
-    requires { ⌜ word ≢ 0 ⌝ }
     ensures { λ r. ⌜ r ≡ word - 2 ^ trailingZeros 32 word ⌝ }
 {
+    if word == 0 {
+        return 0;
+    }
     word - (1u32 << u32::trailing_zeros(word))
 }
