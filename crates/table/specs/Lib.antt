@@ -3,3 +3,4 @@ pub mod File
 pub mod Reading
 pub mod Language
 pub mod Maps
+pub mod Sections
