@@ -256,7 +256,8 @@ follow b s end h d e =
       last = omega (arith, h);
     }
 
-part : (f t : ℕ) (b : List ℕ) → f ≤ t → take (t - f) (drop f b) ≡ slice f t b
+-- a part of a slice as the code takes it
+pub part : (f t : ℕ) (b : List ℕ) → f ≤ t → take (t - f) (drop f b) ≡ slice f t b
 part zero t b h = ap (λ n. take n b) (sub-zero t)
 part (suc f) zero b h = absurd (omega arith)
 part (suc f) (suc t) [] h = rw take-nil
