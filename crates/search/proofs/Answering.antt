@@ -22,7 +22,7 @@ use Rattle.search.specs.declared.Solution.{Solution}
 use Rattle.search.specs.declared.Solution.the-variants.{Solved, Refused}
 use Rattle.search.specs.declared.solve.Ending.{Ending}
 use Rattle.search.specs.declared.solve.Ending.the-variants.{Found, Absent, Spent}
-use Rattle.search.specs.Turns.{Fresh, outcomeOf}
+use Rattle.search.specs.Turns.{noneSet, Fresh, outcomeOf}
 use Rattle.search.specs.Answers.{listFits, searchNumber, Searched, searched, searchOf}
 
 -- ---- writing the answer
@@ -94,39 +94,39 @@ module _ (most : ℕ) (ws : List ℕ) (n b : ℕ) (a : List ℕ) (e : listFits m
 
 -- ---- the values and the outcome
 
--- the array of values at first
-abbrev pub noneSet : List ℕ
-noneSet = replicate 276 2
-
 take-replicate : (n m : ℕ) → n ≤ m → take {A = ℕ} n (replicate m 2) ≡ replicate n 2
 take-replicate zero m h = refl
 take-replicate (suc n) zero h = absurd (omega arith)
 take-replicate (suc n) (suc m) h = ap (λ (l : List ℕ). 2 ∷ l) (take-replicate n m (omega arith))
 
-module _ (n : ℕ) (h : n ≤ 276) where
-  pub prefix-length : length (take n noneSet) ≡ n
-  prefix-length = ap length (take-replicate n 276 h) ∙ length-replicate {A = ℕ} n 2
+module _ (n : ℕ) (h : n ≤ 276) {s : List ℕ} (z : s ≡ noneSet) where
+  prefix-is : take n s ≡ replicate n 2
+  unfolding noneSet
+  prefix-is = ap (take n) z ∙ take-replicate n 276 h
 
-  pub fresh : {ws : List ℕ} → whole ws ≡ true → Formed (clausesIn ws) n → Fresh ws (take n noneSet)
+  pub prefix-length : length (take n s) ≡ n
+  prefix-length = ap length prefix-is ∙ length-replicate {A = ℕ} n 2
+
+  pub fresh : {ws : List ℕ} → whole ws ≡ true → Formed (clausesIn ws) n → Fresh ws (take n s)
   fresh w f = record {
     all-there = w;
     formed = rw prefix-length f;
-    none-set = take-replicate n 276 h ∙ rw prefix-length refl;
+    none-set = rw prefix-length prefix-is;
     most = rw prefix-length h;
   }
 
   -- the values that come back, in front of the rest of the array
-  module _ (v : List ℕ) (e : length v ≡ length (take n noneSet)) where
+  module _ (v : List ℕ) (e : length v ≡ length (take n s)) where
     long : length v ≡ n
     long = e ∙ prefix-length
 
-    pub prefix-room : n ≤ length (v ++ drop n noneSet)
-    prefix-room = omega (arith, long, length-append v (drop n noneSet))
+    pub prefix-room : n ≤ length (v ++ drop n s)
+    prefix-room = omega (arith, long, length-append v (drop n s))
 
-    pub prefix-values : take n (v ++ drop n noneSet) ≡ v
-    prefix-values = take-at v (drop n noneSet) n long
+    pub prefix-values : take n (v ++ drop n s) ≡ v
+    prefix-values = take-at v (drop n s) n long
 
-    pub prefix-size : length (take n (v ++ drop n noneSet)) ≡ n
+    pub prefix-size : length (take n (v ++ drop n s)) ≡ n
     prefix-size = ap length prefix-values ∙ long
 
 module _ (ws : List ℕ) (n b : ℕ) (r : Ending) (v : List ℕ) {m : ℕ} (e : m ≡ n) (q : outcomeOf r v ≡ searchFrom (clausesIn ws) m b) where

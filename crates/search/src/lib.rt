@@ -6,6 +6,7 @@ ghost use lib.ListN.{length, take};
 ghost use Rattle.lists.specs.Lists.{over};
 ghost use Rattle.cnf.specs.Clauses.{clausesIn, Model, Maximal, Horn};
 ghost use Rattle.search.specs.Answers.{Searched, searchOf};
+ghost use Rattle.search.specs.Turns.{noneSet};
 use fits::list_fits;
 use solve::Ending;
 use solve::solve;
@@ -20,6 +21,13 @@ pub enum Solution {
     Solved(u64),
     // 11 to 14
     Refused(u8),
+}
+
+// Room for the values of 276 variables, none of which is set.
+fn none_set() -> [u8; 276]
+    ensures { λ r. ⌜ r ≡ noneSet ⌝ }
+{
+    [2u8; 276]
 }
 
 // Puts the values in front of what the answer holds.
@@ -51,7 +59,7 @@ pub fn search(list: &[u16], variables: usize, budget: u64, answer: &mut [u8]) ->
     if answer.len() < variables {
         return Solution::Refused(14);
     }
-    let mut values = [2u8; 276];
+    let mut values = none_set();
     let end = solve(list, &mut values[..variables], budget);
     match end {
         Ending::Found(k) => {
