@@ -124,6 +124,9 @@ module _ {all : List (List ℕ)} {start now : State} where
   pub come-as : {rest rest' : List (List ℕ)} → rest ≡ rest' → Coming all start rest now → Coming all start rest' now
   come-as e w = record { meets = w .meets ∙ ap (λ cs. emit cs now) e; ordered = w .ordered; long = w .long }
 
+  pub come-all : {all' rest : List (List ℕ)} → all ≡ all' → Coming all start rest now → Coming all' start rest now
+  come-all e w = record { meets = ap (λ cs. emit cs start) (sym e) ∙ w .meets; ordered = w .ordered; long = w .long }
+
   pub come : Coming all start [] now → now ≡ emit all start
   unfolding emit
   come w = sym (w .meets)

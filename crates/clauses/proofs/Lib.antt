@@ -16,3 +16,4 @@ pub mod Targeting
 pub mod Spanning
 pub mod Few
 pub mod Moving
+pub mod Returning

@@ -41,7 +41,7 @@ module _ (s : List ℕ) (p a p' q : ℕ) where
 
   module _ (found : List ℕ) {none c : Literals} (f : records 3 found ≡ keep (startsWith (q ∷ a ∷ [])) (records 3 s)) (z : Holds none []) (h : Holds c (withAll (literalsOf none) (premise p q))) where
     pub move-room : Sorted 3 s → c .n + length (records 3 found) ≤ 32
-    move-room o = omega (arith, premise-more none p q h, z .count, ap length f, few-targets (q ∷ a ∷ []) 24 s (o .ascends) (o .few))
+    move-room o = omega (arith, premise-more none p q h, z .count, ap length f, few-targets (q ∷ a ∷ []) 24 s (o .ascends) (λ r m. o .names .states r m 2 (omega arith) (omega arith)))
 
     pub move-other : (t : State) {next : State} → q ≢ p → next ≡ emit (matchingFrom (literalsOf c) p' (lastBytes 3 found)) t → next ≡ emit (moveClause (records 3 s) p a p' q) t
     unfolding moveClause targets startsWith

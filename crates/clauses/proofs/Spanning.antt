@@ -8,11 +8,9 @@ use Prim.Native.Nat.{ℕ, zero, suc, _+_, _-_, _*_, _/_, _≤_, _<_, suc-le-suc,
 use native.Mathlib.Omega.{arith}
 use native.Mathlib.Numerals.{add-one}
 use native.Mathlib.Nat.{zero-add, suc-add, suc-mul, zero-mul, mul-le-mul-right, div-mul-le-self, div-zero, mul-div-cancel, add-mul}
-use native.Mathlib.Decide.{decLt}
 use lib.ListN.{length, getD, take, drop, length-take, length-drop, drop-of-length-le}
 use lib.Seq.{take-nil, drop-cons, drop-drop, getD-take, length-take-le, take-all, take-take}
-use lib.Dec.{ltb}
-use borrow.Author.Tests.{lt-ltb, le-ltb, eq-eqb, ne-eqb}
+use borrow.Author.Tests.{eq-eqb, ne-eqb}
 use Rattle.lists.specs.Lists.{keep, parts, same}
 use Rattle.lists.proofs.Parts.{length-parts, getD-parts}
 use Rattle.table.specs.File.{records}
@@ -24,46 +22,6 @@ use Rattle.table.proofs.Spans.{kept-span}
 
 one-on : (s : List ℕ) (i : ℕ) → i < length s → drop i s ≡ getD s i 0 ∷ drop (i + 1) s
 one-on s i h = rw add-one (drop-cons s i 0 h)
-
--- ---- two byte strings, side by side
-
-pub record Abreast (x y : List ℕ) (i : ℕ) : Type 0 where
-  pub left : i ≤ length x
-  pub right : i ≤ length y
-  pub meets : before x y ≡ before (drop i x) (drop i y)
-
-pub abreast : (x y : List ℕ) → Abreast x y 0
-abreast x y = record { left = omega arith; right = omega arith; meets = refl }
-
-module _ {x y : List ℕ} {i : ℕ} (w : Abreast x y i) where
-  pub longer : i < length x → length y ≤ i → false ≡ before x y
-  unfolding before
-  longer h k = sym (w .meets ∙ rw (one-on x i h, drop-of-length-le y k))
-
-  pub less : i < length x → i < length y → getD x i 0 < getD y i 0 → true ≡ before x y
-  unfolding before
-  less h k l = sym (w .meets ∙ rw (one-on x i h, one-on y i k, lt-ltb _ _ l))
-
-  pub more : i < length x → i < length y → getD y i 0 < getD x i 0 → false ≡ before x y
-  unfolding before
-  more h k l =
-      let g : getD y i 0 ≤ getD x i 0 = omega arith in
-      let d : getD x i 0 ≡ getD y i 0 → ⊥ = λ e. omega arith in
-      sym (w .meets ∙ rw (one-on x i h, one-on y i k, le-ltb _ _ g, ne-eqb _ _ d))
-
-  pub equal : i < length x → i < length y → getD y i 0 ≤ getD x i 0 → getD x i 0 ≤ getD y i 0 → Abreast x y (i + 1)
-  unfolding before
-  equal h k g l =
-      let e : getD x i 0 ≡ getD y i 0 = omega arith in
-      record { left = omega arith; right = omega arith; meets = w .meets ∙ rw (one-on x i h, one-on y i k, le-ltb _ _ g, eq-eqb _ _ e) }
-
-  pub ended : length x ≤ i → ltb i (length y) ≡ before x y
-  unfolding before
-  ended h = sym (w .meets ∙ ap (λ z. before z (drop i y)) (drop-of-length-le x h) ∙ go (decLt i (length y)))
-    where
-      go : Dec (i < length y) → before [] (drop i y) ≡ ltb i (length y)
-      go (yes l) = rw (one-on y i l, lt-ltb _ _ l)
-      go (no l) = let k : length y ≤ i = omega arith in rw (drop-of-length-le y k, le-ltb _ _ k)
 
 -- ---- a key and a record's first bytes
 

@@ -76,15 +76,28 @@ records-end w s at h = ap (λ k. parts k w (drop at s)) (div-eq-of-lt short)
 module _ (g : List ℕ → List (List ℕ)) (w : ℕ) (s : List ℕ) where
   pub record Along (all : List (List ℕ)) (start : State) (at : ℕ) (now : State) : Type 0 where
     pub inside : at ≤ length s
+    pub among : (r : List ℕ) → List·Memᴰ r (records w (drop at s)) → List·Memᴰ r (records w s)
     pub coming : Coming all start (gather g (records w (drop at s))) now
 
   pub along-all : (start : State) → Ordered (start .tally) → Along (gather g (records w s)) start 0 start
-  along-all start h = record { inside = omega arith; coming = coming _ start h }
+  along-all start h = record { inside = omega arith; among = λ r m. m; coming = coming _ start h }
 
 module _ {g : List ℕ → List (List ℕ)} {w : ℕ} {s : List ℕ} {all : List (List ℕ)} {start : State} {at : ℕ} {now : State} (i : Along g w s all start at now) where
-  pub along-on : {next : State} → 0 < w → w ≤ length s - at → next ≡ emit (g (take w (drop at s))) now → Along g w s all start (at + w) next
-  unfolding gather
-  along-on p h e = record { inside = omega (arith, i); coming = come-on (g (take w (drop at s))) _ (come-as (ap (gather g) (records-cons w s at p (omega (arith, i)))) (i .coming)) e }
+  module _ (p : 0 < w) (h : w ≤ length s - at) where
+    here : records w (drop at s) ≡ take w (drop at s) ∷ records w (drop (at + w) s)
+    here = records-cons w s at p (omega (arith, i))
+
+    -- the record at the place
+    pub along-here : List·Memᴰ (take w (drop at s)) (records w s)
+    along-here = i .among (take w (drop at s)) (rw here (List·Memᴰ·head refl))
+
+    pub along-on : {next : State} → next ≡ emit (g (take w (drop at s))) now → Along g w s all start (at + w) next
+    unfolding gather
+    along-on e = record {
+      inside = omega (arith, i);
+      among = λ r m. i .among r (rw here (List·Memᴰ·tail m));
+      coming = come-on (g (take w (drop at s))) _ (come-as (ap (gather g) here) (i .coming)) e;
+    }
 
   pub along-done : length s - at < w → now ≡ emit all start
   unfolding gather

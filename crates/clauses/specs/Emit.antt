@@ -2,19 +2,23 @@
 -- written one behind the other. Assumes nothing.
 use mathlib.Core.Path.{_≡_}
 use mathlib.Core.Bool.{Bool, true, false, _&&_}
-use mathlib.Core.List.{List, [], _∷_, _++_, map, List·Memᴰ}
+use mathlib.Core.List.{List, [], _∷_, _++_, map}
 use Prim.Native.Nat.{ℕ, _+_, _-_, _≤_, _<_}
 use lib.ListN.{length, getD, take, drop}
 use lib.Dec.{ltb, leb, eqb}
-use Rattle.lists.specs.Lists.{mem, over}
+use Rattle.lists.specs.Lists.{mem, over, gather, keep, upto}
+use Rattle.lists.specs.Bits.{has}
 use Rattle.table.specs.File.{Table, records}
 use Rattle.table.specs.Reading.{ascend}
 use Rattle.table.specs.Language.{byteOf, look}
+use Rattle.tops.specs.Tops.{live}
+use Rattle.tops.specs.Sections.{Section}
+use Rattle.clauses.specs.declared.returns.Return.{Return}
 use Rattle.clauses.specs.declared.variables.Found.{Found}
 use Rattle.clauses.specs.declared.literals.Literals.{Literals}
 use Rattle.clauses.specs.declared.emit.Tally.{Tally}
 use Rattle.clauses.specs.Pairs.{Pair}
-use Rattle.clauses.specs.Clauses.{together, apart, opposite}
+use Rattle.clauses.specs.Clauses.{together, apart, opposite, returnClause, topStates}
 
 abbrev pub pairFound : Found → Pair
 pairFound f = record { low = f .low; high = f .high }
@@ -95,7 +99,25 @@ lookClause t p q = elim (eqb (look (byteOf t p)) (look (byteOf t q))) [ true ↦
 abbrev pub lastBytes : ℕ → List ℕ → List ℕ
 lastBytes w s = map (λ r. getD r (w - 1) 0) (records w s)
 
--- a section of records of w bytes that ascend and whose targets are states
+-- a section of records of w bytes that ascend and that name states
 pub record Sorted (w : ℕ) (s : List ℕ) : Type 0 where
   pub ascends : ascend (records w s) ≡ true
-  pub few : (r : List ℕ) → List·Memᴰ r (records w s) → getD r (w - 1) 0 < 24
+  pub names : Section w 24 s
+
+-- group 5: the clause of a return, a state and a top
+abbrev pub returnOf : List (List ℕ) → Return → ℕ → ℕ → List (List ℕ)
+returnOf rs x q u = returnClause rs (x .from) (x .symbol) (x .under) (x .to) q u
+
+-- the clauses of one record under the tops, which has none where it is dead
+unfoldable pub liveRecord : List (List ℕ) → List ℕ → ℕ → Return → List (List ℕ)
+liveRecord rs f n x = elim (has f (x .from) (x .under)) [
+  | true ↦ gather (λ q. gather (λ u. returnOf rs x q u) (topStates f n q)) (upto n)
+  | false ↦ []
+]
+
+-- the whole group, by the tops, the records and how many states there are
+unfoldable pub returnClausesBy : List ℕ → List (List ℕ) → ℕ → List (List ℕ)
+returnClausesBy f rs n =
+    gather (λ r. gather (λ q. gather (λ u.
+    returnClause rs (getD r 0 0) (getD r 1 0) (getD r 2 0) (getD r 3 0) q u)
+    (topStates f n q)) (upto n)) (keep (live f) rs)

@@ -3,6 +3,7 @@ mod emit;
 mod literals;
 mod matched;
 mod moves;
+mod returns;
 mod states;
 mod targets;
 mod variables;

@@ -2,7 +2,7 @@
 use Prim.Native.Nat.{_-_}
 use lib.ListN.{length}
 use borrow.Author.Needs.{needs}
-use Rattle.clauses.proofs.Spanning.{Abreast, abreast, longer, less, more, equal, ended}
+use Rattle.table.proofs.Walks.{Abreast, abreast, longer, less, more, equal, ended}
 use Rattle.clauses.proofs.targets.stands_before.Statement.{statement}
 use Rattle.clauses.proofs.targets.stands_before.Tie as tie
 use Rattle.clauses.proofs.targets.stands_before.Reads as reads

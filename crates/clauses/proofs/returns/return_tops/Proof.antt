@@ -1,0 +1,73 @@
+-- `clauses::returns::return_tops` meets its contract: the tops so far have their clauses. Assumes nothing.
+use native.Mathlib.Omega.{arith}
+use mathlib.Core.Path.{sym, _∙_}
+use borrow.Author.Needs.{needs}
+use Rattle.lists.specs.Lists.{gather, keep, upto}
+use Rattle.lists.specs.Bits.{hasBit}
+use Rattle.table.specs.File.{records}
+use Rattle.clauses.specs.Emit.{returnOf, state}
+use Rattle.clauses.proofs.Returning.{Toward, toward, toward-less, toward-on, toward-past, toward-done}
+use Rattle.clauses.proofs.returns.return_tops.Statement.{statement}
+use Rattle.clauses.proofs.returns.return_tops.Tie as tie
+use Rattle.clauses.proofs.returns.return_tops.Reads as reads
+use Rattle.clauses.proofs.returns.return_tops.Lts as lts
+use Rattle.clauses.proofs.returns.return_clause.Reads as return-clause-reads
+use Rattle.tops.proofs.later_tops.Reads as later-tops-reads
+use Rattle.tops.proofs.next_top.Reads as next-top-reads
+
+abbrev Inv-tops : tie.InvT-tops
+Inv-tops section x q word count list₀ at₀ rest₀ list at rest = Toward (λ u. returnOf (records 4 section) x q u) count (gather (λ u. returnOf (records 4 section) x q u) (keep (hasBit word) (upto count))) (state at₀ list₀) rest (state at list)
+
+abbrev μ-tops : tie.MeasureT-tops
+μ-tops section x q word count list₀ at₀ rest₀ list at rest = rest
+
+tops-holds : tie.Need-tops-holds Inv-tops μ-tops
+tops-holds c = toward _ _ _ _ (search needs) (c .before .before .pre .1)
+
+next-top-requires : tie.Need-next-top-requires Inv-tops μ-tops
+next-top-requires c κs = search needs
+
+same-length : tie.Need-same-length Inv-tops μ-tops
+same-length c = c .before .before .before .tops .inv .coming .long
+
+returns : tie.Need-returns Inv-tops μ-tops
+returns c = toward-past (c .before .before .before .tops .inv) (c .before .before .tops-test .taken) (c .before .next-top .ensures) (c .if1 .taken)
+
+cast-return-clause : tie.Need-cast-return-clause Inv-tops μ-tops
+cast-return-clause c = search needs
+
+return-clause-requires : tie.Need-return-clause-requires Inv-tops μ-tops
+return-clause-requires c κs = (c .before .before .before .before .before .before .before .pre .0, c .before .before .before .before .tops .inv .coming .ordered)
+
+later-tops-requires : tie.Need-later-tops-requires Inv-tops μ-tops
+later-tops-requires c κs = search needs
+
+tops-less : tie.Need-tops-less Inv-tops μ-tops
+tops-less c = let k = toward-less (c .before .before .before .before .before .before .before .before .tops .inv) (c .before .before .before .before .before .before .before .tops-test .taken) (c .before .before .before .before .before .before .next-top .ensures) in omega (arith, c .later-tops .ensures)
+
+tops-again : tie.Need-tops-again Inv-tops μ-tops
+tops-again c = toward-on (c .before .before .before .before .before .before .before .before .tops .inv) (c .before .before .before .before .before .before .before .tops-test .taken) (c .before .before .before .before .before .before .next-top .ensures) (c .before .before .before .before .before .if1 .left) (c .before .before .before .return-clause .ensures) (c .later-tops .ensures)
+
+same-length-2 : tie.Need-same-length-2 Inv-tops μ-tops
+same-length-2 c = c .before .tops .inv .coming .long
+
+returns-2 : tie.Need-returns-2 Inv-tops μ-tops
+returns-2 c = toward-done (c .before .tops .inv) (c .tops-test .left)
+
+pub return-tops-spec : {M : Type 1} → statement M
+return-tops-spec =
+    tie.close
+    (tie.spec
+    Inv-tops
+    μ-tops
+    tops-holds
+    next-top-requires
+    same-length
+    returns
+    cast-return-clause
+    return-clause-requires
+    later-tops-requires
+    tops-less
+    tops-again
+    same-length-2
+    returns-2)
