@@ -70,13 +70,13 @@ unfolding emit emitOne
 emit-full [] s h = refl
 emit-full (c ∷ cs) s h = rw (lt-ltb _ _ h, emitOne) (emit-full cs s h)
 
-length-place : (k : ℕ) (xs list : List ℕ) → k + length xs ≤ length list → length (place k xs list) ≡ length list
+pub length-place : (k : ℕ) (xs list : List ℕ) → k + length xs ≤ length list → length (place k xs list) ≡ length list
 unfolding place
 length-place k xs list h =
     let d = length-drop k list in
     omega (arith, length-append (take k list) (over xs (drop k list)), length-take-le k list (omega arith), length-over xs (drop k list) (omega arith))
 
-length-written : (t : Tally) (c list : List ℕ) → length (written t c list) ≡ length list
+pub length-written : (t : Tally) (c list : List ℕ) → length (written t c list) ≡ length list
 unfolding written
 length-written t c list = go (t .write && leb (t .words + 1 + length c) (length list)) refl
   where

@@ -17,3 +17,5 @@ pub mod Spanning
 pub mod Few
 pub mod Moving
 pub mod Returning
+pub mod Writing
+pub mod Whole

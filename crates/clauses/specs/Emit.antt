@@ -13,12 +13,15 @@ use Rattle.table.specs.Reading.{ascend}
 use Rattle.table.specs.Language.{byteOf, look}
 use Rattle.tops.specs.Tops.{live}
 use Rattle.tops.specs.Sections.{Section}
+use Rattle.cnf.specs.Clauses.{wordsOf}
+use Rattle.clauses.specs.declared.Listed.{Listed}
+use Rattle.clauses.specs.declared.Listed.the-variants.{List as Words, Refused}
 use Rattle.clauses.specs.declared.returns.Return.{Return}
 use Rattle.clauses.specs.declared.variables.Found.{Found}
 use Rattle.clauses.specs.declared.literals.Literals.{Literals}
 use Rattle.clauses.specs.declared.emit.Tally.{Tally}
 use Rattle.clauses.specs.Pairs.{Pair}
-use Rattle.clauses.specs.Clauses.{together, apart, opposite, returnClause, topStates}
+use Rattle.clauses.specs.Clauses.{together, apart, opposite, lookClauses, transitivity, moveClauses, returnClause, topStates, ClausesDone}
 
 abbrev pub pairFound : Found → Pair
 pairFound f = record { low = f .low; high = f .high }
@@ -121,3 +124,28 @@ returnClausesBy f rs n =
     gather (λ r. gather (λ q. gather (λ u.
     returnClause rs (getD r 0 0) (getD r 1 0) (getD r 2 0) (getD r 3 0) q u)
     (topStates f n q)) (upto n)) (keep (live f) rs)
+
+-- ---- the whole list
+
+-- at most 24 states, and sections that ascend and name states
+pub record Ready (states internals calls returns : List ℕ) : Type 0 where
+  pub few : length states ≤ 24
+  pub internals-sorted : Sorted 3 internals
+  pub calls-sorted : Sorted 3 calls
+  pub returns-sorted : Sorted 4 returns
+
+-- the list of a table's four sections under its tops
+unfoldable pub listBy : List ℕ → List ℕ → List ℕ → List ℕ → List ℕ → List (List ℕ)
+listBy states internals calls returns tops =
+    lookClauses (statesOnly states)
+    ++ transitivity (statesOnly states)
+    ++ moveClauses (records 3 internals) (length states)
+    ++ moveClauses (records 3 calls) (length states)
+    ++ returnClausesBy tops (records 4 returns) (length states)
+
+-- the answer and the buffer for a list
+unfoldable pub listedBy : List (List ℕ) → List ℕ → ClausesDone
+listedBy cs list = elim (leb (length (wordsOf cs)) (length list)) [
+  | true ↦ record { answer = Words (length cs) (length (wordsOf cs)); list = over (wordsOf cs) list }
+  | false ↦ record { answer = Refused 10; list = list }
+]

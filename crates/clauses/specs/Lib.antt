@@ -2,3 +2,4 @@ pub mod Pairs
 pub mod Clauses
 pub mod Maps
 pub mod Emit
+pub mod Demands

@@ -1,4 +1,19 @@
 // The clauses of a table.
+ghost use mathlib.Core.Path.{_≡_};
+ghost use Rattle.table.specs.Limits.{standard};
+ghost use Rattle.table.specs.File.{tableOf};
+ghost use Rattle.table.specs.Reading.{Readable, startsOf};
+ghost use Rattle.tops.specs.Tops.{topWords};
+ghost use Rattle.clauses.specs.Clauses.{clausesOf};
+ghost use Rattle.clauses.specs.Emit.{state, Ordered, emit, Ready, listBy, listedBy};
+ghost use Rattle.clauses.specs.Demands.{Sound};
+use emit::Tally;
+use moves::moves;
+use returns::live_returns;
+use states::looks_apart;
+use states::transitive;
+use table::Starts;
+
 mod emit;
 mod literals;
 mod matched;
@@ -8,13 +23,97 @@ mod states;
 mod targets;
 mod variables;
 
-pub use variables::Found;
-pub use variables::pair_of;
-pub use variables::pairs_of;
-
 // What writing the clause list answers.
 pub enum Listed {
     List { clauses: usize, words: usize },
     // 1 to 8, 10
     Refused(u8),
+}
+
+// "The list, in this order".
+fn all_groups(
+    states: &[u8],
+    internals: &[u8],
+    calls: &[u8],
+    returns: &[u8],
+    tops: &[u32; 24],
+    tally: Tally,
+    list: &mut [u16],
+) -> Tally
+    requires { ⌜ Ready (now states) (now internals) (now calls) (now returns) × Ordered tally ⌝ }
+    ensures { λ r. ⌜ state r (now (list .exit)) ≡ emit (listBy (now (states .entry)) (now (internals .entry)) (now (calls .entry)) (now (returns .entry)) (now (tops .entry))) (state tally (now (list .entry))) ⌝ }
+{
+    let count = states.len() as u8;
+    let first = looks_apart(states, tally, list);
+    let second = transitive(states, first, list);
+    let third = moves(internals, count, second, list);
+    let fourth = moves(calls, count, third, list);
+    live_returns(returns, tops, count, fourth, list)
+}
+
+// The list is measured, and written where it fits.
+fn list_sections(
+    states: &[u8],
+    internals: &[u8],
+    calls: &[u8],
+    returns: &[u8],
+    tops: &[u32; 24],
+    list: &mut [u16],
+) -> Listed
+    requires { ⌜ Ready (now states) (now internals) (now calls) (now returns) ⌝ }
+    ensures { λ r. ⌜ record { answer = r; list = now (list .exit) } ≡ listedBy (listBy (now (states .entry)) (now (internals .entry)) (now (calls .entry)) (now (returns .entry)) (now (tops .entry))) (now (list .entry)) ⌝ }
+{
+    let measuring = Tally {
+        write: false,
+        clauses: 0,
+        words: 0,
+    };
+    let measured = all_groups(states, internals, calls, returns, tops, measuring, list);
+    if list.len() < measured.words {
+        return Listed::Refused(10);
+    }
+    let writing = Tally {
+        write: true,
+        clauses: 0,
+        words: 0,
+    };
+    let written = all_groups(states, internals, calls, returns, tops, writing, list);
+    Listed::List {
+        clauses: written.clauses,
+        words: written.words,
+    }
+}
+
+// The list of a table that was read: its sections are handed on as parts of the file.
+fn list_read(table: &[u8], starts: Starts, tops: &[u32; 24], list: &mut [u16]) -> Listed
+    requires { ⌜ Readable standard (now table) × (starts ≡ startsOf (now table)) × (now tops ≡ topWords standard (tableOf (now table))) ⌝ }
+    ensures { λ r. ⌜ record { answer = r; list = now (list .exit) } ≡ clausesOf standard (now (table .entry)) (now (list .entry)) ⌝ }
+{
+    let end = table.len() - 12;
+    let states = starts.states;
+    let internals = starts.internals;
+    let calls = starts.calls;
+    let returns = starts.returns;
+    list_sections(
+        &table[states..internals],
+        &table[internals..calls],
+        &table[calls..returns],
+        &table[returns..end],
+        tops,
+        list,
+    )
+}
+
+// The clause list of a table.
+pub fn clauses(table: &[u8], list: &mut [u16]) -> Listed
+    ensures { λ r. ⌜ record { answer = r; list = now (list .exit) } ≡ clausesOf standard (now (table .entry)) (now (list .entry)) ⌝ }
+    ensures sound { λ r. ⌜ Sound standard (now (table .entry)) (now (list .exit)) r ⌝ }
+{
+    let e = tops::examine(table);
+    if e.number != 0 {
+        return Listed::Refused(e.number);
+    }
+    let words = e.words;
+    let starts = e.starts;
+    list_read(table, starts, &words, list)
 }

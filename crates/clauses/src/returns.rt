@@ -130,7 +130,7 @@ fn live_record(
 }
 
 // 5. "For each live return (p, r, s, p') in order". No further once the list is too short.
-pub(crate) fn returns(
+pub(crate) fn live_returns(
     section: &[u8],
     tops: &[u32; 24],
     count: u8,

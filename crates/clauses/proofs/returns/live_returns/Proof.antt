@@ -1,4 +1,4 @@
--- `clauses::returns::returns` meets its contract: the records so far have their clauses. Assumes nothing.
+-- `clauses::returns::live_returns` meets its contract: the records so far have their clauses. Assumes nothing.
 use Prim.Native.Nat.{_-_}
 use native.Mathlib.Omega.{arith}
 use lib.ListN.{length}
@@ -8,10 +8,10 @@ use Rattle.clauses.specs.Emit.{liveRecord, returnClausesBy, state}
 use Rattle.clauses.proofs.Emitting.{come-full}
 use Rattle.clauses.proofs.Stepping.{Along, along-done}
 use Rattle.clauses.proofs.Returning.{fieldsOf, return-all, from-few, under-few, return-turn}
-use Rattle.clauses.proofs.returns.returns.Statement.{statement}
-use Rattle.clauses.proofs.returns.returns.Tie as tie
-use Rattle.clauses.proofs.returns.returns.Reads as reads
-use Rattle.clauses.proofs.returns.returns.Lts as lts
+use Rattle.clauses.proofs.returns.live_returns.Statement.{statement}
+use Rattle.clauses.proofs.returns.live_returns.Tie as tie
+use Rattle.clauses.proofs.returns.live_returns.Reads as reads
+use Rattle.clauses.proofs.returns.live_returns.Lts as lts
 use Rattle.clauses.proofs.returns.live_record.Reads as live-record-reads
 
 abbrev Inv-records : tie.InvT-records
@@ -71,8 +71,8 @@ same-length-2 c = c .before .records .inv .coming .long
 returns-2 : tie.Need-returns-2 Inv-records μ-records
 returns-2 c = along-done (c .before .records .inv) (c .records-test .left)
 
-pub returns-spec : {M : Type 1} → statement M
-returns-spec =
+pub live-returns-spec : {M : Type 1} → statement M
+live-returns-spec =
     tie.close
     (tie.spec
     Inv-records

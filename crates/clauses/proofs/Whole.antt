@@ -1,0 +1,186 @@
+-- The clause list of a table that was read: its groups one behind the other, its sections as parts of the file, its answer, and what the written list
+-- is worth (demand 3). Assumes nothing.
+use mathlib.Core.Path.{_≡_, refl, sym, ap, _∙_, subst}
+use mathlib.Core.Logic.{_≢_}
+use mathlib.Core.Bool.{Bool, true, false}
+use mathlib.Core.List.{List, [], _∷_, _++_}
+use Prim.Native.Nat.{ℕ, _-_, _≤_}
+use native.Mathlib.Omega.{arith}
+use lib.ListN.{length, take, drop, replicate}
+use lib.Seq.{slice, take-append-seam}
+use lib.Dec.{eqb, leb}
+use borrow.Author.Tests.{eq-eqb, ne-eqb, eqb-true, eqb-false}
+use Rattle.lists.specs.Lists.{over}
+use Rattle.cnf.specs.Clauses.{Model, clausesIn, wordsOf}
+use Rattle.cnf.proofs.Words.{clauses-words}
+use Rattle.table.specs.Limits.{standard}
+use Rattle.table.specs.File.{trailer, start, tableOf, records}
+use Rattle.table.specs.Reading.{readNumber, Readable, startsOf}
+use Rattle.table.specs.Language.{count}
+use Rattle.table.specs.declared.Starts.{Starts}
+use Rattle.table.proofs.Passed.{Tested, formed-tested}
+use Rattle.table.proofs.Bytes.{read-well-formed}
+use Rattle.table.proofs.Numbers.{part}
+use Rattle.tops.specs.Tops.{topWords, topCount, liveReturns}
+use Rattle.tops.specs.Demands.{examinedOf}
+use Rattle.tops.specs.declared.Examined.{Examined}
+use Rattle.tops.proofs.Loops.{section-within}
+use Rattle.tops.proofs.Read.{ordered, sections-read}
+use Rattle.maps.specs.Check.{checkNumber}
+use Rattle.clauses.specs.declared.Listed.{Listed}
+use Rattle.clauses.specs.declared.Listed.the-variants.{List as Words, Refused}
+use Rattle.clauses.specs.Pairs.{pairs}
+use Rattle.clauses.specs.Maps.{mapOf}
+use Rattle.clauses.specs.Clauses.{lookClauses, transitivity, moveClauses, returnClauses, clauseList, clauseWords, clausesNumber, ClausesDone, clausesOf}
+use Rattle.clauses.specs.Emit.{State, emit, statesOnly, returnClausesBy, Ready, listBy, listedBy}
+use Rattle.clauses.specs.Demands.{Sound}
+use Rattle.clauses.proofs.Emitting.{emit-append}
+use Rattle.clauses.proofs.Theorems.{model-accepted}
+
+-- ---- the groups in their order
+
+pub groups : (states internals calls returns tops : List ℕ) (s : State) {s1 s2 s3 s4 s5 : State}
+    → s1 ≡ emit (lookClauses (statesOnly states)) s → s2 ≡ emit (transitivity (statesOnly states)) s1
+    → s3 ≡ emit (moveClauses (records 3 internals) (length states)) s2 → s4 ≡ emit (moveClauses (records 3 calls) (length states)) s3
+    → s5 ≡ emit (returnClausesBy tops (records 4 returns) (length states)) s4
+    → s5 ≡ emit (listBy states internals calls returns tops) s
+unfolding listBy
+groups states internals calls returns tops s e1 e2 e3 e4 e5 =
+    let look = lookClauses (statesOnly states) in
+    let close = transitivity (statesOnly states) in
+    let in-moves = moveClauses (records 3 internals) (length states) in
+    let call-moves = moveClauses (records 3 calls) (length states) in
+    let pops = returnClausesBy tops (records 4 returns) (length states) in
+    e5
+    ∙ ap (emit pops) (e4 ∙ ap (emit call-moves) (e3 ∙ ap (emit in-moves) (e2 ∙ ap (emit close) e1 ∙ sym (emit-append look close s)) ∙ sym (emit-append (look ++ close) in-moves s)) ∙ sym (emit-append (look ++ close ++ in-moves) call-moves s))
+    ∙ sym (emit-append (look ++ close ++ in-moves ++ call-moves) pops s)
+
+-- ---- a refusal
+
+refused : (b list : List ℕ) {k : ℕ} → clausesNumber standard b list ≡ k → k ≢ 0 → record { answer = Refused k; list = list } ≡ clausesOf standard b list
+unfolding clausesOf
+refused b list e n =
+    let z : eqb (clausesNumber standard b list) 0 ≡ false = ne-eqb _ _ (λ q. n (sym e ∙ q)) in
+    rw (z, clausesOf) (λ i. record { answer = Refused (sym e i); list = list })
+
+-- ---- the parts of the file
+
+module _ (b : List ℕ) (readable : Readable standard b) where
+  tested : Tested standard (tableOf b)
+  tested = formed-tested (read-well-formed standard b readable)
+
+  ready : Ready (slice (start b 1) (start b 2) b) (slice (start b 2) (start b 3) b) (slice (start b 3) (start b 4) b) (slice (start b 4) (trailer b) b)
+  unfolding tableOf
+  ready =
+      let s = sections-read b readable in
+      record {
+        few = s .few;
+        internals-sorted = record { ascends = tested .internals-ascend; names = section-within (s .few) (s .internals-whole) };
+        calls-sorted = record { ascends = tested .calls-ascend; names = section-within (s .few) (s .calls-whole) };
+        returns-sorted = record { ascends = tested .returns-ascend; names = section-within (s .few) (s .returns-whole) };
+      }
+
+  whole : listBy (slice (start b 1) (start b 2) b) (slice (start b 2) (start b 3) b) (slice (start b 3) (start b 4) b) (slice (start b 4) (trailer b) b) (topWords standard (tableOf b)) ≡ clauseList standard (tableOf b)
+  unfolding listBy clauseList lookClauses transitivity returnClauses returnClausesBy liveReturns tableOf
+  whole = refl
+
+module _ (b : List ℕ) (s : Starts) (readable : Readable standard b) (starts : s ≡ startsOf b) where
+  states-part : take (s .internals - s .states) (drop (s .states) b) ≡ slice (start b 1) (start b 2) b
+  unfolding startsOf
+  states-part = part (s .states) (s .internals) b (ordered b s readable starts .states) ∙ (λ i. slice (starts i .states) (starts i .internals) b)
+
+  internals-part : take (s .calls - s .internals) (drop (s .internals) b) ≡ slice (start b 2) (start b 3) b
+  unfolding startsOf
+  internals-part = part (s .internals) (s .calls) b (ordered b s readable starts .internals) ∙ (λ i. slice (starts i .internals) (starts i .calls) b)
+
+  calls-part : take (s .returns - s .calls) (drop (s .calls) b) ≡ slice (start b 3) (start b 4) b
+  unfolding startsOf
+  calls-part = part (s .calls) (s .returns) b (ordered b s readable starts .calls) ∙ (λ i. slice (starts i .calls) (starts i .returns) b)
+
+  returns-part : take (length b - 12 - s .returns) (drop (s .returns) b) ≡ slice (start b 4) (trailer b) b
+  unfolding startsOf trailer
+  returns-part = part (s .returns) (length b - 12) b (ordered b s readable starts .returns) ∙ (λ i. slice (starts i .returns) (length b - 12) b)
+
+  pub parts-ready : Ready (take (s .internals - s .states) (drop (s .states) b)) (take (s .calls - s .internals) (drop (s .internals) b)) (take (s .returns - s .calls) (drop (s .calls) b)) (take (length b - 12 - s .returns) (drop (s .returns) b))
+  parts-ready = rw (states-part, internals-part, calls-part, returns-part) (ready b readable)
+
+  -- ---- the answer
+
+  listed : (list : List ℕ) → listedBy (clauseList standard (tableOf b)) list ≡ clausesOf standard b list
+  unfolding listedBy clausesOf clausesNumber clauseWords
+  listed list = go (leb (length (wordsOf (clauseList standard (tableOf b)))) (length list)) refl
+    where
+      go : (t : Bool) → leb (length (wordsOf (clauseList standard (tableOf b)))) (length list) ≡ t → listedBy (clauseList standard (tableOf b)) list ≡ clausesOf standard b list
+      go true h = rw (h, listedBy, clausesOf, clausesNumber, eq-eqb (readNumber standard b) 0 readable, h)
+      go false h =
+          let n : clausesNumber standard b list ≡ 10 = rw (eq-eqb (readNumber standard b) 0 readable, clausesNumber, h) in
+          rw (h, listedBy) (refused b list n (omega arith))
+
+  pub parts-listed : (tops list : List ℕ) {d : ClausesDone} → tops ≡ topWords standard (tableOf b)
+      → d ≡ listedBy (listBy (take (s .internals - s .states) (drop (s .states) b)) (take (s .calls - s .internals) (drop (s .internals) b)) (take (s .returns - s .calls) (drop (s .calls) b)) (take (length b - 12 - s .returns) (drop (s .returns) b)) tops) list
+      → d ≡ clausesOf standard b list
+  parts-listed tops list e f =
+      f
+      ∙ (λ i. listedBy (listBy (states-part i) (internals-part i) (calls-part i) (returns-part i) (e i)) list)
+      ∙ ap (λ cs. listedBy cs list) (whole b readable)
+      ∙ listed list
+
+-- ---- reading first
+
+module _ (b : List ℕ) {x : Examined} (e : x ≡ examinedOf standard b) where
+  pub record Read : Type 0 where
+    pub readable : Readable standard b
+    pub starts : x .starts ≡ startsOf b
+    pub words : x .words ≡ topWords standard (tableOf b)
+
+  pub read : x .number ≡ 0 → Read
+  unfolding examinedOf
+  read h = go (eqb (readNumber standard b) 0) refl e
+    where
+      go : (t : Bool) → eqb (readNumber standard b) 0 ≡ t → x ≡ elim t [
+        | true ↦ record { number = 0; starts = startsOf b; words = topWords standard (tableOf b); found = topCount standard (tableOf b) }
+        | false ↦ record { number = readNumber standard b; starts = record { symbols = 0; states = 0; internals = 0; calls = 0; returns = 0 }; words = replicate 24 0; found = 0 }
+      ] → Read
+      go true p f = record { readable = eqb-true _ _ p; starts = ap (λ (y : Examined). y .starts) f; words = ap (λ (y : Examined). y .words) f }
+      go false p f = absurd (eqb-false _ _ p (sym (ap (λ (y : Examined). y .number) f) ∙ h))
+
+  pub unread : (list : List ℕ) → x .number ≢ 0 → record { answer = Refused (x .number); list = list } ≡ clausesOf standard b list
+  unfolding examinedOf clausesOf clausesNumber
+  unread list h = go (eqb (readNumber standard b) 0) refl e
+    where
+      go : (t : Bool) → eqb (readNumber standard b) 0 ≡ t → x ≡ elim t [
+        | true ↦ record { number = 0; starts = startsOf b; words = topWords standard (tableOf b); found = topCount standard (tableOf b) }
+        | false ↦ record { number = readNumber standard b; starts = record { symbols = 0; states = 0; internals = 0; calls = 0; returns = 0 }; words = replicate 24 0; found = 0 }
+      ] → record { answer = Refused (x .number); list = list } ≡ clausesOf standard b list
+      go true p f = absurd (h (ap (λ (y : Examined). y .number) f))
+      go false p f =
+          let n : clausesNumber standard b list ≡ readNumber standard b = rw (p, clausesNumber) in
+          refused b list (n ∙ sym (ap (λ (y : Examined). y .number) f)) h
+
+-- ---- demand 3
+
+-- where the answer is a list, the bytes were read and the words fit
+fit : (b list : List ℕ) → clausesNumber standard b list ≡ 0 → Readable standard b
+unfolding clausesNumber
+fit b list e = go (eqb (readNumber standard b) 0) refl e
+  where
+    go : (t : Bool) → eqb (readNumber standard b) 0 ≡ t → _≡_ {A = ℕ} (elim t [ true ↦ elim (leb (length (clauseWords standard (tableOf b))) (length list)) [ true ↦ 0 | false ↦ 10 ] | false ↦ readNumber standard b ]) 0 → Readable standard b
+    go true p f = eqb-true _ _ p
+    go false p f = f
+
+sound : (b list : List ℕ) → Sound standard b (clausesOf standard b list .list) (clausesOf standard b list .answer)
+unfolding clausesOf clauseWords over
+sound b list = go (eqb (clausesNumber standard b list) 0) refl
+  where
+    cs : List (List ℕ)
+    cs = clauseList standard (tableOf b)
+
+    there : clausesIn (take (length (wordsOf cs)) (wordsOf cs ++ drop (length (wordsOf cs)) list)) ≡ cs
+    there = ap clausesIn (take-append-seam (wordsOf cs) (drop (length (wordsOf cs)) list)) ∙ clauses-words cs
+
+    go : (t : Bool) → eqb (clausesNumber standard b list) 0 ≡ t → Sound standard b (clausesOf standard b list .list) (clausesOf standard b list .answer)
+    go true p = rw (p, clausesOf) (λ v m. model-accepted standard b (fit b list (eqb-true _ _ p)) v (subst (λ (ds : List (List ℕ)). Model ds (pairs (count (tableOf b))) v) there m))
+    go false p = rw (p, clausesOf) tt
+
+pub sound-of : (b list : List ℕ) {r : Listed} {list' : List ℕ} → record { answer = r; list = list' } ≡ clausesOf standard b list → Sound standard b list' r
+sound-of b list {r} {list'} e = subst (λ (d : ClausesDone). Sound standard b (d .list) (d .answer)) (sym e) (sound b list)

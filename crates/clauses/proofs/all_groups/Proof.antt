@@ -1,0 +1,50 @@
+-- `clauses::all_groups` meets its contract. Assumes nothing.
+use native.Mathlib.Omega.{arith}
+use Rattle.clauses.proofs.Emitting.{ordered-by}
+use Rattle.clauses.proofs.Whole.{groups}
+use borrow.Author.Needs.{needs}
+use Rattle.clauses.proofs.all_groups.Statement.{statement}
+use Rattle.clauses.proofs.all_groups.Tie as tie
+use Rattle.clauses.proofs.all_groups.Reads as reads
+use Rattle.clauses.proofs.all_groups.Lts as lts
+use Rattle.clauses.proofs.moves.moves.Reads as moves-reads
+use Rattle.clauses.proofs.returns.live_returns.Reads as live-returns-reads
+use Rattle.clauses.proofs.states.looks_apart.Reads as looks-apart-reads
+use Rattle.clauses.proofs.states.transitive.Reads as transitive-reads
+
+cast-count : tie.Need-cast-count
+cast-count c = search needs
+
+looks-apart-requires : tie.Need-looks-apart-requires
+looks-apart-requires c κs = search needs
+
+transitive-requires : tie.Need-transitive-requires
+transitive-requires c κs = (omega (arith, c .before .before .before .before .before .before .before .before .before .before .pre .0 .few), ordered-by _ _ (c .before .before .before .looks-apart .ensures) (c .before .before .before .before .before .before .before .before .before .before .pre .1))
+
+moves-requires : tie.Need-moves-requires
+moves-requires c κs = (c .before .before .before .before .before .before .before .before .before .before .before .before .before .before .pre .0 .internals-sorted, ordered-by _ _ (c .before .before .before .transitive .ensures) (ordered-by _ _ (c .before .before .before .before .before .before .before .looks-apart .ensures) (c .before .before .before .before .before .before .before .before .before .before .before .before .before .before .pre .1)))
+
+moves-requires-2 : tie.Need-moves-requires-2
+moves-requires-2 c κs = (c .before .before .before .before .before .before .before .before .before .before .before .before .before .before .before .before .before .before .pre .0 .calls-sorted, ordered-by _ _ (c .before .before .before .moves .ensures) (ordered-by _ _ (c .before .before .before .before .before .before .before .transitive .ensures) (ordered-by _ _ (c .before .before .before .before .before .before .before .before .before .before .before .looks-apart .ensures) (c .before .before .before .before .before .before .before .before .before .before .before .before .before .before .before .before .before .before .pre .1))))
+
+live-returns-requires : tie.Need-live-returns-requires
+live-returns-requires c κs = (c .before .before .before .before .before .before .before .before .before .before .before .before .before .before .before .before .before .before .before .before .before .before .pre .0 .returns-sorted, c .before .before .before .before .before .before .before .before .before .before .before .before .before .before .before .before .before .before .before .before .before .before .pre .0 .few, ordered-by _ _ (c .before .before .before .moves2 .ensures) (ordered-by _ _ (c .before .before .before .before .before .before .before .moves .ensures) (ordered-by _ _ (c .before .before .before .before .before .before .before .before .before .before .before .transitive .ensures) (ordered-by _ _ (c .before .before .before .before .before .before .before .before .before .before .before .before .before .before .before .looks-apart .ensures) (c .before .before .before .before .before .before .before .before .before .before .before .before .before .before .before .before .before .before .before .before .before .before .pre .1)))))
+
+same-length : tie.Need-same-length
+same-length c = search needs
+
+returns : tie.Need-returns
+returns c = groups (c .before .before .before .before .before .before .before .before .before .before .before .before .before .before .before .before .before .before .before .before .before .before .before .before .before .args .states .now) (c .before .before .before .before .before .before .before .before .before .before .before .before .before .before .before .before .before .before .before .before .before .before .before .before .before .args .internals .now) (c .before .before .before .before .before .before .before .before .before .before .before .before .before .before .before .before .before .before .before .before .before .before .before .before .before .args .calls .now) (c .before .before .before .before .before .before .before .before .before .before .before .before .before .before .before .before .before .before .before .before .before .before .before .before .before .args .returns .now) (c .before .before .before .before .before .before .before .before .before .before .before .before .before .before .before .before .before .before .before .before .before .before .before .before .before .args .tops .now) _ (c .before .before .before .before .before .before .before .before .before .before .before .before .before .before .before .before .before .before .looks-apart .ensures) (c .before .before .before .before .before .before .before .before .before .before .before .before .before .before .transitive .ensures) (c .before .before .before .before .before .before .before .before .before .before .moves .ensures) (c .before .before .before .before .before .before .moves2 .ensures) (c .before .before .live-returns .ensures)
+
+pub all-groups-spec : {M : Type 1} → statement M
+all-groups-spec =
+    tie.close
+    (tie.spec
+    cast-count
+    looks-apart-requires
+    transitive-requires
+    moves-requires
+    moves-requires-2
+    live-returns-requires
+    same-length
+    returns)
