@@ -3,25 +3,24 @@
 use mathlib.Core.Path.{_≡_, refl, sym, ap, _∙_, subst}
 use mathlib.Core.Logic.{_≢_, _⊎_, inl, inr}
 use mathlib.Core.Bool.{Bool, true, false}
-use mathlib.Core.List.{List, [], _∷_, _++_, List·Memᴰ, Memᴰ·append-left, Memᴰ·append-right, List·Memᴰ·head, List·Memᴰ·tail, List·Memᴰ·not-nil as not-nil, List·Memᴰ·append-cases as append-cases, List·Memᴰ·eq-of-singleton as eq-of-singleton}
+use mathlib.Core.List.{List, [], _∷_, _++_, List·Memᴰ, Memᴰ·append-left, List·Memᴰ·head, List·Memᴰ·tail, List·Memᴰ·not-nil as not-nil, List·Memᴰ·append-cases as append-cases, List·Memᴰ·eq-of-singleton as eq-of-singleton}
 use mathlib.Core.Option.{some}
 use Prim.Native.Nat.{ℕ, zero, suc, _+_, _-_, _/_, _%_, _*_, _≤_, _<_, zero-le}
 use native.Mathlib.Numerals.{add-one}
 use native.Mathlib.Omega.{arith}
 use native.Mathlib.Decide.{ℕ-discrete, decLt}
-use lib.ListN.{length, getD, set, replicate, take, drop, length-set, length-append, length-replicate, List·getD-append, take-append-drop}
-use lib.Seq.{slice, set-set, getD-set-same, getD-set-other, take-append-le, drop-append-le, take-append-seam, drop-append-seam, getD-append-seam, take-suc, take-suc-set, drop-cons, getD-take, take-take, length-take-le, take-all}
-use lib.Dec.{eqb}
+use lib.ListN.{length, getD, set, take, drop, length-set, length-append, List·getD-append, take-append-drop}
+use lib.Seq.{slice, getD-set-same, getD-set-other, take-append-le, drop-append-le, take-append-seam, drop-append-seam, getD-append-seam, take-suc, take-suc-set, drop-cons, getD-take, take-take, length-take-le}
 use borrow.Author.Tests.{eq-eqb, ne-eqb}
 use Rattle.cnf.specs.Clauses.{valueOf, clausesIn}
-use Rattle.cnf.specs.Search.{Next, goes, ends, Outcome, solved, none-exists, spent, Guess, undo, decide, lowestUnset, searchFrom}
-use Rattle.cnf.proofs.Values.{Formed, Values, _⊑_, set-cases, set-values, start-values, unsetCount, unset-set, unset-start, none-set}
+use Rattle.cnf.specs.Search.{goes, Outcome, solved, none-exists, spent, Guess, undo, decide, lowestUnset, searchFrom}
+use Rattle.cnf.proofs.Values.{Formed, Values, set-values, start-values, unsetCount, unset-set, unset-start, none-set}
 use Rattle.cnf.proofs.Found.{lowest-some, lowest-none}
 use Rattle.cnf.proofs.Steps.{stateOf, guessOf}
 use Rattle.cnf.proofs.Closure.{breaks, rests, Closes, turnTo, LeadsTo, there, turn, atStart, turns-search}
-use Rattle.search.specs.Trail.{unsetting, Ready, Grown, Settles, closedBy}
+use Rattle.search.specs.Trail.{unsetting, Ready, Grown, Settles}
 use Rattle.search.specs.Turns.{NextUnset, Undoable, Undone, Fresh}
-use Rattle.search.proofs.Trails.{unsetting-append, length-unsetting, unsetting-values, unsetting-store, grown-length, grown-store}
+use Rattle.search.proofs.Trails.{unsetting-append, length-unsetting, unsetting-store, grown-length, grown-store}
 
 -- ---- the guesses that stand
 

@@ -2,9 +2,9 @@
 use mathlib.Core.Path.{_≡_}
 use mathlib.Core.Logic.{_≢_}
 use mathlib.Core.Bool.{true}
-use mathlib.Core.List.{List, List·Memᴰ}
+use mathlib.Core.List.{List}
 use Prim.Native.Nat.{ℕ, _≤_, _<_}
-use lib.ListN.{length, getD, set, replicate, take}
+use lib.ListN.{length, getD, set, replicate}
 use lib.Seq.{slice}
 use Rattle.cnf.specs.Clauses.{valueOf, clausesIn}
 use Rattle.cnf.specs.Search.{Outcome, solved, none-exists, spent}
