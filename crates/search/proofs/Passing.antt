@@ -122,9 +122,9 @@ pub record Within (ws v : List ℕ) (first end at unset last : ℕ) : Type 0 whe
   pub below : (l : ℕ) → List·Memᴰ l (slice at end ws) → l / 2 < length v
   pub meets : seen v (slice first end ws) ≡ seenFrom v (oneOf unset last) (slice at end ws)
 
-module _ {ws v₀ t₀ : List ℕ} {start : ℕ} (ready : Ready ws v₀ t₀ start) where
-  pub before-all : Between ws v₀ t₀ start v₀ t₀ start 0
-  before-all = record { inside = omega arith; grown = grown-none (ready .counted); units = stay; all-there = ready .all-there; part = λ c m. m; resting = λ e h. h }
+module _ {ws v₀ t₀ : List ℕ} {start : ℕ} (ready : Ready (clausesIn ws) v₀ t₀ start) where
+  pub before-all : whole ws ≡ true → Between ws v₀ t₀ start v₀ t₀ start 0
+  before-all w = record { inside = omega arith; grown = grown-none (ready .counted); units = stay; all-there = w; part = λ c m. m; resting = λ e h. h }
 
   module _ {v t : List ℕ} {count at : ℕ} (i : Between ws v₀ t₀ start v t count at) where
     pub room : length v ≤ length t
@@ -134,7 +134,7 @@ module _ {ws v₀ t₀ : List ℕ} {start : ℕ} (ready : Ready ws v₀ t₀ sta
     not-fewer = grown-count (i .grown) (omega (arith, ready .room, ready .counted)) room
 
     -- all clauses passed
-    pub pass-quiet : length ws ≤ at → {isBroken : Bool} → isBroken ≡ false → Passed ws v₀ t₀ start v t isBroken count
+    pub pass-quiet : length ws ≤ at → {isBroken : Bool} → isBroken ≡ false → Passed (clausesIn ws) v₀ t₀ start v t isBroken count
     pass-quiet h e = record {
       grown = i .grown;
       units = i .units;
@@ -144,7 +144,7 @@ module _ {ws v₀ t₀ : List ℕ} {start : ℕ} (ready : Ready ws v₀ t₀ sta
 
 -- in a clause
 pub record Entered (ws v₀ t₀ : List ℕ) (start : ℕ) (v t : List ℕ) (count at end : ℕ) : Type 0 where
-  pub ready : Ready ws v₀ t₀ start
+  pub ready : Ready (clausesIn ws) v₀ t₀ start
   pub between : Between ws v₀ t₀ start v t count at
   pub inside : at < length ws
   pub ends : end ≡ at + 1 + getD ws at 0
@@ -200,7 +200,7 @@ module _ {ws v₀ t₀ v t : List ℕ} {start count at end : ℕ} (n : Entered w
     all-passed p = w .meets ∙ rw (p, slice-empty) (from-end v (oneOf unset last))
 
     -- every literal is false
-    pub pass-broken : pos ≡ end → unset ≡ 0 → {isBroken : Bool} → isBroken ≡ true → Passed ws v₀ t₀ start v t isBroken count
+    pub pass-broken : pos ≡ end → unset ≡ 0 → {isBroken : Bool} → isBroken ≡ true → Passed (clausesIn ws) v₀ t₀ start v t isBroken count
     pass-broken p z b = record {
       grown = i .grown;
       units = i .units;
@@ -271,23 +271,22 @@ module _ {ws v : List ℕ} {first end at unset last : ℕ} (w : Within ws v firs
 -- ---- passes
 
 -- before a pass: v₀ and t₀ were the values and the trail where settling began
-pub record Settling (ws v₀ t₀ : List ℕ) (start : ℕ) (v t : List ℕ) (count : ℕ) : Type 0 where
-  pub ready : Ready ws v t count
+pub record Settling (cs : List (List ℕ)) (v₀ t₀ : List ℕ) (start : ℕ) (v t : List ℕ) (count : ℕ) : Type 0 where
+  pub ready : Ready cs v t count
   pub grown : Grown v₀ t₀ start v t count
-  pub units : UnitSteps (clausesIn ws) v₀ v
+  pub units : UnitSteps cs v₀ v
 
-pub settling : {ws v t : List ℕ} {start : ℕ} → Ready ws v t start → Settling ws v t start v t start
+pub settling : {cs : List (List ℕ)} {v t : List ℕ} {start : ℕ} → Ready cs v t start → Settling cs v t start v t start
 settling r = record { ready = r; grown = grown-none (r .counted); units = stay }
 
-module _ {ws v₀ t₀ v t w s : List ℕ} {start count more : ℕ} {isBroken : Bool} (i : Settling ws v₀ t₀ start v t count) (p : Passed ws v t count w s isBroken more) where
-  pub settle-more : isBroken ≡ false → Settling ws v₀ t₀ start w s more
+module _ {cs : List (List ℕ)} {v₀ t₀ v t w s : List ℕ} {start count more : ℕ} {isBroken : Bool} (i : Settling cs v₀ t₀ start v t count) (p : Passed cs v t count w s isBroken more) where
+  pub settle-more : isBroken ≡ false → Settling cs v₀ t₀ start w s more
   settle-more e =
       let same = grown-length (p .grown) in
       record {
         ready = record {
-          all-there = i .ready .all-there;
           formed = rw same (i .ready .formed);
-          values = rw same (units-values (clausesIn ws) (length v) v w (p .units) (i .ready .values));
+          values = rw same (units-values cs (length v) v w (p .units) (i .ready .values));
           counted = p .grown .counted;
           room = omega (arith, i .ready .room, p .grown .long);
         };
@@ -307,14 +306,14 @@ module _ {ws v₀ t₀ v t w s : List ℕ} {start count more : ℕ} {isBroken : 
       let fewer = grown-count (p .grown) (omega (arith, i .ready .counted, i .ready .room)) (omega (arith, i .ready .room, p .grown .long)) in
       omega (arith, p .grown .counted)
 
-  pub settle-broken : isBroken ≡ true → Settles ws v₀ t₀ start w s isBroken more
+  pub settle-broken : isBroken ≡ true → Settles cs v₀ t₀ start w s isBroken more
   settle-broken e = record {
     grown = grown-trans (i .grown) (p .grown);
-    closes = rw e (units-break (clausesIn ws) v₀ w (units-trans (i .units) (p .units)) (p .breaking e));
+    closes = rw e (units-break cs v₀ w (units-trans (i .units) (p .units)) (p .breaking e));
   }
 
-  pub settle-rest : Ready ws v₀ t₀ start → isBroken ≡ false → more ≡ count → Settles ws v₀ t₀ start w s isBroken more
+  pub settle-rest : Ready cs v₀ t₀ start → isBroken ≡ false → more ≡ count → Settles cs v₀ t₀ start w s isBroken more
   settle-rest r e q = record {
     grown = grown-trans (i .grown) (p .grown);
-    closes = rw e (units-rest (clausesIn ws) (length v₀) v₀ w (r .values) (units-trans (i .units) (p .units)) (p .resting e q));
+    closes = rw e (units-rest cs (length v₀) v₀ w (r .values) (units-trans (i .units) (p .units)) (p .resting e q));
   }

@@ -39,14 +39,14 @@ entered :
     (c .before .before .before .clauses .at)
     (c .before .before .before .clauses .at + 1 + c .wide .result)
 entered c = record {
-  ready = c .before .before .before .before .before .before .before .pre;
+  ready = c .before .before .before .before .before .before .before .pre .1;
   between = c .before .before .before .clauses .inv .0;
   inside = c .before .before .clauses-test .taken;
   ends = rw (c .wide .ensures) refl;
 }
 
 clauses-holds : tie.Need-clauses-holds Inv-literals μ-literals Inv-clauses μ-clauses
-clauses-holds c = (laws.before-all (c .before .before .before .pre), refl)
+clauses-holds c = (laws.before-all (c .before .before .before .pre .1) (c .before .before .before .pre .0), refl)
 
 add-end : tie.Need-add-end Inv-literals μ-literals Inv-clauses μ-clauses
 add-end c = search needs
@@ -139,7 +139,7 @@ same-length-2 : tie.Need-same-length-2 Inv-literals μ-literals Inv-clauses μ-c
 same-length-2 c = search needs
 
 returns : tie.Need-returns Inv-literals μ-literals Inv-clauses μ-clauses
-returns c = laws.pass-quiet (c .before .before .before .before .before .pre) (c .before .clauses .inv .0) (c .clauses-test .left) (c .before .clauses .inv .1)
+returns c = laws.pass-quiet (c .before .before .before .before .before .pre .1) (c .before .clauses .inv .0) (c .clauses-test .left) (c .before .clauses .inv .1)
 
 same-length-3 : tie.Need-same-length-3 Inv-literals μ-literals Inv-clauses μ-clauses
 same-length-3 c = grown-length (c .before .before .before .before .before .before .clauses .inv .0 .grown)

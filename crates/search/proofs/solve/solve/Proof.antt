@@ -6,13 +6,14 @@ use Prim.Native.Nat.{_+_, _-_, _*_}
 use native.Mathlib.Omega.{arith}
 use mathlib.Core.Path.{refl}
 use lib.ListN.{length}
+use Rattle.cnf.specs.Clauses.{clausesIn}
 use Rattle.search.proofs.Turns as laws
 use Rattle.search.proofs.solve.solve.Statement.{statement}
 use Rattle.search.proofs.solve.solve.Tie as tie
 
 abbrev Inv-turns : tie.InvT-turns
 Inv-turns list values₀ budget trail₀ marks₀ count₀ depth₀ made₀ low₀ values trail marks count depth made low =
-    laws.Turning list (length values₀) budget values trail marks count depth made low
+    laws.Turning (clausesIn list) (length values₀) budget values trail marks count depth made low
 
 abbrev μ-turns : tie.MeasureT-turns
 μ-turns list values₀ budget trail₀ marks₀ count₀ depth₀ made₀ low₀ values trail marks count depth made low =
@@ -31,7 +32,7 @@ slice-aggregate-settle : tie.Need-slice-aggregate-settle Inv-turns μ-turns
 slice-aggregate-settle c = search needs
 
 settle-requires : tie.Need-settle-requires Inv-turns μ-turns
-settle-requires c κs = search needs
+settle-requires c κs = (c .before .before .before .before .before .before .before .pre .all-there, c .before .before .turns .inv .ready)
 
 same-length : tie.Need-same-length Inv-turns μ-turns
 same-length c = search needs
