@@ -3,14 +3,14 @@
 -- there are, and not on their order or number. Assumes nothing.
 use mathlib.Core.Path.{_≡_, refl, sym, ap, _∙_, subst}
 use mathlib.Core.Logic.{_≢_}
-use mathlib.Core.List.{List, [], _∷_, List·Memᴰ}
+use mathlib.Core.List.{List, [], List·Memᴰ}
 use Prim.Native.Nat.{ℕ, zero, suc, _*_, _-_, _/_, _%_, _≤_}
 use lib.ListN.{length, set, replicate}
 use Rattle.cnf.specs.Clauses.{valueOf}
-use Rattle.cnf.specs.Search.{Seen, broken, forcing, quiet, scan, lowestUnset, State, Next, goes, ends, Outcome, unfinished, Guess, undo, decide, act, step, run, searchFrom}
+use Rattle.cnf.specs.Search.{Seen, broken, forcing, quiet, scan, lowestUnset, Next, goes, ends, Outcome, unfinished, Guess, undo, decide, act, step, run, searchFrom}
 use Rattle.cnf.proofs.Values.{Formed, Values, _⊑_, ⊑-antisym}
 use Rattle.cnf.proofs.Found.{Found, scan-found}
-use Rattle.cnf.proofs.Steps.{stateOf, guessOf, steps, After}
+use Rattle.cnf.proofs.Steps.{stateOf, steps, After}
 use Rattle.cnf.proofs.Sound.{SoundState, SoundOutcome, sound-kept, start-sound}
 use Rattle.cnf.proofs.Ends.{never-unfinished}
 use Rattle.cnf.proofs.Order.{UnitSteps, stay, more, AtRest, units-more, units-length, units-values, units-below, rest-unbroken}

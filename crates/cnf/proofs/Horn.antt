@@ -4,17 +4,17 @@ use mathlib.Core.Path.{_≡_, refl, ap, _∙_, subst}
 use mathlib.Core.Logic.{_⊎_, inl, inr, _≢_}
 use mathlib.Core.Bool.{Bool, true, false}
 use mathlib.Core.List.{List, [], _∷_, List·Memᴰ, List·Memᴰ·head, List·Memᴰ·tail}
-use Prim.Native.Nat.{ℕ, zero, suc, _+_, _-_, _*_, _/_, _%_, _≤_, _<_, zero-le}
+use Prim.Native.Nat.{ℕ, suc, _+_, _-_, _*_, _/_, _%_, _≤_, _<_, zero-le}
 use native.Mathlib.Omega.{arith}
 use lib.ListN.{length, set, replicate, length-replicate}
 use borrow.Author.Tests.{eqb-false}
 use Rattle.lists.specs.Lists.{keep}
 use Rattle.lists.proofs.Members.{keep-mem, keep-keep}
 use Rattle.cnf.specs.Clauses.{valueOf, Right, isPositive, Horn}
-use Rattle.cnf.specs.Search.{broken, forcing, quiet, isUnset, State, Next, goes, ends, Outcome, solved, none-exists, spent, unfinished, Guess, searchFrom}
+use Rattle.cnf.specs.Search.{broken, forcing, quiet, isUnset, State, Next, goes, Outcome, solved, none-exists, spent, unfinished, Guess, searchFrom}
 use Rattle.cnf.proofs.Values.{Formed, Wrong, set-cases, unsetCount, unset-le, unset-set}
 use Rattle.cnf.proofs.Found.{Found, Settled, holds, waits, unset-is}
-use Rattle.cnf.proofs.Steps.{stateOf, guessOf, StepsTo, fails, undoes, forces, solves, spends, adds-guess, After, run-keeps}
+use Rattle.cnf.proofs.Steps.{stateOf, StepsTo, fails, undoes, forces, solves, spends, adds-guess, After, run-keeps}
 use Rattle.cnf.proofs.Sound.{SoundState, SoundOutcome, sound-kept, start-sound}
 
 -- right once every unset variable is false

@@ -1,13 +1,12 @@
 -- Unit steps in any order: each sets a literal that some clause forces. They stay below all values at rest that extend the first ones.
 -- Assumes nothing.
-use mathlib.Core.Path.{_≡_, refl, sym, ap, _∙_, subst}
+use mathlib.Core.Path.{_≡_, refl, ap, _∙_, subst}
 use mathlib.Core.Logic.{_⊎_, inl, inr}
 use mathlib.Core.Bool.{true}
-use mathlib.Core.List.{List, [], _∷_, List·Memᴰ, List·Memᴰ·head}
-use Prim.Native.Nat.{ℕ, zero, suc, _+_, _-_, _/_, _%_}
+use mathlib.Core.List.{List, List·Memᴰ, List·Memᴰ·head}
+use Prim.Native.Nat.{ℕ, _-_, _/_, _%_}
 use native.Mathlib.Omega.{arith}
 use lib.ListN.{length, set, length-set}
-use Rattle.lists.specs.Lists.{keep}
 use Rattle.lists.proofs.Members.{keep-mem, keep-length}
 use Rattle.cnf.specs.Clauses.{valueOf, Right}
 use Rattle.cnf.specs.Search.{broken, forcing, quiet, isUnset}

@@ -1,15 +1,15 @@
 -- What every step of the search keeps: each value that is set is forced by the standing guesses. So what is solved satisfies the clauses and is
 -- maximal, and where none exists there is none. Assumes nothing.
-use mathlib.Core.Path.{_≡_, refl, sym, ap, _∙_, subst}
+use mathlib.Core.Path.{_≡_, refl, sym, _∙_, subst}
 use mathlib.Core.Logic.{_⊎_, inl, inr, _≢_}
 use mathlib.Core.List.{List, [], _∷_, List·Memᴰ, List·Memᴰ·head}
-use Prim.Native.Nat.{ℕ, zero, suc, _+_, _-_, _*_, _/_, _%_, _<_}
+use Prim.Native.Nat.{ℕ, zero, suc, _-_, _*_, _/_, _%_, _<_}
 use native.Mathlib.Omega.{arith}
 use lib.ListN.{length, set, replicate}
 use lib.Seq.{getD-set-same, ext-getD}
 use Rattle.lists.proofs.Members.{keep-mem}
-use Rattle.cnf.specs.Clauses.{valueOf, Right, Assignment, Model, Maximal}
-use Rattle.cnf.specs.Search.{broken, forcing, quiet, isUnset, State, Next, goes, ends, Outcome, solved, none-exists, spent, unfinished, Guess, searchFrom}
+use Rattle.cnf.specs.Clauses.{valueOf, Right, Model, Maximal}
+use Rattle.cnf.specs.Search.{broken, forcing, quiet, isUnset, State, Next, goes, Outcome, solved, none-exists, spent, unfinished, Guess, searchFrom}
 use Rattle.cnf.proofs.Values.{Formed, Values, Wrong, _⊑_, wrong-more, right-value, set-more, set-below, set-values, none-set, start-values}
 use Rattle.cnf.proofs.Found.{Settled, holds, waits, Found, unset-is}
 use Rattle.cnf.proofs.Steps.{stateOf, guessOf, StepsTo, fails, undoes, forces, solves, spends, adds-guess, After, run-keeps}

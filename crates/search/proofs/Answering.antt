@@ -1,7 +1,7 @@
 -- Laws for the operation: writing the answer, the refusals in order, and what the answer promises. Assumes nothing.
-use mathlib.Core.Path.{_≡_, refl, sym, ap, _∙_, subst}
+use mathlib.Core.Path.{_≡_, refl, sym, ap, _∙_}
 use mathlib.Core.Logic.{_≢_}
-use mathlib.Core.Bool.{Bool, true, false, _&&_, true≢false}
+use mathlib.Core.Bool.{Bool, true, false, _&&_}
 use mathlib.Core.List.{List, [], _∷_, _++_}
 use Prim.Native.Nat.{ℕ, zero, suc, _+_, _≤_, _<_}
 use native.Mathlib.Numerals.{add-one}
@@ -9,9 +9,9 @@ use native.Mathlib.Omega.{arith}
 use lib.ListN.{length, getD, set, take, drop, replicate, length-append, length-drop, length-replicate}
 use lib.Seq.{take-all, take-suc, take-at, drop-cons, set-at, append-snoc, length-take-le}
 use lib.Dec.{eqb, leb}
-use borrow.Author.Tests.{eq-eqb, ne-eqb, eqb-true, le-leb, lt-leb, leb-true}
+use borrow.Author.Tests.{ne-eqb, eqb-true, le-leb, lt-leb, leb-true}
 use Rattle.lists.specs.Lists.{all, over, firstFailed}
-use Rattle.lists.proofs.Members.{and-true, and-of}
+use Rattle.lists.proofs.Members.{and-true}
 use Rattle.lists.proofs.Refusals.{passed, passes, fails}
 use Rattle.cnf.specs.Clauses.{clausesIn, whole, clauseFits, Model, Maximal, Horn}
 use Rattle.cnf.specs.Search.{Outcome, solved, none-exists, spent, unfinished, searchFrom}

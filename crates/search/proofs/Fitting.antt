@@ -3,10 +3,10 @@ use mathlib.Core.Path.{_≡_, refl, sym, ap, _∙_, subst}
 use mathlib.Core.Logic.{_⊎_, inl, inr}
 use mathlib.Core.Bool.{Bool, true, false, _&&_, _||_, not, and-false}
 use mathlib.Core.List.{List, [], _∷_, _++_, map, map-append, List·Memᴰ, List·Memᴰ·head, List·Memᴰ·tail, Memᴰ·append-right, List·Memᴰ·append-cases as append-cases, List·Memᴰ·not-nil as not-nil, List·Memᴰ·eq-of-singleton as eq-of-singleton}
-use Prim.Native.Nat.{ℕ, zero, suc, _+_, _-_, _/_, _≤_, _<_}
+use Prim.Native.Nat.{ℕ, suc, _+_, _-_, _/_, _≤_, _<_}
 use native.Mathlib.Numerals.{add-one}
 use native.Mathlib.Omega.{arith}
-use lib.ListN.{length, getD, take, drop, length-drop, drop-of-length-le, take-append-drop}
+use lib.ListN.{length, getD, take, drop, length-drop, drop-of-length-le}
 use lib.Seq.{take-suc, drop-cons, drop-drop, take-all, split-at}
 use lib.Dec.{eqb, leb}
 use borrow.Author.Tests.{eqb-false, eq-eqb, ne-eqb, le-leb, lt-leb, not-true}
@@ -48,17 +48,6 @@ module _ {ls : List ℕ} {x i : ℕ} (p : Looking ls x i) where
   look-none h = sym (p .meets ∙ rw (drop-of-length-le ls h))
 
 -- ---- whether a clause fits
-
-mem-not : (x : ℕ) (xs : List ℕ) → (List·Memᴰ x xs → ⊥) → mem x xs ≡ false
-mem-not x xs h = not-so (mem x xs) (λ e. h (mem-true x xs e))
-
-distinct-cons : (x : ℕ) (xs : List ℕ) → distinct (x ∷ xs) ≡ (not (mem x xs) && distinct xs)
-unfolding distinct
-distinct-cons x xs = refl
-
-mem-cons : (x y : ℕ) (ys : List ℕ) → mem x (y ∷ ys) ≡ (eqb x y || mem x ys)
-unfolding mem any
-mem-cons x y ys = refl
 
 mem-snoc : (x y : ℕ) (xs : List ℕ) → mem x xs ≡ false → eqb x y ≡ false → mem x (xs ++ (y ∷ [])) ≡ false
 unfolding mem any

@@ -1,5 +1,5 @@
 -- Laws for a pass over the clauses: between two clauses, and in a clause before a literal. Assumes nothing.
-use mathlib.Core.Path.{_≡_, refl, sym, ap, _∙_, subst}
+use mathlib.Core.Path.{_≡_, refl, sym, _∙_, subst}
 use mathlib.Core.Logic.{_≢_, _⊎_, inl, inr}
 use mathlib.Core.Bool.{Bool, true, false, _&&_, _||_, true≢false}
 use mathlib.Core.List.{List, [], _∷_, _++_, append-nil, List·Memᴰ, List·Memᴰ·head, List·Memᴰ·tail, List·Memᴰ·not-nil as not-nil, List·Memᴰ·cases-cons as cases-cons}
@@ -13,10 +13,10 @@ use lib.Dec.{leb}
 use borrow.Author.Tests.{leb-true}
 use Rattle.lists.specs.Lists.{any, keep}
 use Rattle.lists.proofs.Members.{and-true}
-use Rattle.cnf.specs.Clauses.{valueOf, clausesIn, whole}
+use Rattle.cnf.specs.Clauses.{clausesIn, whole}
 use Rattle.cnf.specs.Search.{isRight, isUnset, Seen, broken, forcing, quiet, byUnset, seen}
-use Rattle.cnf.proofs.Values.{unsetCount, unset-set}
-use Rattle.cnf.proofs.Found.{Settled, Forces, Broken, Means, Found, seen-means, right-is, unset-is}
+use Rattle.cnf.proofs.Values.{unset-set}
+use Rattle.cnf.proofs.Found.{Settled, Means, Found, seen-means, right-is, unset-is}
 use Rattle.cnf.proofs.Order.{UnitSteps, stay, more, AtRest, units-trans, units-values}
 use Rattle.cnf.proofs.Closure.{units-break, units-rest}
 use Rattle.cnf.proofs.Words.{clauses-nil, clauses-cons, whole-cons}
@@ -122,9 +122,9 @@ pub record Within (ws v : List ℕ) (first end at unset last : ℕ) : Type 0 whe
   pub below : (l : ℕ) → List·Memᴰ l (slice at end ws) → l / 2 < length v
   pub meets : seen v (slice first end ws) ≡ seenFrom v (oneOf unset last) (slice at end ws)
 
-module _ {ws v₀ t₀ : List ℕ} {start : ℕ} (ready : Ready ws v₀ t₀ start) where
-  pub before-all : Between ws v₀ t₀ start v₀ t₀ start 0
-  before-all = record { inside = omega arith; grown = grown-none (ready .counted); units = stay; all-there = ready .all-there; part = λ c m. m; resting = λ e h. h }
+module _ {ws v₀ t₀ : List ℕ} {start : ℕ} (ready : Ready (clausesIn ws) v₀ t₀ start) where
+  pub before-all : whole ws ≡ true → Between ws v₀ t₀ start v₀ t₀ start 0
+  before-all w = record { inside = omega arith; grown = grown-none (ready .counted); units = stay; all-there = w; part = λ c m. m; resting = λ e h. h }
 
   module _ {v t : List ℕ} {count at : ℕ} (i : Between ws v₀ t₀ start v t count at) where
     pub room : length v ≤ length t
@@ -134,7 +134,7 @@ module _ {ws v₀ t₀ : List ℕ} {start : ℕ} (ready : Ready ws v₀ t₀ sta
     not-fewer = grown-count (i .grown) (omega (arith, ready .room, ready .counted)) room
 
     -- all clauses passed
-    pub pass-quiet : length ws ≤ at → {isBroken : Bool} → isBroken ≡ false → Passed ws v₀ t₀ start v t isBroken count
+    pub pass-quiet : length ws ≤ at → {isBroken : Bool} → isBroken ≡ false → Passed (clausesIn ws) v₀ t₀ start v t isBroken count
     pass-quiet h e = record {
       grown = i .grown;
       units = i .units;
@@ -142,86 +142,94 @@ module _ {ws v₀ t₀ : List ℕ} {start : ℕ} (ready : Ready ws v₀ t₀ sta
       resting = λ b q. i .resting q (λ c m. absurd (not-nil (rw (drop-of-length-le ws h, clauses-nil) at m)));
     }
 
-    module _ (h : at < length ws) where
-      at-whole : (leb (getD ws at 0) (length (drop (at + 1) ws)) && whole (drop (at + 1 + getD ws at 0) ws)) ≡ true
-      at-whole = rw (drop-cons ws at 0 h, whole-cons, ← add-one at, drop-drop) at (i .all-there)
+-- in a clause
+pub record Entered (ws v₀ t₀ : List ℕ) (start : ℕ) (v t : List ℕ) (count at end : ℕ) : Type 0 where
+  pub ready : Ready (clausesIn ws) v₀ t₀ start
+  pub between : Between ws v₀ t₀ start v t count at
+  pub inside : at < length ws
+  pub ends : end ≡ at + 1 + getD ws at 0
 
-      pub end-inside : at + 1 + getD ws at 0 ≤ length ws
-      end-inside = omega (arith, leb-true (getD ws at 0) (length (drop (at + 1) ws)) (and-true (leb (getD ws at 0) (length (drop (at + 1) ws))) (whole (drop (at + 1 + getD ws at 0) ws)) at-whole .0), length-drop (at + 1) ws)
+module _ {ws v₀ t₀ v t : List ℕ} {start count at end : ℕ} (n : Entered ws v₀ t₀ start v t count at end) where
+  open Entered n using (ready, between as i, inside as h, ends as e)
 
-      module _ {end : ℕ} (e : end ≡ at + 1 + getD ws at 0) where
-        at-clauses : clausesIn (drop at ws) ≡ slice (at + 1) end ws ∷ clausesIn (drop end ws)
-        at-clauses = rw (drop-cons ws at 0 h, clauses-cons, ← add-one at, drop-drop, take-drop, e)
+  at-whole : (leb (getD ws at 0) (length (drop (at + 1) ws)) && whole (drop (at + 1 + getD ws at 0) ws)) ≡ true
+  at-whole = rw (drop-cons ws at 0 h, whole-cons, ← add-one at, drop-drop) at (i .all-there)
 
-        here : List·Memᴰ (slice (at + 1) end ws) (clausesIn ws)
-        here = i .part (slice (at + 1) end ws) (rw at-clauses (List·Memᴰ·head refl))
+  pub end-inside : at + 1 + getD ws at 0 ≤ length ws
+  end-inside = omega (arith, leb-true (getD ws at 0) (length (drop (at + 1) ws)) (and-true (leb (getD ws at 0) (length (drop (at + 1) ws))) (whole (drop (at + 1 + getD ws at 0) ws)) at-whole .0), length-drop (at + 1) ws)
 
-        pub enter : Within ws v (at + 1) end (at + 1) 0 0
-        enter = record {
-          started = omega arith;
-          inside = omega arith;
-          ends = omega (arith, end-inside);
-          few = omega arith;
-          below = λ l m. rw (grown-length (i .grown)) (ready .formed .below (slice (at + 1) end ws) here l m);
-          meets = from-start v (slice (at + 1) end ws);
-        }
+  at-clauses : clausesIn (drop at ws) ≡ slice (at + 1) end ws ∷ clausesIn (drop end ws)
+  at-clauses = rw (drop-cons ws at 0 h, clauses-cons, ← add-one at, drop-drop, take-drop, e)
 
-        there : whole (drop end ws) ≡ true
-        there = rw e (and-true (leb (getD ws at 0) (length (drop (at + 1) ws))) (whole (drop (at + 1 + getD ws at 0) ws)) at-whole .1)
+  here : List·Memᴰ (slice (at + 1) end ws) (clausesIn ws)
+  here = i .part (slice (at + 1) end ws) (rw at-clauses (List·Memᴰ·head refl))
 
-        later : (c : List ℕ) → List·Memᴰ c (clausesIn (drop end ws)) → List·Memᴰ c (clausesIn ws)
-        later c m = i .part c (rw at-clauses (List·Memᴰ·tail m))
+  pub enter : Within ws v (at + 1) end (at + 1) 0 0
+  enter = record {
+    started = omega arith;
+    inside = omega arith;
+    ends = omega (arith, end-inside);
+    few = omega arith;
+    below = λ l m. rw (grown-length (i .grown)) (ready .formed .below (slice (at + 1) end ws) here l m);
+    meets = from-start v (slice (at + 1) end ws);
+  }
 
-        -- the clause is settled
-        pub settled-on : seen v (slice (at + 1) end ws) ≡ quiet → Between ws v₀ t₀ start v t count end
-        settled-on q = record {
+  there : whole (drop end ws) ≡ true
+  there = rw e (and-true (leb (getD ws at 0) (length (drop (at + 1) ws))) (whole (drop (at + 1 + getD ws at 0) ws)) at-whole .1)
+
+  later : (c : List ℕ) → List·Memᴰ c (clausesIn (drop end ws)) → List·Memᴰ c (clausesIn ws)
+  later c m = i .part c (rw at-clauses (List·Memᴰ·tail m))
+
+  -- the clause is settled
+  pub settled-on : seen v (slice (at + 1) end ws) ≡ quiet → Between ws v₀ t₀ start v t count end
+  settled-on q = record {
+    inside = omega (arith, end-inside);
+    grown = i .grown;
+    units = i .units;
+    all-there = there;
+    part = later;
+    resting = λ p s. i .resting p (λ c m. pick c s (cases-cons (rw at-clauses at m)));
+  }
+    where
+      pick : (c : List ℕ) → ((d : List ℕ) → List·Memᴰ d (clausesIn (drop end ws)) → Settled v d) → (c ≡ slice (at + 1) end ws) ⊎ List·Memᴰ c (clausesIn (drop end ws)) → Settled v c
+      pick c s (inl p) = rw p (subst (Means v (slice (at + 1) end ws)) q (seen-means v (slice (at + 1) end ws)))
+      pick c s (inr m) = s c m
+
+  module _ {pos unset last : ℕ} (w : Within ws v (at + 1) end pos unset last) where
+    all-passed : pos ≡ end → seen v (slice (at + 1) end ws) ≡ byUnset (oneOf unset last)
+    all-passed p = w .meets ∙ rw (p, slice-empty) (from-end v (oneOf unset last))
+
+    -- every literal is false
+    pub pass-broken : pos ≡ end → unset ≡ 0 → {isBroken : Bool} → isBroken ≡ true → Passed (clausesIn ws) v₀ t₀ start v t isBroken count
+    pass-broken p z b = record {
+      grown = i .grown;
+      units = i .units;
+      breaking = λ q. (slice (at + 1) end ws, here, subst (Means v (slice (at + 1) end ws)) (all-passed p ∙ by-none unset last z) (seen-means v (slice (at + 1) end ws)));
+      resting = λ q. absurd (true≢false (sym b ∙ q));
+    }
+
+    forced : pos ≡ end → (unset ≡ 0 → ⊥) → Found v (clausesIn ws) (forcing last)
+    forced p n = (slice (at + 1) end ws, here, subst (Means v (slice (at + 1) end ws)) (all-passed p ∙ by-last unset last n) (seen-means v (slice (at + 1) end ws)))
+
+    -- one is unset
+    pub can-store : pos ≡ end → (unset ≡ 0 → ⊥) → (last / 2 < length v) × (count < length t)
+    can-store p n =
+        let f = forced p n in
+        let l : last / 2 < length v = rw (grown-length (i .grown)) (ready .formed .below (f .0) (f .1) last (f .2 .has)) in
+        (l, omega (arith, room ready i, i .grown .counted, unset-set v (last / 2) 0 l (f .2 .free) (omega arith)))
+
+    pub stored : pos ≡ end → (unset ≡ 0 → ⊥) → {v′ t′ : List ℕ} → v′ ≡ set v (last / 2) (1 - last % 2) → t′ ≡ set t count (last / 2) → Between ws v₀ t₀ start v′ t′ (count + 1) pos
+    stored p n q r =
+        let f = forced p n in
+        let l = can-store p n .0 in
+        record {
           inside = omega (arith, end-inside);
-          grown = i .grown;
-          units = i .units;
-          all-there = there;
-          part = later;
-          resting = λ p s. i .resting p (λ c m. pick c s (cases-cons (rw at-clauses at m)));
+          grown = grown-trans (i .grown) (rw (q, r) (grown-store (i .grown .counted) (room ready i) l (f .2 .free) (omega arith)));
+          units = rw q (more last (i .units) f);
+          all-there = rw p there;
+          part = rw p later;
+          resting = λ s. absurd (omega (arith, not-fewer ready i));
         }
-          where
-            pick : (c : List ℕ) → ((d : List ℕ) → List·Memᴰ d (clausesIn (drop end ws)) → Settled v d) → (c ≡ slice (at + 1) end ws) ⊎ List·Memᴰ c (clausesIn (drop end ws)) → Settled v c
-            pick c s (inl p) = rw p (subst (Means v (slice (at + 1) end ws)) q (seen-means v (slice (at + 1) end ws)))
-            pick c s (inr m) = s c m
-
-        module _ {pos unset last : ℕ} (w : Within ws v (at + 1) end pos unset last) where
-          all-passed : pos ≡ end → seen v (slice (at + 1) end ws) ≡ byUnset (oneOf unset last)
-          all-passed p = w .meets ∙ rw (p, slice-empty) (from-end v (oneOf unset last))
-
-          -- every literal is false
-          pub pass-broken : pos ≡ end → unset ≡ 0 → {isBroken : Bool} → isBroken ≡ true → Passed ws v₀ t₀ start v t isBroken count
-          pass-broken p z b = record {
-            grown = i .grown;
-            units = i .units;
-            breaking = λ q. (slice (at + 1) end ws, here, subst (Means v (slice (at + 1) end ws)) (all-passed p ∙ by-none unset last z) (seen-means v (slice (at + 1) end ws)));
-            resting = λ q. absurd (true≢false (sym b ∙ q));
-          }
-
-          forced : pos ≡ end → (unset ≡ 0 → ⊥) → Found v (clausesIn ws) (forcing last)
-          forced p n = (slice (at + 1) end ws, here, subst (Means v (slice (at + 1) end ws)) (all-passed p ∙ by-last unset last n) (seen-means v (slice (at + 1) end ws)))
-
-          -- one is unset
-          pub can-store : pos ≡ end → (unset ≡ 0 → ⊥) → (last / 2 < length v) × (count < length t)
-          can-store p n =
-              let f = forced p n in
-              let l : last / 2 < length v = rw (grown-length (i .grown)) (ready .formed .below (f .0) (f .1) last (f .2 .has)) in
-              (l, omega (arith, room, i .grown .counted, unset-set v (last / 2) 0 l (f .2 .free) (omega arith)))
-
-          pub stored : pos ≡ end → (unset ≡ 0 → ⊥) → {v′ t′ : List ℕ} → v′ ≡ set v (last / 2) (1 - last % 2) → t′ ≡ set t count (last / 2) → Between ws v₀ t₀ start v′ t′ (count + 1) pos
-          stored p n q r =
-              let f = forced p n in
-              let l = can-store p n .0 in
-              record {
-                inside = omega (arith, end-inside);
-                grown = grown-trans (i .grown) (rw (q, r) (grown-store (i .grown .counted) room l (f .2 .free) (omega arith)));
-                units = rw q (more last (i .units) f);
-                all-there = rw p there;
-                part = rw p later;
-                resting = λ s. absurd (omega (arith, not-fewer));
-              }
 
 module _ {ws v : List ℕ} {first end at unset last : ℕ} (w : Within ws v first end at unset last) where
   cons-at : (at ≡ end → ⊥) → slice at end ws ≡ getD ws at 0 ∷ slice (at + 1) end ws
@@ -263,23 +271,22 @@ module _ {ws v : List ℕ} {first end at unset last : ℕ} (w : Within ws v firs
 -- ---- passes
 
 -- before a pass: v₀ and t₀ were the values and the trail where settling began
-pub record Settling (ws v₀ t₀ : List ℕ) (start : ℕ) (v t : List ℕ) (count : ℕ) : Type 0 where
-  pub ready : Ready ws v t count
+pub record Settling (cs : List (List ℕ)) (v₀ t₀ : List ℕ) (start : ℕ) (v t : List ℕ) (count : ℕ) : Type 0 where
+  pub ready : Ready cs v t count
   pub grown : Grown v₀ t₀ start v t count
-  pub units : UnitSteps (clausesIn ws) v₀ v
+  pub units : UnitSteps cs v₀ v
 
-pub settling : {ws v t : List ℕ} {start : ℕ} → Ready ws v t start → Settling ws v t start v t start
+pub settling : {cs : List (List ℕ)} {v t : List ℕ} {start : ℕ} → Ready cs v t start → Settling cs v t start v t start
 settling r = record { ready = r; grown = grown-none (r .counted); units = stay }
 
-module _ {ws v₀ t₀ v t w s : List ℕ} {start count more : ℕ} {isBroken : Bool} (i : Settling ws v₀ t₀ start v t count) (p : Passed ws v t count w s isBroken more) where
-  pub settle-more : isBroken ≡ false → Settling ws v₀ t₀ start w s more
+module _ {cs : List (List ℕ)} {v₀ t₀ v t w s : List ℕ} {start count more : ℕ} {isBroken : Bool} (i : Settling cs v₀ t₀ start v t count) (p : Passed cs v t count w s isBroken more) where
+  pub settle-more : isBroken ≡ false → Settling cs v₀ t₀ start w s more
   settle-more e =
       let same = grown-length (p .grown) in
       record {
         ready = record {
-          all-there = i .ready .all-there;
           formed = rw same (i .ready .formed);
-          values = rw same (units-values (clausesIn ws) (length v) v w (p .units) (i .ready .values));
+          values = rw same (units-values cs (length v) v w (p .units) (i .ready .values));
           counted = p .grown .counted;
           room = omega (arith, i .ready .room, p .grown .long);
         };
@@ -299,14 +306,14 @@ module _ {ws v₀ t₀ v t w s : List ℕ} {start count more : ℕ} {isBroken : 
       let fewer = grown-count (p .grown) (omega (arith, i .ready .counted, i .ready .room)) (omega (arith, i .ready .room, p .grown .long)) in
       omega (arith, p .grown .counted)
 
-  pub settle-broken : isBroken ≡ true → Settles ws v₀ t₀ start w s isBroken more
+  pub settle-broken : isBroken ≡ true → Settles cs v₀ t₀ start w s isBroken more
   settle-broken e = record {
     grown = grown-trans (i .grown) (p .grown);
-    closes = rw e (units-break (clausesIn ws) v₀ w (units-trans (i .units) (p .units)) (p .breaking e));
+    closes = rw e (units-break cs v₀ w (units-trans (i .units) (p .units)) (p .breaking e));
   }
 
-  pub settle-rest : Ready ws v₀ t₀ start → isBroken ≡ false → more ≡ count → Settles ws v₀ t₀ start w s isBroken more
+  pub settle-rest : Ready cs v₀ t₀ start → isBroken ≡ false → more ≡ count → Settles cs v₀ t₀ start w s isBroken more
   settle-rest r e q = record {
     grown = grown-trans (i .grown) (p .grown);
-    closes = rw e (units-rest (clausesIn ws) (length v₀) v₀ w (r .values) (units-trans (i .units) (p .units)) (p .resting e q));
+    closes = rw e (units-rest cs (length v₀) v₀ w (r .values) (units-trans (i .units) (p .units)) (p .resting e q));
   }

@@ -12,7 +12,7 @@ use lib.Seq.{set-set, set-getD, take-suc-set, length-take-le}
 use borrow.Author.Tests.{ne-eqb}
 use Rattle.cnf.specs.Clauses.{valueOf}
 use Rattle.cnf.specs.Search.{isRight, isUnset}
-use Rattle.cnf.proofs.Values.{Values, set-values, unsetCount, unset-set}
+use Rattle.cnf.proofs.Values.{unsetCount, unset-set}
 use Rattle.cnf.proofs.Found.{right-of, unset-of}
 use Rattle.search.specs.Trail.{valueBy, literalValue, unsetting, Grown}
 
@@ -76,11 +76,6 @@ pub length-unsetting : (v xs : List ℕ) → length (unsetting v xs) ≡ length 
 unfolding unsetting
 length-unsetting v [] = refl
 length-unsetting v (x ∷ xs) = length-set (unsetting v xs) x 2 ∙ length-unsetting v xs
-
-pub unsetting-values : (n : ℕ) (v xs : List ℕ) → Values n v → Values n (unsetting v xs)
-unfolding unsetting
-unsetting-values n v [] z = z
-unsetting-values n v (x ∷ xs) z = set-values n (unsetting v xs) x 2 (omega arith) (unsetting-values n v xs z)
 
 -- a store where nothing was set is undone by unsetting
 pub unsetting-store : (v : List ℕ) (x k : ℕ) → valueOf v x ≡ 2 → unsetting (set v x k) (x ∷ []) ≡ v

@@ -3,25 +3,24 @@
 use mathlib.Core.Path.{_≡_, refl, sym, ap, _∙_, subst}
 use mathlib.Core.Logic.{_≢_, _⊎_, inl, inr}
 use mathlib.Core.Bool.{Bool, true, false}
-use mathlib.Core.List.{List, [], _∷_, _++_, List·Memᴰ, Memᴰ·append-left, Memᴰ·append-right, List·Memᴰ·head, List·Memᴰ·tail, List·Memᴰ·not-nil as not-nil, List·Memᴰ·append-cases as append-cases, List·Memᴰ·eq-of-singleton as eq-of-singleton}
+use mathlib.Core.List.{List, [], _∷_, _++_, List·Memᴰ, Memᴰ·append-left, List·Memᴰ·head, List·Memᴰ·tail, List·Memᴰ·not-nil as not-nil, List·Memᴰ·append-cases as append-cases, List·Memᴰ·eq-of-singleton as eq-of-singleton}
 use mathlib.Core.Option.{some}
 use Prim.Native.Nat.{ℕ, zero, suc, _+_, _-_, _/_, _%_, _*_, _≤_, _<_, zero-le}
 use native.Mathlib.Numerals.{add-one}
 use native.Mathlib.Omega.{arith}
 use native.Mathlib.Decide.{ℕ-discrete, decLt}
-use lib.ListN.{length, getD, set, replicate, take, drop, length-set, length-append, length-replicate, List·getD-append, take-append-drop}
-use lib.Seq.{slice, set-set, getD-set-same, getD-set-other, take-append-le, drop-append-le, take-append-seam, drop-append-seam, getD-append-seam, take-suc, take-suc-set, drop-cons, getD-take, take-take, length-take-le, take-all}
-use lib.Dec.{eqb}
+use lib.ListN.{length, getD, set, take, drop, length-set, length-append, List·getD-append, take-append-drop}
+use lib.Seq.{slice, getD-set-same, getD-set-other, take-append-le, drop-append-le, take-append-seam, drop-append-seam, getD-append-seam, take-suc, take-suc-set, drop-cons, getD-take, take-take, length-take-le}
 use borrow.Author.Tests.{eq-eqb, ne-eqb}
 use Rattle.cnf.specs.Clauses.{valueOf, clausesIn}
-use Rattle.cnf.specs.Search.{Next, goes, ends, Outcome, solved, none-exists, spent, Guess, undo, decide, lowestUnset, searchFrom}
-use Rattle.cnf.proofs.Values.{Formed, Values, _⊑_, set-cases, set-values, start-values, unsetCount, unset-set, unset-start, none-set}
+use Rattle.cnf.specs.Search.{goes, Outcome, solved, none-exists, spent, Guess, undo, decide, lowestUnset, searchFrom}
+use Rattle.cnf.proofs.Values.{Formed, Values, set-values, start-values, unsetCount, unset-set, unset-start, none-set}
 use Rattle.cnf.proofs.Found.{lowest-some, lowest-none}
 use Rattle.cnf.proofs.Steps.{stateOf, guessOf}
 use Rattle.cnf.proofs.Closure.{breaks, rests, Closes, turnTo, LeadsTo, there, turn, atStart, turns-search}
-use Rattle.search.specs.Trail.{unsetting, Ready, Grown, Settles, closedBy}
+use Rattle.search.specs.Trail.{unsetting, Ready, Grown, Settles}
 use Rattle.search.specs.Turns.{NextUnset, Undoable, Undone, Fresh}
-use Rattle.search.proofs.Trails.{unsetting-append, length-unsetting, unsetting-values, unsetting-store, grown-length, grown-store}
+use Rattle.search.proofs.Trails.{unsetting-append, length-unsetting, unsetting-store, grown-length, grown-store}
 
 -- ---- the guesses that stand
 
@@ -126,8 +125,8 @@ unfolding turnTo undo
 undo-leads z h l = turn breaks z h l
 
 -- at the head of a turn: n variables, b the budget
-pub record Turning (ws : List ℕ) (n b : ℕ) (v t ms : List ℕ) (count depth made low : ℕ) : Type 0 where
-  pub ready : Ready ws v t count
+pub record Turning (cs : List (List ℕ)) (n b : ℕ) (v t ms : List ℕ) (count depth made low : ℕ) : Type 0 where
+  pub ready : Ready cs v t count
   pub size : length v ≡ n
   pub most : n ≤ 276
   pub long : length t ≡ 276
@@ -138,12 +137,11 @@ pub record Turning (ws : List ℕ) (n b : ℕ) (v t ms : List ℕ) (count depth 
   pub low-in : low ≤ n
   pub lower : (j : ℕ) → j < low → valueOf v j ≢ 2
   pub few : made ≤ b
-  pub leads : (o : Outcome) → LeadsTo (clausesIn ws) n b (goes (stateOf v guesses made)) o → LeadsTo (clausesIn ws) n b (atStart n) o
+  pub leads : (o : Outcome) → LeadsTo cs n b (goes (stateOf v guesses made)) o → LeadsTo cs n b (atStart n) o
 
-pub turning : {ws v : List ℕ} (b : ℕ) (t ms : List ℕ) → Fresh ws v → length t ≡ 276 → length ms ≡ 276 → Turning ws (length v) b v t ms 0 0 0 0
+pub turning : {ws v : List ℕ} (b : ℕ) (t ms : List ℕ) → Fresh ws v → length t ≡ 276 → length ms ≡ 276 → Turning (clausesIn ws) (length v) b v t ms 0 0 0 0
 turning {ws} {v} b t ms f p q = record {
   ready = record {
-    all-there = f .all-there;
     formed = f .formed;
     values = subst (Values (length v)) (sym (f .none-set)) (start-values (length v));
     counted = omega (arith, ap unsetCount (f .none-set), unset-start (length v));
@@ -162,7 +160,7 @@ turning {ws} {v} b t ms f p q = record {
   leads = λ o l. subst (λ (u : List ℕ). LeadsTo (clausesIn ws) (length v) b (goes (stateOf u [] 0)) o) (f .none-set) l;
 }
 
-module _ {ws v t ms w s : List ℕ} {n b count depth made low more : ℕ} {isBroken : Bool} (i : Turning ws n b v t ms count depth made low) (c : Settles ws v t count w s isBroken more) where
+module _ {cs : List (List ℕ)} {v t ms w s : List ℕ} {n b count depth made low more : ℕ} {isBroken : Bool} (i : Turning cs n b v t ms count depth made low) (c : Settles cs v t count w s isBroken more) where
   pub after-size : length w ≡ n
   after-size = grown-length (c .grown) ∙ i .size
 
@@ -189,25 +187,25 @@ module _ {ws v t ms w s : List ℕ} {n b count depth made low more : ℕ} {isBro
   pub after-depth : depth ≤ more
   after-depth = omega (arith, depth-le after-stands, trail-length)
 
-  formed : Formed (clausesIn ws) n
+  formed : Formed cs n
   formed = rw (i .size) at (i .ready .formed)
 
   values : Values n v
   values = rw (i .size) at (i .ready .values)
 
-  ends-with : (o : Outcome) → LeadsTo (clausesIn ws) n b (goes (stateOf v (i .guesses) made)) o → o ≡ searchFrom (clausesIn ws) n b
-  ends-with o l = turns-search (clausesIn ws) n b formed o (i .leads o l)
+  ends-with : (o : Outcome) → LeadsTo cs n b (goes (stateOf v (i .guesses) made)) o → o ≡ searchFrom cs n b
+  ends-with o l = turns-search cs n b formed o (i .leads o l)
 
   -- ---- a clause is broken
 
   module _ (e : isBroken ≡ true) where
-    broke : Closes (clausesIn ws) v breaks
+    broke : Closes cs v breaks
     broke = rw e at (c .closes)
 
     -- no guess stands
-    pub turn-absent : depth ≡ 0 → none-exists made ≡ searchFrom (clausesIn ws) n b
+    pub turn-absent : depth ≡ 0 → none-exists made ≡ searchFrom cs n b
     unfolding turnTo undo
-    turn-absent z = ends-with (none-exists made) (subst (λ (gs : List Guess). LeadsTo (clausesIn ws) n b (goes (stateOf v gs made)) (none-exists made)) (sym (no-guess (i .stands) z)) (turn breaks values broke there))
+    turn-absent z = ends-with (none-exists made) (subst (λ (gs : List Guess). LeadsTo cs n b (goes (stateOf v gs made)) (none-exists made)) (sym (no-guess (i .stands) z)) (turn breaks values broke there))
 
     module _ (d : ℕ) {mark : ℕ} (q : depth ≡ suc d) (m : mark ≡ getD ms d 0) where
       top : Latest n ms w (take more s) d (i .guesses)
@@ -252,10 +250,9 @@ module _ {ws v t ms w s : List ℕ} {n b count depth made low more : ℕ} {isBro
         undone-size : length u ≡ n
         undone-size = ap length undone ∙ length-set (top .values) x 0 ∙ top .formed .long
 
-        pub turn-undo : Turning ws n b u s ms (mark + 1) d made (x + 1)
+        pub turn-undo : Turning cs n b u s ms (mark + 1) d made (x + 1)
         turn-undo = record {
           ready = record {
-            all-there = i .ready .all-there;
             formed = rw undone-size formed;
             values = rw undone-size (rw undone (set-values n (top .values) x 0 (omega arith) (top .formed)));
             counted = omega (arith, undone-size, ap unsetCount undone, unset-set (top .values) x 0 (omega (arith, inside, top .formed .long)) was-unset (omega arith), top .counted);
@@ -274,13 +271,13 @@ module _ {ws v t ms w s : List ℕ} {n b count depth made low more : ℕ} {isBro
           leads = λ o l. i .leads o (again o l);
         }
           where
-            again : (o : Outcome) → LeadsTo (clausesIn ws) n b (goes (stateOf u (top .rest) made)) o → LeadsTo (clausesIn ws) n b (goes (stateOf v (i .guesses) made)) o
+            again : (o : Outcome) → LeadsTo cs n b (goes (stateOf u (top .rest) made)) o → LeadsTo cs n b (goes (stateOf v (i .guesses) made)) o
             again o l = rw (top .guesses) (undo-leads values broke (rw (← guessed, ← undone) l))
 
   -- ---- the values are at rest
 
   module _ {x : ℕ} (e : isBroken ≡ false) (f : NextUnset w low x) where
-    least : Closes (clausesIn ws) v (rests w)
+    least : Closes cs v (rests w)
     least = rw e at (c .closes)
 
     after-values : Values n w
@@ -293,12 +290,12 @@ module _ {ws v t ms w s : List ℕ} {n b count depth made low more : ℕ} {isBro
         go (yes l) = λ z. i .lower j l (sym (least .extends .keeps j (i .lower j l)) ∙ z)
         go (no l) = f .passed j (omega arith) h
 
-    rests-with : (o : Outcome) → LeadsTo (clausesIn ws) n b (decide b (stateOf w (i .guesses) made) (lowestUnset w 0)) o → LeadsTo (clausesIn ws) n b (goes (stateOf v (i .guesses) made)) o
+    rests-with : (o : Outcome) → LeadsTo cs n b (decide b (stateOf w (i .guesses) made) (lowestUnset w 0)) o → LeadsTo cs n b (goes (stateOf v (i .guesses) made)) o
     unfolding turnTo
     rests-with o l = turn (rests w) values least l
 
     -- nothing is unset
-    pub turn-solved : x ≡ length w → solved w made ≡ searchFrom (clausesIn ws) n b
+    pub turn-solved : x ≡ length w → solved w made ≡ searchFrom cs n b
     unfolding decide
     turn-solved q = ends-with (solved w made) (rests-with (solved w made) (rw (lowest-none w 0 (λ j h. after-lower j (omega arith))) there))
 
@@ -310,7 +307,7 @@ module _ {ws v t ms w s : List ℕ} {n b count depth made low more : ℕ} {isBro
       first = let z : 0 + x ≡ x = omega arith in lowest-some w 0 x inner (f .found inner) after-lower ∙ ap some z
 
       -- the budget is spent
-      pub turn-spent : made ≡ b → spent made ≡ searchFrom (clausesIn ws) n b
+      pub turn-spent : made ≡ b → spent made ≡ searchFrom cs n b
       unfolding decide
       turn-spent p = ends-with (spent made) (rests-with (spent made) (rw (first, eq-eqb made b p, decide) there))
 
@@ -334,10 +331,9 @@ module _ {ws v t ms w s : List ℕ} {n b count depth made low more : ℕ} {isBro
       guessed-stands =
           stands-guess (omega (arith, after-depth, room-left, i .most, i .marks)) after-values (omega (arith, trail-length, c .grown .counted, after-size)) (f .found inner) after-lower after-stands
 
-      guess-made : (made ≡ b → ⊥) → Turning ws n b (set w x 1) (set s more x) (set ms depth more) (more + 1) (depth + 1) (made + 1) (x + 1)
+      guess-made : (made ≡ b → ⊥) → Turning cs n b (set w x 1) (set s more x) (set ms depth more) (more + 1) (depth + 1) (made + 1) (x + 1)
       guess-made p = record {
         ready = record {
-          all-there = i .ready .all-there;
           formed = rw guess-size formed;
           values = rw guess-size (set-values n w x 1 (omega arith) after-values);
           counted = further .counted;
@@ -360,10 +356,10 @@ module _ {ws v t ms w s : List ℕ} {n b count depth made low more : ℕ} {isBro
           pick y (inl k) = after-below y k
           pick y (inr k) = omega (arith, eq-of-singleton k, inner, after-size)
 
-          again : (o : Outcome) → LeadsTo (clausesIn ws) n b (goes (stateOf (set w x 1) (guessOf w x ∷ i .guesses) (made + 1))) o → LeadsTo (clausesIn ws) n b (decide b (stateOf w (i .guesses) made) (lowestUnset w 0)) o
+          again : (o : Outcome) → LeadsTo cs n b (goes (stateOf (set w x 1) (guessOf w x ∷ i .guesses) (made + 1))) o → LeadsTo cs n b (decide b (stateOf w (i .guesses) made) (lowestUnset w 0)) o
           again o l = unfold decide in rw (first, ne-eqb made b p, decide) l
 
-      pub turn-guess : (made ≡ b → ⊥) → {l : ℕ} {u r : List ℕ} → l ≡ 2 * x → u ≡ set w (l / 2) (1 - l % 2) → r ≡ set s more (l / 2) → Turning ws n b u r (set ms depth more) (more + 1) (depth + 1) (made + 1) (x + 1)
+      pub turn-guess : (made ≡ b → ⊥) → {l : ℕ} {u r : List ℕ} → l ≡ 2 * x → u ≡ set w (l / 2) (1 - l % 2) → r ≡ set s more (l / 2) → Turning cs n b u r (set ms depth more) (more + 1) (depth + 1) (made + 1) (x + 1)
       turn-guess p {l} z qu qr =
           let half : l / 2 ≡ x = omega arith in
           let sign : 1 - l % 2 ≡ 1 = omega arith in

@@ -5,7 +5,6 @@ use mathlib.Core.Bool.{Bool, true, false}
 use mathlib.Core.List.{List, [], _∷_, _++_, List·Memᴰ}
 use Prim.Native.Nat.{ℕ, _+_, _≤_, _<_}
 use lib.ListN.{length, set, take}
-use Rattle.cnf.specs.Clauses.{clausesIn}
 use Rattle.cnf.specs.Search.{isRight, isUnset, broken}
 use Rattle.cnf.proofs.Values.{Formed, Values, unsetCount}
 use Rattle.cnf.proofs.Found.{Found}
@@ -26,10 +25,9 @@ unfoldable pub unsetting : List ℕ → List ℕ → List ℕ
 unsetting v [] = v
 unsetting v (x ∷ xs) = set (unsetting v xs) x 2
 
--- the words are whole clauses over the variables of v, of which count are set; the trail has room for all
-pub record Ready (ws v t : List ℕ) (count : ℕ) : Type 0 where
-  pub all-there : Rattle.cnf.specs.Clauses.whole ws ≡ true
-  pub formed : Formed (clausesIn ws) (length v)
+-- clauses over the variables of v, of which count are set; the trail t has room for all
+pub record Ready (cs : List (List ℕ)) (v t : List ℕ) (count : ℕ) : Type 0 where
+  pub formed : Formed cs (length v)
   pub values : Values (length v) v
   pub counted : count + unsetCount v ≡ length v
   pub room : length v ≤ length t
@@ -45,17 +43,17 @@ pub record Grown (v t : List ℕ) (count : ℕ) (w s : List ℕ) (more : ℕ) : 
   pub counted : more + unsetCount w ≡ length w
 
 -- one pass over the clauses: unit steps, up to a broken clause or the end; where none was made, every clause is settled
-pub record Passed (ws v t : List ℕ) (count : ℕ) (w s : List ℕ) (isBroken : Bool) (more : ℕ) : Type 0 where
+pub record Passed (cs : List (List ℕ)) (v t : List ℕ) (count : ℕ) (w s : List ℕ) (isBroken : Bool) (more : ℕ) : Type 0 where
   pub grown : Grown v t count w s more
-  pub units : UnitSteps (clausesIn ws) v w
-  pub breaking : isBroken ≡ true → Found w (clausesIn ws) broken
-  pub resting : isBroken ≡ false → more ≡ count → AtRest (clausesIn ws) w
+  pub units : UnitSteps cs v w
+  pub breaking : isBroken ≡ true → Found w cs broken
+  pub resting : isBroken ≡ false → more ≡ count → AtRest cs w
 
 abbrev pub closedBy : Bool → List ℕ → Closed
 closedBy true w = breaks
 closedBy false w = rests w
 
 -- the values are closed, by whatever means
-pub record Settles (ws v t : List ℕ) (count : ℕ) (w s : List ℕ) (isBroken : Bool) (more : ℕ) : Type 0 where
+pub record Settles (cs : List (List ℕ)) (v t : List ℕ) (count : ℕ) (w s : List ℕ) (isBroken : Bool) (more : ℕ) : Type 0 where
   pub grown : Grown v t count w s more
-  pub closes : Closes (clausesIn ws) v (closedBy isBroken w)
+  pub closes : Closes cs v (closedBy isBroken w)

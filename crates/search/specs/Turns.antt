@@ -2,11 +2,11 @@
 use mathlib.Core.Path.{_≡_}
 use mathlib.Core.Logic.{_≢_}
 use mathlib.Core.Bool.{true}
-use mathlib.Core.List.{List, List·Memᴰ}
+use mathlib.Core.List.{List}
 use Prim.Native.Nat.{ℕ, _≤_, _<_}
-use lib.ListN.{length, getD, set, replicate, take}
+use lib.ListN.{length, getD, set, replicate}
 use lib.Seq.{slice}
-use Rattle.cnf.specs.Clauses.{valueOf, clausesIn}
+use Rattle.cnf.specs.Clauses.{valueOf, clausesIn, whole}
 use Rattle.cnf.specs.Search.{Outcome, solved, none-exists, spent}
 use Rattle.cnf.proofs.Values.{Formed}
 use Rattle.search.specs.declared.solve.Ending.{Ending}
@@ -37,7 +37,7 @@ noneSet = replicate 276 2
 
 -- whole clauses over at most 276 variables, none of which is set
 pub record Fresh (ws v : List ℕ) : Type 0 where
-  pub all-there : Rattle.cnf.specs.Clauses.whole ws ≡ true
+  pub all-there : whole ws ≡ true
   pub formed : Formed (clausesIn ws) (length v)
   pub none-set : v ≡ replicate (length v) 2
   pub most : length v ≤ 276

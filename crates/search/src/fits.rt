@@ -6,6 +6,7 @@ ghost use Prim.Native.Nat.{_/_};
 ghost use Rattle.lists.specs.Lists.{all, mem};
 ghost use Rattle.cnf.specs.Clauses.{clausesIn, whole, clauseFits};
 
+// A word as an index.
 pub fn wide(x: u16) -> usize
     ensures { λ r. ⌜ r ≡ x ⌝ }
 {

@@ -1,7 +1,9 @@
 // Closing the values: every literal that a clause forces is set, until none is left or a clause is broken.
 ghost use mathlib.Core.Path.{_≡_};
-ghost use Prim.Native.Nat.{_+_, _-_, _/_, _%_, _<_};
+ghost use mathlib.Core.Bool.{true};
+ghost use Prim.Native.Nat.{_-_, _/_, _%_, _<_};
 ghost use lib.ListN.{length, set};
+ghost use Rattle.cnf.specs.Clauses.{clausesIn, whole};
 ghost use Rattle.search.specs.Trail.{literalValue, Ready, Passed, Settles};
 use super::fits::wide;
 
@@ -31,7 +33,7 @@ fn value_of(values: &[u8], l: u16) -> u8
 }
 
 // Makes the literal true, and puts its variable behind the first `count` of the trail.
-pub fn store(values: &mut [u8], trail: &mut [u16], count: usize, l: u16)
+pub(crate) fn store(values: &mut [u8], trail: &mut [u16], count: usize, l: u16)
     requires { ⌜ (l / 2 < length (now values)) × (count < length (now trail)) ⌝ }
     ensures { λ _. ⌜ (now (values .exit) ≡ set (now (values .entry)) (l / 2) (1 - l % 2)) × (now (trail .exit) ≡ set (now (trail .entry)) count (l / 2)) ⌝ }
 {
@@ -42,8 +44,9 @@ pub fn store(values: &mut [u8], trail: &mut [u16], count: usize, l: u16)
 
 // One pass over the clauses, which sets what is forced as it meets it and is left at a clause whose literals are all false.
 fn pass(list: &[u16], values: &mut [u8], trail: &mut [u16], start: usize) -> Reached
-    requires { ⌜ Ready (now list) (now values) (now trail) start ⌝ }
-    ensures { λ r. ⌜ Passed (now (list .entry)) (now (values .entry)) (now (trail .entry)) start (now (values .exit)) (now (trail .exit)) (r .broken) (r .count) ⌝ }
+    requires { ⌜ whole (now list) ≡ true ⌝ }
+    requires { ⌜ Ready (clausesIn (now list)) (now values) (now trail) start ⌝ }
+    ensures { λ r. ⌜ Passed (clausesIn (now (list .entry))) (now (values .entry)) (now (trail .entry)) start (now (values .exit)) (now (trail .exit)) (r .broken) (r .count) ⌝ }
 {
     let mut broken = false;
     let mut count = start;
@@ -84,9 +87,10 @@ fn pass(list: &[u16], values: &mut [u8], trail: &mut [u16], start: usize) -> Rea
 }
 
 // Passes until one sets nothing or breaks a clause.
-pub fn settle(list: &[u16], values: &mut [u8], trail: &mut [u16], start: usize) -> Reached
-    requires { ⌜ Ready (now list) (now values) (now trail) start ⌝ }
-    ensures { λ r. ⌜ Settles (now (list .entry)) (now (values .entry)) (now (trail .entry)) start (now (values .exit)) (now (trail .exit)) (r .broken) (r .count) ⌝ }
+pub(crate) fn settle(list: &[u16], values: &mut [u8], trail: &mut [u16], start: usize) -> Reached
+    requires { ⌜ whole (now list) ≡ true ⌝ }
+    requires { ⌜ Ready (clausesIn (now list)) (now values) (now trail) start ⌝ }
+    ensures { λ r. ⌜ Settles (clausesIn (now (list .entry))) (now (values .entry)) (now (trail .entry)) start (now (values .exit)) (now (trail .exit)) (r .broken) (r .count) ⌝ }
 {
     let mut count = start;
     'passes: loop {

@@ -53,8 +53,9 @@ fn undo(values: &mut [u8], trail: &[u16], mark: usize, count: usize) -> usize
     x
 }
 
-// The trail has the variables that are set, in order; `marks` has the place on it of each guess that stands; every variable below `low` is set.
-pub fn solve(list: &[u16], values: &mut [u8], budget: u64) -> Ending
+// Closes the values, then undoes the latest guess or makes one, until the search ends. The trail has the variables that are set, in order;
+// `marks` has the place on it of each guess that stands; every variable below `low` is set.
+pub(crate) fn solve(list: &[u16], values: &mut [u8], budget: u64) -> Ending
     requires { ⌜ Fresh (now list) (now values) ⌝ }
     ensures { λ r. ⌜ outcomeOf r (now (values .exit)) ≡ searchFrom (clausesIn (now (list .entry))) (length (now (values .entry))) budget ⌝ }
 {
@@ -86,6 +87,7 @@ pub fn solve(list: &[u16], values: &mut [u8], budget: u64) -> Ending
         marks[depth] = r.count as u16;
         depth += 1;
         made += 1;
+        // literal 2x says that x is true
         store(values, &mut trail, r.count, (2 * x) as u16);
         count = r.count + 1;
         low = x + 1;

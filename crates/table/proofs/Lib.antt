@@ -7,3 +7,4 @@ pub mod Examples
 pub mod Walks
 pub mod Fits
 pub mod Numbers
+pub mod Handed

@@ -1,9 +1,13 @@
--- What the functions of src/ are stated with: the table of five sections, and the first record at or after a key. Assumes nothing.
+-- What the functions of src/ are stated with: the table of five sections, a read table as it is passed on, and the first record at or after
+-- a key. Assumes nothing.
+use mathlib.Core.Path.{_≡_}
 use mathlib.Core.Bool.{true, false}
 use mathlib.Core.List.{List, [], _∷_}
 use Prim.Native.Nat.{ℕ, suc}
+use Rattle.table.specs.Limits.{Limits}
 use Rattle.table.specs.File.{Table, records}
-use Rattle.table.specs.Reading.{before}
+use Rattle.table.specs.Reading.{before, Readable, startsOf}
+use Rattle.table.specs.declared.Starts.{Starts}
 
 -- the table that five parts of a file hold: symbols, states, internals, calls, returns
 unfoldable pub sectioned : List ℕ → List ℕ → List ℕ → List ℕ → List ℕ → Table
@@ -15,6 +19,11 @@ sectioned symbols states internals calls returns =
       calls = records 3 calls;
       returns = records 4 returns;
     }
+
+-- "a read table is passed on as the lent bytes together with its five section starts"
+pub record ReadAs (L : Limits) (b : List ℕ) (s : Starts) : Type 0 where
+  pub readable : Readable L b
+  pub starts : s ≡ startsOf b
 
 -- the index of the first record that does not stand before the key; their count where there is none
 unfoldable pub firstAt : List (List ℕ) → List ℕ → ℕ

@@ -1,3 +1,5 @@
+-- `search::search` meets its contract: each way out by its refusal or its outcome.
+-- Assumes nothing.
 use borrow.Author.Needs.{needs}
 use native.Mathlib.Omega.{arith}
 use mathlib.Core.List.{List}
@@ -9,88 +11,138 @@ use Rattle.search.proofs.Answering as laws
 use Rattle.lists.specs.Lists.{over}
 use Rattle.search.proofs.search.Statement.{statement}
 use Rattle.search.proofs.search.Tie as tie
-use Rattle.search.proofs.search.Reads as reads
-use Rattle.search.proofs.search.Lts as lts
-use Rattle.search.proofs.fits.list_fits.Reads as list-fits-reads
-use Rattle.search.proofs.none_set.Reads as none-set-reads
-use Rattle.search.proofs.solve.solve.Reads as solve-reads
-use Rattle.search.proofs.write.Reads as write-reads
 
--- src/lib.rt:54:9
 returns : tie.Need-returns
-returns c = laws.promised 276 (c .before .before .before .args .list .now) (c .before .before .before .args .variables) (c .before .before .before .args .budget) (c .before .before .before .args .answer .now) (laws.refuse-list 276 (c .before .before .before .args .list .now) (c .before .before .before .args .variables) (c .before .before .before .args .budget) (c .before .before .before .args .answer .now) (laws.list-many 276 (c .before .before .before .args .variables) (c .before .before .before .args .list .now) (c .if1 .taken)))
+returns c =
+    let l = c .before .before .before .args .list .now in
+    let n = c .before .before .before .args .variables in
+    let b = c .before .before .before .args .budget in
+    let a = c .before .before .before .args .answer .now in
+    laws.promised 276 l n b a (laws.refuse-list 276 l n b a (laws.list-many 276 n l (c .if1 .taken)))
 
--- src/lib.rt:56:9
 list-fits-requires : tie.Need-list-fits-requires
 list-fits-requires c κs = search needs
 
--- src/lib.rt:57:9
 returns-2 : tie.Need-returns-2
-returns-2 c = laws.promised 276 (c .before .before .before .before .before .args .list .now) (c .before .before .before .before .before .args .variables) (c .before .before .before .before .before .args .budget) (c .before .before .before .before .before .args .answer .now) (laws.refuse-list 276 (c .before .before .before .before .before .args .list .now) (c .before .before .before .before .before .args .variables) (c .before .before .before .before .before .args .budget) (c .before .before .before .before .before .args .answer .now) (laws.list-as 276 (c .before .before .before .before .before .args .variables) (c .before .before .before .before .before .args .list .now) (c .before .before .if1 .left) false (sym (c .before .list-fits .ensures) ∙ not-true _ (c .if2 .taken))))
+returns-2 c =
+    let l = c .before .before .before .before .before .args .list .now in
+    let n = c .before .before .before .before .before .args .variables in
+    let b = c .before .before .before .before .before .args .budget in
+    let a = c .before .before .before .before .before .args .answer .now in
+    let most = c .before .before .if1 .left in
+    let unfit = laws.list-as 276 n l most false (sym (c .before .list-fits .ensures) ∙ not-true _ (c .if2 .taken)) in
+    laws.promised 276 l n b a (laws.refuse-list 276 l n b a unfit)
 
--- src/lib.rt:60:9
 returns-3 : tie.Need-returns-3
-returns-3 c = laws.promised 276 (c .before .before .before .before .before .before .args .list .now) (c .before .before .before .before .before .before .args .variables) (c .before .before .before .before .before .before .args .budget) (c .before .before .before .before .before .before .args .answer .now) (laws.refuse-short 276 (c .before .before .before .before .before .before .args .list .now) (c .before .before .before .before .before .before .args .variables) (c .before .before .before .before .before .before .args .budget) (c .before .before .before .before .before .before .args .answer .now) (laws.list-as 276 (c .before .before .before .before .before .before .args .variables) (c .before .before .before .before .before .before .args .list .now) (c .before .before .before .if1 .left) true (sym (c .before .before .list-fits .ensures) ∙ not-false _ (c .before .if2 .left))) (c .if3 .taken))
+returns-3 c =
+    let l = c .before .before .before .before .before .before .args .list .now in
+    let n = c .before .before .before .before .before .before .args .variables in
+    let b = c .before .before .before .before .before .before .args .budget in
+    let a = c .before .before .before .before .before .before .args .answer .now in
+    let most = c .before .before .before .if1 .left in
+    let fits = laws.list-as 276 n l most true (sym (c .before .before .list-fits .ensures) ∙ not-false _ (c .before .if2 .left)) in
+    laws.promised 276 l n b a (laws.refuse-short 276 l n b a fits (c .if3 .taken))
 
--- src/lib.rt:62:22
 none-set-requires : tie.Need-none-set-requires
 none-set-requires c κs = search needs
 
--- src/lib.rt:63:27
 array-borrow-prefix-values : tie.Need-array-borrow-prefix-values
 array-borrow-prefix-values c = search needs
 
--- src/lib.rt:63:27
 slice-aggregate-solve : tie.Need-slice-aggregate-solve
 slice-aggregate-solve c = sym (laws.prefix-length (c .before .before .before .before .before .before .before .before .args .variables) (c .before .before .before .before .before .if1 .left) (c .before .none-set .ensures))
 
--- src/lib.rt:63:9
 solve-requires : tie.Need-solve-requires
-solve-requires c κs = let f = laws.list-formed 276 (c .before .before .before .before .before .before .before .before .args .variables) (c .before .before .before .before .before .before .before .before .args .list .now) (laws.list-as 276 (c .before .before .before .before .before .before .before .before .args .variables) (c .before .before .before .before .before .before .before .before .args .list .now) (c .before .before .before .before .before .if1 .left) true (sym (c .before .before .before .before .list-fits .ensures) ∙ not-false _ (c .before .before .before .if2 .left))) in laws.fresh (c .before .before .before .before .before .before .before .before .args .variables) (c .before .before .before .before .before .if1 .left) (c .before .none-set .ensures) (f .1) (f .2)
+solve-requires c κs =
+    let l = c .before .before .before .before .before .before .before .before .args .list .now in
+    let n = c .before .before .before .before .before .before .before .before .args .variables in
+    let most = c .before .before .before .before .before .if1 .left in
+    let fits = laws.list-as 276 n l most true (sym (c .before .before .before .before .list-fits .ensures) ∙ not-false _ (c .before .before .before .if2 .left)) in
+    let f = laws.list-formed 276 n l fits in
+    laws.fresh n most (c .before .none-set .ensures) (f .1) (f .2)
 
--- src/lib.rt:65:23
 enum-known-end : tie.Need-enum-known-end
 enum-known-end c = search needs
 
--- src/lib.rt:66:19
 array-share-prefix-values : tie.Need-array-share-prefix-values
-array-share-prefix-values c = laws.prefix-room (c .before .before .before .before .before .before .before .before .before .before .before .before .before .args .variables) (c .before .before .before .before .before .before .before .before .before .before .if1 .left) (c .before .before .before .before .before .before .none-set .ensures) (c .before .before .before .before .solve .last .1 .0) (c .before .before .before .before .solve .kept .1 .0)
+array-share-prefix-values c =
+    let n = c .before .before .before .before .before .before .before .before .before .before .before .before .before .args .variables in
+    let most = c .before .before .before .before .before .before .before .before .before .before .if1 .left in
+    let none = c .before .before .before .before .before .before .none-set .ensures in
+    let v = c .before .before .before .before .solve .last .1 .0 in
+    let long = c .before .before .before .before .solve .kept .1 .0 in
+    laws.prefix-room n most none v long
 
--- src/lib.rt:66:19
 slice-aggregate-write : tie.Need-slice-aggregate-write
-slice-aggregate-write c = sym (laws.prefix-size (c .before .before .before .before .before .before .before .before .before .before .before .before .before .before .args .variables) (c .before .before .before .before .before .before .before .before .before .before .before .if1 .left) (c .before .before .before .before .before .before .before .none-set .ensures) (c .before .before .before .before .before .solve .last .1 .0) (c .before .before .before .before .before .solve .kept .1 .0))
+slice-aggregate-write c =
+    let n = c .before .before .before .before .before .before .before .before .before .before .before .before .before .before .args .variables in
+    let most = c .before .before .before .before .before .before .before .before .before .before .before .if1 .left in
+    let none = c .before .before .before .before .before .before .before .none-set .ensures in
+    let v = c .before .before .before .before .before .solve .last .1 .0 in
+    let long = c .before .before .before .before .before .solve .kept .1 .0 in
+    sym (laws.prefix-size n most none v long)
 
--- src/lib.rt:66:13
 write-requires : tie.Need-write-requires
-write-requires c κs = omega (arith, laws.prefix-size (c .before .before .before .before .before .before .before .before .before .before .before .before .before .before .before .args .variables) (c .before .before .before .before .before .before .before .before .before .before .before .before .if1 .left) (c .before .before .before .before .before .before .before .before .none-set .ensures) (c .before .before .before .before .before .before .solve .last .1 .0) (c .before .before .before .before .before .before .solve .kept .1 .0), c .before .before .before .before .before .before .before .before .before .if3 .left)
+write-requires c κs =
+    let n = c .before .before .before .before .before .before .before .before .before .before .before .before .before .before .before .args .variables in
+    let most = c .before .before .before .before .before .before .before .before .before .before .before .before .if1 .left in
+    let none = c .before .before .before .before .before .before .before .before .none-set .ensures in
+    let v = c .before .before .before .before .before .before .solve .last .1 .0 in
+    let long = c .before .before .before .before .before .before .solve .kept .1 .0 in
+    omega (arith, laws.prefix-size n most none v long, c .before .before .before .before .before .before .before .before .before .if3 .left)
 
--- src/lib.rt:69:30
 enum-told : tie.Need-enum-told
 enum-told c = search needs
 
--- src/lib.rt:70:29
 enum-told-2 : tie.Need-enum-told-2
 enum-told-2 c = search needs
 
--- src/lib.rt:46:1
 same-length : tie.Need-same-length
 same-length c = search needs
 
--- src/lib.rt:46:1
 returns-4 : tie.Need-returns-4
-returns-4 c = let found = laws.is-found (c .before .before .before .before .before .before .before .before .before .before .before .before .before .before .before .before .before .before .args .list .now) (c .before .before .before .before .before .before .before .before .before .before .before .before .before .before .before .before .before .before .args .variables) (c .before .before .before .before .before .before .before .before .before .before .before .before .before .before .before .before .before .before .args .budget) (c .before .before .before .before .before .before .before .before .before .solve .result) (c .before .before .before .before .before .before .before .before .before .solve .last .1 .0) (laws.prefix-length (c .before .before .before .before .before .before .before .before .before .before .before .before .before .before .before .before .before .before .args .variables) (c .before .before .before .before .before .before .before .before .before .before .before .before .before .before .before .if1 .left) (c .before .before .before .before .before .before .before .before .before .before .before .none-set .ensures)) (c .before .before .before .before .before .before .before .before .before .solve .ensures) (c .before .before .before .before .before .before .end .given .1) in
-    let written = c .before .before .write .ensures ∙ ap (λ (l : List ℕ). over l (c .before .before .before .before .before .before .before .before .before .before .before .before .before .before .before .before .before .before .args .answer .now)) (laws.prefix-values (c .before .before .before .before .before .before .before .before .before .before .before .before .before .before .before .before .before .before .args .variables) (c .before .before .before .before .before .before .before .before .before .before .before .before .before .before .before .if1 .left) (c .before .before .before .before .before .before .before .before .before .before .before .none-set .ensures) (c .before .before .before .before .before .before .before .before .before .solve .last .1 .0) (c .before .before .before .before .before .before .before .before .before .solve .kept .1 .0)) in
-    laws.promised 276 (c .before .before .before .before .before .before .before .before .before .before .before .before .before .before .before .before .before .before .args .list .now) (c .before .before .before .before .before .before .before .before .before .before .before .before .before .before .before .before .before .before .args .variables) (c .before .before .before .before .before .before .before .before .before .before .before .before .before .before .before .before .before .before .args .budget) (c .before .before .before .before .before .before .before .before .before .before .before .before .before .before .before .before .before .before .args .answer .now) (laws.answer-found 276 (c .before .before .before .before .before .before .before .before .before .before .before .before .before .before .before .before .before .before .args .list .now) (c .before .before .before .before .before .before .before .before .before .before .before .before .before .before .before .before .before .before .args .variables) (c .before .before .before .before .before .before .before .before .before .before .before .before .before .before .before .before .before .before .args .budget) (c .before .before .before .before .before .before .before .before .before .before .before .before .before .before .before .before .before .before .args .answer .now) (laws.list-as 276 (c .before .before .before .before .before .before .before .before .before .before .before .before .before .before .before .before .before .before .args .variables) (c .before .before .before .before .before .before .before .before .before .before .before .before .before .before .before .before .before .before .args .list .now) (c .before .before .before .before .before .before .before .before .before .before .before .before .before .before .before .if1 .left) true (sym (c .before .before .before .before .before .before .before .before .before .before .before .before .before .before .list-fits .ensures) ∙ not-false _ (c .before .before .before .before .before .before .before .before .before .before .before .before .before .if2 .left))) (c .before .before .before .before .before .before .before .before .before .before .before .before .if3 .left) found written)
+returns-4 c =
+    let l = c .before .before .before .before .before .before .before .before .before .before .before .before .before .before .before .before .before .before .args .list .now in
+    let n = c .before .before .before .before .before .before .before .before .before .before .before .before .before .before .before .before .before .before .args .variables in
+    let b = c .before .before .before .before .before .before .before .before .before .before .before .before .before .before .before .before .before .before .args .budget in
+    let a = c .before .before .before .before .before .before .before .before .before .before .before .before .before .before .before .before .before .before .args .answer .now in
+    let most = c .before .before .before .before .before .before .before .before .before .before .before .before .before .before .before .if1 .left in
+    let fits = laws.list-as 276 n l most true (sym (c .before .before .before .before .before .before .before .before .before .before .before .before .before .before .list-fits .ensures) ∙ not-false _ (c .before .before .before .before .before .before .before .before .before .before .before .before .before .if2 .left)) in
+    let none = c .before .before .before .before .before .before .before .before .before .before .before .none-set .ensures in
+    let v = c .before .before .before .before .before .before .before .before .before .solve .last .1 .0 in
+    let long = c .before .before .before .before .before .before .before .before .before .solve .kept .1 .0 in
+    let size = laws.prefix-length n most none in
+    let found = laws.is-found l n b (c .before .before .before .before .before .before .before .before .before .solve .result) v size (c .before .before .before .before .before .before .before .before .before .solve .ensures) (c .before .before .before .before .before .before .end .given .1) in
+    let written = c .before .before .write .ensures ∙ ap (λ (u : List ℕ). over u a) (laws.prefix-values n most none v long) in
+    laws.promised 276 l n b a (laws.answer-found 276 l n b a fits (c .before .before .before .before .before .before .before .before .before .before .before .before .if3 .left) found written)
 
--- src/lib.rt:46:1
 returns-5 : tie.Need-returns-5
-returns-5 c = let absent = laws.is-absent (c .before .before .before .before .before .before .before .before .before .before .before .before .args .list .now) (c .before .before .before .before .before .before .before .before .before .before .before .before .args .variables) (c .before .before .before .before .before .before .before .before .before .before .before .before .args .budget) (c .before .before .before .solve .result) (c .before .before .before .solve .last .1 .0) (laws.prefix-length (c .before .before .before .before .before .before .before .before .before .before .before .before .args .variables) (c .before .before .before .before .before .before .before .before .before .if1 .left) (c .before .before .before .before .before .none-set .ensures)) (c .before .before .before .solve .ensures) (c .enum-told .given .1) in
-    laws.promised 276 (c .before .before .before .before .before .before .before .before .before .before .before .before .args .list .now) (c .before .before .before .before .before .before .before .before .before .before .before .before .args .variables) (c .before .before .before .before .before .before .before .before .before .before .before .before .args .budget) (c .before .before .before .before .before .before .before .before .before .before .before .before .args .answer .now) (laws.answer-absent 276 (c .before .before .before .before .before .before .before .before .before .before .before .before .args .list .now) (c .before .before .before .before .before .before .before .before .before .before .before .before .args .variables) (c .before .before .before .before .before .before .before .before .before .before .before .before .args .budget) (c .before .before .before .before .before .before .before .before .before .before .before .before .args .answer .now) (laws.list-as 276 (c .before .before .before .before .before .before .before .before .before .before .before .before .args .variables) (c .before .before .before .before .before .before .before .before .before .before .before .before .args .list .now) (c .before .before .before .before .before .before .before .before .before .if1 .left) true (sym (c .before .before .before .before .before .before .before .before .list-fits .ensures) ∙ not-false _ (c .before .before .before .before .before .before .before .if2 .left))) (c .before .before .before .before .before .before .if3 .left) absent)
+returns-5 c =
+    let l = c .before .before .before .before .before .before .before .before .before .before .before .before .args .list .now in
+    let n = c .before .before .before .before .before .before .before .before .before .before .before .before .args .variables in
+    let b = c .before .before .before .before .before .before .before .before .before .before .before .before .args .budget in
+    let a = c .before .before .before .before .before .before .before .before .before .before .before .before .args .answer .now in
+    let most = c .before .before .before .before .before .before .before .before .before .if1 .left in
+    let fits = laws.list-as 276 n l most true (sym (c .before .before .before .before .before .before .before .before .list-fits .ensures) ∙ not-false _ (c .before .before .before .before .before .before .before .if2 .left)) in
+    let none = c .before .before .before .before .before .none-set .ensures in
+    let v = c .before .before .before .solve .last .1 .0 in
+    let size = laws.prefix-length n most none in
+    let absent = laws.is-absent l n b (c .before .before .before .solve .result) v size (c .before .before .before .solve .ensures) (c .enum-told .given .1) in
+    laws.promised 276 l n b a (laws.answer-absent 276 l n b a fits (c .before .before .before .before .before .before .if3 .left) absent)
 
--- src/lib.rt:46:1
 returns-6 : tie.Need-returns-6
-returns-6 c = let spent = laws.is-spent (c .before .before .before .before .before .before .before .before .before .before .before .before .args .list .now) (c .before .before .before .before .before .before .before .before .before .before .before .before .args .variables) (c .before .before .before .before .before .before .before .before .before .before .before .before .args .budget) (c .before .before .before .solve .result) (c .before .before .before .solve .last .1 .0) (laws.prefix-length (c .before .before .before .before .before .before .before .before .before .before .before .before .args .variables) (c .before .before .before .before .before .before .before .before .before .if1 .left) (c .before .before .before .before .before .none-set .ensures)) (c .before .before .before .solve .ensures) (c .enum-told2 .given .1) in
-    laws.promised 276 (c .before .before .before .before .before .before .before .before .before .before .before .before .args .list .now) (c .before .before .before .before .before .before .before .before .before .before .before .before .args .variables) (c .before .before .before .before .before .before .before .before .before .before .before .before .args .budget) (c .before .before .before .before .before .before .before .before .before .before .before .before .args .answer .now) (laws.answer-spent 276 (c .before .before .before .before .before .before .before .before .before .before .before .before .args .list .now) (c .before .before .before .before .before .before .before .before .before .before .before .before .args .variables) (c .before .before .before .before .before .before .before .before .before .before .before .before .args .budget) (c .before .before .before .before .before .before .before .before .before .before .before .before .args .answer .now) (laws.list-as 276 (c .before .before .before .before .before .before .before .before .before .before .before .before .args .variables) (c .before .before .before .before .before .before .before .before .before .before .before .before .args .list .now) (c .before .before .before .before .before .before .before .before .before .if1 .left) true (sym (c .before .before .before .before .before .before .before .before .list-fits .ensures) ∙ not-false _ (c .before .before .before .before .before .before .before .if2 .left))) (c .before .before .before .before .before .before .if3 .left) spent)
+returns-6 c =
+    let l = c .before .before .before .before .before .before .before .before .before .before .before .before .args .list .now in
+    let n = c .before .before .before .before .before .before .before .before .before .before .before .before .args .variables in
+    let b = c .before .before .before .before .before .before .before .before .before .before .before .before .args .budget in
+    let a = c .before .before .before .before .before .before .before .before .before .before .before .before .args .answer .now in
+    let most = c .before .before .before .before .before .before .before .before .before .if1 .left in
+    let fits = laws.list-as 276 n l most true (sym (c .before .before .before .before .before .before .before .before .list-fits .ensures) ∙ not-false _ (c .before .before .before .before .before .before .before .if2 .left)) in
+    let none = c .before .before .before .before .before .none-set .ensures in
+    let v = c .before .before .before .solve .last .1 .0 in
+    let size = laws.prefix-length n most none in
+    let spent = laws.is-spent l n b (c .before .before .before .solve .result) v size (c .before .before .before .solve .ensures) (c .enum-told2 .given .1) in
+    laws.promised 276 l n b a (laws.answer-spent 276 l n b a fits (c .before .before .before .before .before .before .if3 .left) spent)
 
 pub search-spec : {M : Type 1} → statement M
 search-spec =

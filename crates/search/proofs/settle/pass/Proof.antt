@@ -1,6 +1,9 @@
+-- `search::settle::pass` meets its contract. Between clauses: what was set so far are unit steps, and where nothing was, every clause passed is settled.
+-- In a clause: what is seen of it is what is seen of the literals still to come, with the unset literal met so far.
+-- Assumes nothing.
 use borrow.Author.Needs.{needs}
 use native.Mathlib.Omega.{arith}
-use Prim.Native.Nat.{_-_}
+use Prim.Native.Nat.{_+_, _-_}
 use mathlib.Core.Path.{_≡_, refl, sym, _∙_}
 use mathlib.Core.Logic.{⊎-elim}
 use mathlib.Core.Bool.{false}
@@ -9,11 +12,6 @@ use Rattle.search.proofs.Trails.{grown-length}
 use Rattle.search.proofs.Passing as laws
 use Rattle.search.proofs.settle.pass.Statement.{statement}
 use Rattle.search.proofs.settle.pass.Tie as tie
-use Rattle.search.proofs.settle.pass.Reads as reads
-use Rattle.search.proofs.settle.pass.Lts as lts
-use Rattle.search.proofs.fits.wide.Reads as wide-reads
-use Rattle.search.proofs.settle.store.Reads as store-reads
-use Rattle.search.proofs.settle.value_of.Reads as value-of-reads
 
 abbrev Inv-literals : tie.InvT-literals
 Inv-literals list values trail start broken₀ count at₀ end unset₀ last₀ broken at unset last = laws.Within list values at₀ end at unset last × (broken ≡ false)
@@ -27,78 +25,82 @@ Inv-clauses list values₀ trail₀ start broken₀ count₀ at₀ values trail 
 abbrev μ-clauses : tie.MeasureT-clauses
 μ-clauses list values₀ trail₀ start broken₀ count₀ at₀ values trail broken count at = length list - at
 
--- src/settle.rt:51:5
-clauses-holds : tie.Need-clauses-holds Inv-literals μ-literals Inv-clauses μ-clauses
-clauses-holds c = (laws.before-all (c .before .before .before .pre), refl)
+-- what is known in a clause
+entered :
+    (c : tie.After-wide Inv-literals μ-literals Inv-clauses μ-clauses)
+    → laws.Entered
+    (c .before .before .before .before .before .before .before .args .list .now)
+    (c .before .before .before .before .before .before .before .args .values .now)
+    (c .before .before .before .before .before .before .before .args .trail .now)
+    (c .before .before .before .before .before .before .before .args .start)
+    (c .before .before .before .clauses .values)
+    (c .before .before .before .clauses .trail)
+    (c .before .before .before .clauses .count)
+    (c .before .before .before .clauses .at)
+    (c .before .before .before .clauses .at + 1 + c .wide .result)
+entered c = record {
+  ready = c .before .before .before .before .before .before .before .pre .1;
+  between = c .before .before .before .clauses .inv .0;
+  inside = c .before .before .clauses-test .taken;
+  ends = rw (c .wide .ensures) refl;
+}
 
--- src/settle.rt:52:19
+clauses-holds : tie.Need-clauses-holds Inv-literals μ-literals Inv-clauses μ-clauses
+clauses-holds c = (laws.before-all (c .before .before .before .pre .1) (c .before .before .before .pre .0), refl)
+
 add-end : tie.Need-add-end Inv-literals μ-literals Inv-clauses μ-clauses
 add-end c = search needs
 
--- src/settle.rt:52:33
 mul-wide : tie.Need-mul-wide Inv-literals μ-literals Inv-clauses μ-clauses
 mul-wide c = search needs
 
--- src/settle.rt:52:33
 shared-slice-read-wide :
     tie.Need-shared-slice-read-wide Inv-literals μ-literals Inv-clauses μ-clauses
 shared-slice-read-wide c = search needs
 
--- src/settle.rt:52:28
 wide-requires : tie.Need-wide-requires Inv-literals μ-literals Inv-clauses μ-clauses
 wide-requires c κs = search needs
 
--- src/settle.rt:52:19
 add-end-2 : tie.Need-add-end-2 Inv-literals μ-literals Inv-clauses μ-clauses
-add-end-2 c = omega (arith, laws.end-inside (c .before .before .before .before .before .before .before .pre) (c .before .before .before .clauses .inv .0) (c .before .before .clauses-test .taken), c .wide .ensures, c .before .before .before .before .before .before .before .good .0)
+add-end-2 c = omega (arith, laws.end-inside (entered c), c .wide .ensures, c .before .before .before .before .before .before .before .good .0)
 
--- src/settle.rt:53:9
 add-at : tie.Need-add-at Inv-literals μ-literals Inv-clauses μ-clauses
 add-at c = search needs
 
--- src/settle.rt:56:9
 literals-holds : tie.Need-literals-holds Inv-literals μ-literals Inv-clauses μ-clauses
-literals-holds c = (laws.enter (c .before .before .before .before .before .before .before .pre) (c .before .before .before .clauses .inv .0) (c .before .before .clauses-test .taken) (rw (c .wide .ensures) refl), c .before .before .before .clauses .inv .1)
+literals-holds c = (laws.enter (entered c), c .before .before .before .clauses .inv .1)
 
--- src/settle.rt:64:21
 mul-l : tie.Need-mul-l Inv-literals μ-literals Inv-clauses μ-clauses
 mul-l c = search needs
 
--- src/settle.rt:64:21
 shared-slice-read-l : tie.Need-shared-slice-read-l Inv-literals μ-literals Inv-clauses μ-clauses
 shared-slice-read-l c = search needs
 
--- src/settle.rt:65:17
 value-of-requires : tie.Need-value-of-requires Inv-literals μ-literals Inv-clauses μ-clauses
 value-of-requires c κs = laws.next-below (c .before .before .before .literals .inv .0) (c .before .before .if1 .left)
 
--- src/settle.rt:51:5
 clauses-less : tie.Need-clauses-less Inv-literals μ-literals Inv-clauses μ-clauses
 clauses-less c = search needs
 
--- src/settle.rt:51:5
 clauses-again : tie.Need-clauses-again Inv-literals μ-literals Inv-clauses μ-clauses
-clauses-again c = let sees = laws.sees-right (c .before .before .before .before .before .literals .inv .0) (c .before .before .before .before .if1 .left) (sym (c .before .value-of .ensures) ∙ c .if3 .taken) in
-    (laws.settled-on (c .before .before .before .before .before .before .before .before .before .before .before .before .before .pre) (c .before .before .before .before .before .before .before .before .before .clauses .inv .0) (c .before .before .before .before .before .before .before .before .clauses-test .taken) (rw (c .before .before .before .before .before .before .wide .ensures) refl) sees, c .before .before .before .before .before .literals .inv .1)
+clauses-again c =
+    let sees = laws.sees-right (c .before .before .before .before .before .literals .inv .0) (c .before .before .before .before .if1 .left) (sym (c .before .value-of .ensures) ∙ c .if3 .taken) in
+    (laws.settled-on (entered (c .before .before .before .before .before .before)) sees, c .before .before .before .before .before .literals .inv .1)
 
--- src/settle.rt:51:5
 clauses-less-2 : tie.Need-clauses-less-2 Inv-literals μ-literals Inv-clauses μ-clauses
 clauses-less-2 c = search needs
 
--- src/settle.rt:51:5
 clauses-again-2 : tie.Need-clauses-again-2 Inv-literals μ-literals Inv-clauses μ-clauses
-clauses-again-2 c = let sees = laws.sees-second (c .before .before .before .before .before .before .before .literals .inv .0) (c .before .before .before .before .before .before .if1 .left) (c .if5 .taken) (sym (c .before .before .before .value-of .ensures) ∙ c .before .if4 .taken) in
-    (laws.settled-on (c .before .before .before .before .before .before .before .before .before .before .before .before .before .before .before .pre) (c .before .before .before .before .before .before .before .before .before .before .before .clauses .inv .0) (c .before .before .before .before .before .before .before .before .before .before .clauses-test .taken) (rw (c .before .before .before .before .before .before .before .before .wide .ensures) refl) sees, c .before .before .before .before .before .before .before .literals .inv .1)
+clauses-again-2 c =
+    let sees = laws.sees-second (c .before .before .before .before .before .before .before .literals .inv .0) (c .before .before .before .before .before .before .if1 .left) (c .if5 .taken) (sym (c .before .before .before .value-of .ensures) ∙ c .before .if4 .taken) in
+    (laws.settled-on (entered (c .before .before .before .before .before .before .before .before)) sees, c .before .before .before .before .before .before .before .literals .inv .1)
 
--- src/settle.rt:78:13
 add-at-2 : tie.Need-add-at-2 Inv-literals μ-literals Inv-clauses μ-clauses
 add-at-2 c = search needs
 
--- src/settle.rt:56:9
 literals-less : tie.Need-literals-less Inv-literals μ-literals Inv-clauses μ-clauses
 literals-less c = search needs
 
--- src/settle.rt:56:9
 literals-again : tie.Need-literals-again Inv-literals μ-literals Inv-clauses μ-clauses
 literals-again c = let w = c .before .before .before .before .before .before .literals .inv .0 in
     let more = c .before .before .before .before .before .if1 .left in
@@ -110,46 +112,43 @@ literals-again c = let w = c .before .before .before .before .before .before .li
       c .before .before .before .before .before .before .literals .inv .1,
     )
 
--- src/settle.rt:80:9
 store-requires : tie.Need-store-requires Inv-literals μ-literals Inv-clauses μ-clauses
-store-requires c κs = laws.can-store (c .before .before .before .before .before .before .before .before .before .before .before .before .pre) (c .before .before .before .before .before .before .before .before .clauses .inv .0) (c .before .before .before .before .before .before .before .clauses-test .taken) (rw (c .before .before .before .before .before .wide .ensures) refl) (c .before .before .before .before .literals .inv .0) (c .before .before .before .if1 .taken) (c .before .before .if2 .left)
+store-requires c κs = laws.can-store (entered (c .before .before .before .before .before)) (c .before .before .before .before .literals .inv .0) (c .before .before .before .if1 .taken) (c .before .before .if2 .left)
 
--- src/settle.rt:81:9
 add-count : tie.Need-add-count Inv-literals μ-literals Inv-clauses μ-clauses
-add-count c = omega (arith, laws.can-store (c .before .before .before .before .before .before .before .before .before .before .before .before .before .before .before .before .before .pre) (c .before .before .before .before .before .before .before .before .before .before .before .before .before .clauses .inv .0) (c .before .before .before .before .before .before .before .before .before .before .before .before .clauses-test .taken) (rw (c .before .before .before .before .before .before .before .before .before .before .wide .ensures) refl) (c .before .before .before .before .before .before .before .before .before .literals .inv .0) (c .before .before .before .before .before .before .before .before .if1 .taken) (c .before .before .before .before .before .before .before .if2 .left), laws.room (c .before .before .before .before .before .before .before .before .before .before .before .before .before .before .before .before .before .pre) (c .before .before .before .before .before .before .before .before .before .before .before .before .before .clauses .inv .0), c .before .before .before .before .before .before .before .before .before .before .before .before .before .before .before .before .before .good .1 .1 .0)
+add-count c =
+    let e = entered (c .before .before .before .before .before .before .before .before .before .before) in
+    let w = c .before .before .before .before .before .before .before .before .before .literals .inv .0 in
+    let fits = laws.can-store e w (c .before .before .before .before .before .before .before .before .if1 .taken) (c .before .before .before .before .before .before .before .if2 .left) in
+    omega (arith, fits, laws.room (e .ready) (e .between), c .before .before .before .before .before .before .before .before .before .before .before .before .before .before .before .before .before .good .1 .1 .0)
 
--- src/settle.rt:51:5
 clauses-less-3 : tie.Need-clauses-less-3 Inv-literals μ-literals Inv-clauses μ-clauses
 clauses-less-3 c = search needs
 
--- src/settle.rt:51:5
 clauses-again-3 : tie.Need-clauses-again-3 Inv-literals μ-literals Inv-clauses μ-clauses
-clauses-again-3 c = let between = laws.stored (c .before .before .before .before .before .before .before .before .before .before .before .before .before .before .before .before .before .pre) (c .before .before .before .before .before .before .before .before .before .before .before .before .before .clauses .inv .0) (c .before .before .before .before .before .before .before .before .before .before .before .before .clauses-test .taken) (rw (c .before .before .before .before .before .before .before .before .before .before .wide .ensures) refl) (c .before .before .before .before .before .before .before .before .before .literals .inv .0) (c .before .before .before .before .before .before .before .before .if1 .taken) (c .before .before .before .before .before .before .before .if2 .left) (c .before .before .before .before .store .ensures .0) (c .before .before .before .before .store .ensures .1) in
-    (between, c .before .before .before .before .before .before .before .before .before .literals .inv .1)
+clauses-again-3 c =
+    let e = entered (c .before .before .before .before .before .before .before .before .before .before) in
+    let w = c .before .before .before .before .before .before .before .before .before .literals .inv .0 in
+    let s = c .before .before .before .before .store .ensures in
+    (laws.stored e w (c .before .before .before .before .before .before .before .before .if1 .taken) (c .before .before .before .before .before .before .before .if2 .left) (s .0) (s .1), c .before .before .before .before .before .before .before .before .before .literals .inv .1)
 
--- src/settle.rt:44:1
 same-length : tie.Need-same-length Inv-literals μ-literals Inv-clauses μ-clauses
 same-length c = grown-length (c .before .clauses .inv .0 .grown)
 
--- src/settle.rt:44:1
 same-length-2 : tie.Need-same-length-2 Inv-literals μ-literals Inv-clauses μ-clauses
 same-length-2 c = search needs
 
--- src/settle.rt:44:1
 returns : tie.Need-returns Inv-literals μ-literals Inv-clauses μ-clauses
-returns c = laws.pass-quiet (c .before .before .before .before .before .pre) (c .before .clauses .inv .0) (c .clauses-test .left) (c .before .clauses .inv .1)
+returns c = laws.pass-quiet (c .before .before .before .before .before .pre .1) (c .before .clauses .inv .0) (c .clauses-test .left) (c .before .clauses .inv .1)
 
--- src/settle.rt:44:1
 same-length-3 : tie.Need-same-length-3 Inv-literals μ-literals Inv-clauses μ-clauses
 same-length-3 c = grown-length (c .before .before .before .before .before .before .clauses .inv .0 .grown)
 
--- src/settle.rt:44:1
 same-length-4 : tie.Need-same-length-4 Inv-literals μ-literals Inv-clauses μ-clauses
 same-length-4 c = search needs
 
--- src/settle.rt:44:1
 returns-2 : tie.Need-returns-2 Inv-literals μ-literals Inv-clauses μ-clauses
-returns-2 c = laws.pass-broken (c .before .before .before .before .before .before .before .before .before .before .pre) (c .before .before .before .before .before .before .clauses .inv .0) (c .before .before .before .before .before .clauses-test .taken) (rw (c .before .before .before .wide .ensures) refl) (c .before .before .literals .inv .0) (c .before .if1 .taken) (c .if2 .taken) refl
+returns-2 c = laws.pass-broken (entered (c .before .before .before)) (c .before .before .literals .inv .0) (c .before .if1 .taken) (c .if2 .taken) refl
 
 pub pass-spec : {M : Type 1} → statement M
 pass-spec =
