@@ -23,6 +23,10 @@ mod states;
 mod targets;
 mod variables;
 
+pub use variables::Found;
+pub use variables::pair_of;
+pub use variables::pairs_of;
+
 // What writing the clause list answers.
 pub enum Listed {
     List { clauses: usize, words: usize },
