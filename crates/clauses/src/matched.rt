@@ -46,7 +46,8 @@ pub(crate) fn matched(
             return tally;
         }
         let l = joined(target, q);
-        if contains(clause, opposed(l)) {
+        let other = opposed(l);
+        if contains(clause, other) {
             return tally;
         }
         clause = with_literal(clause, l);

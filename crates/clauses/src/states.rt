@@ -70,9 +70,10 @@ fn close(p: u8, q: u8, s: u8, tally: Tally, list: &mut [u16]) -> Tally
     let pq = parted(p, q);
     let ps = parted(p, s);
     let qs = parted(q, s);
-    let first = put(three(pq, qs, joined(p, s)), tally, list);
-    let second = put(three(pq, ps, joined(q, s)), first, list);
-    put(three(ps, qs, joined(p, q)), second, list)
+    let first = three(pq, qs, joined(p, s));
+    let second = three(pq, ps, joined(q, s));
+    let third = three(ps, qs, joined(p, q));
+    put(third, put(second, put(first, tally, list), list), list)
 }
 
 // The states s past q.
