@@ -129,22 +129,22 @@ fn joined_stack_symbols() -> Table {
     }
 }
 
-/// Clauses over pigeons and holes: one pigeon more than holes, so that the search has to undo many guesses before none exists.
+/// One pigeon more than holes, where variable 0 is true: the search guesses it, undoes thousands of guesses, and finds it false.
 fn pigeons(holes: usize) -> (Vec<u16>, usize) {
-    let v = |p: usize, h: usize| p * holes + h;
+    let v = |p: usize, h: usize| 1 + p * holes + h;
     let mut words = Vec::new();
     for p in 0..=holes {
-        words.push(holes as u16);
+        words.extend([holes as u16 + 1, 1]);
         words.extend((0..holes).map(|h| 2 * v(p, h) as u16));
     }
     for h in 0..holes {
         for p in 0..=holes {
             for q in 0..p {
-                words.extend([2, 2 * v(q, h) as u16 + 1, 2 * v(p, h) as u16 + 1]);
+                words.extend([3, 1, 2 * v(q, h) as u16 + 1, 2 * v(p, h) as u16 + 1]);
             }
         }
     }
-    (words, holes * (holes + 1))
+    (words, 1 + holes * (holes + 1))
 }
 
 fn main() {
