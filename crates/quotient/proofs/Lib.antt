@@ -5,3 +5,5 @@ pub mod States
 pub mod Automaton
 pub mod Table
 pub mod Theorems
+pub mod Keys
+pub mod Writing
