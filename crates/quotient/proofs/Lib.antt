@@ -6,4 +6,6 @@ pub mod Automaton
 pub mod Table
 pub mod Theorems
 pub mod Keys
+pub mod Inserting
+pub mod Collecting
 pub mod Writing

@@ -1,4 +1,5 @@
 // Writing the quotient of a table under a map.
+mod images;
 mod write;
 
 // What writing the quotient answers.
