@@ -7,3 +7,5 @@ pub mod Maps
 pub mod Formed
 pub mod Assignments
 pub mod Theorems
+pub mod Collecting
+pub mod Emitting

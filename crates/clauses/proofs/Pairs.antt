@@ -3,6 +3,7 @@ use mathlib.Core.Path.{_≡_, refl, sym, ap, _∙_, subst}
 use mathlib.Core.Logic.{_≢_}
 use mathlib.Core.Bool.{Bool, true, false}
 use Prim.Native.Nat.{ℕ, zero, suc, _+_, _-_, _*_, _/_, _≤_, _<_}
+use native.Mathlib.Numerals.{add-one}
 use native.Mathlib.Omega.{arith}
 use lib.Dec.{eqb, ltb}
 use borrow.Author.Tests.{eqb-true, eqb-false, ltb-true, ltb-false, lt-ltb, le-ltb}
@@ -107,3 +108,53 @@ pair-below n v h = go (ltb (pairOf v .high) n) refl
     go : (t : Bool) → ltb (pairOf v .high) n ≡ t → pairOf v .high < n
     go true e = ltb-true (pairOf v .high) n e
     go false e = absurd (omega (arith, variable-lt (pairOf v .low) (pairOf v .high) (pair-ordered v), variable-pair v, pairs-mono n (pairOf v .high) (ltb-false (pairOf v .high) n e)))
+
+-- ---- states that are bytes
+
+pub pairs-byte : (n : ℕ) → n < 256 → pairs n ≤ 32385
+unfolding pairs
+pairs-byte n h = pairs-mono n 255 (omega arith)
+
+pub product-byte : (n : ℕ) → n < 256 → n * (n - 1) < 65536
+unfolding pairs
+product-byte n h = omega (arith, pairs-byte n h)
+
+-- ---- the way back, turn by turn: as many states on as are left
+
+pub record Finding (v low high : ℕ) : Type 0 where
+  pub some-state : 1 ≤ high
+  pub small : high + low ≤ v + 1
+  pub left : ℕ
+  pub enough : low ≤ left
+  pub meets : pairOf v ≡ pairFrom left high low
+
+pub finding : (v : ℕ) → Finding v v 1
+unfolding pairOf
+finding v = record { some-state = omega arith; small = omega arith; left = v; enough = omega arith; meets = refl }
+
+module _ {v low high : ℕ} (w : Finding v low high) where
+  pub find-on : high ≤ low → Finding v (low - high) (high + 1)
+  unfolding pairFrom
+  find-on h = go (w .left) (w .enough) (w .meets)
+    where
+      go : (k : ℕ) → low ≤ k → pairOf v ≡ pairFrom k high low → Finding v (low - high) (high + 1)
+      go zero l e = absurd (omega (arith, w))
+      go (suc k) l e = record { some-state = omega arith; small = omega (arith, w); left = k; enough = omega (arith, w); meets = e ∙ rw (le-ltb low high h, pairFrom, add-one high) }
+
+  pub found : low < high → record { low = low; high = high } ≡ pairOf v
+  unfolding pairFrom
+  found h = go (w .left) (w .meets)
+    where
+      go : (k : ℕ) → pairOf v ≡ pairFrom k high low → record { low = low; high = high } ≡ pairOf v
+      go zero e = sym e
+      go (suc k) e = sym (e ∙ rw (lt-ltb low high h, pairFrom))
+
+pub variable-byte : (p q : ℕ) → p < 256 → q < 256 → variableOf p q ≤ 32640
+variable-byte p q h k = go (ltb p q) refl
+  where
+    go : (t : Bool) → ltb p q ≡ t → variableOf p q ≤ 32640
+    go true e = omega (arith, variable-lt p q (ltb-true p q e), pairs-byte q k)
+    go false e = omega (arith, pairs-byte p h, turned)
+      where
+        turned : variableOf p q ≡ pairs p + q
+        turned = unfold variableOf in rw (e, variableOf)

@@ -1,3 +1,4 @@
 pub mod Pairs
 pub mod Clauses
 pub mod Maps
+pub mod Emit

@@ -27,6 +27,10 @@ pub units-more : (cs : List (List ℕ)) (v u : List ℕ) → UnitSteps cs v u �
 units-more cs v u stay = ⊑-refl v
 units-more cs v u (more {w = t} l s f) = ⊑-trans (units-more cs v t s) (set-more t (l / 2) (1 - l % 2) (f .2 .free))
 
+pub units-trans : {cs : List (List ℕ)} {u v w : List ℕ} → UnitSteps cs u v → UnitSteps cs v w → UnitSteps cs u w
+units-trans p stay = p
+units-trans p (more l s f) = more l (units-trans p s) f
+
 pub units-length : (cs : List (List ℕ)) (v u : List ℕ) → UnitSteps cs v u → length u ≡ length v
 units-length cs v u stay = refl
 units-length cs v u (more {w = t} l s f) = length-set t (l / 2) (1 - l % 2) ∙ units-length cs v t s

@@ -4,3 +4,4 @@ pub mod Parts
 pub mod Bits
 pub mod Counts
 pub mod Words
+pub mod Lowest

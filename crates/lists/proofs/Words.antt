@@ -1,21 +1,20 @@
 -- Words as sets of their bits: one within another, how many bits are 1. Assumes nothing.
-use mathlib.Core.Path.{_≡_, refl, sym, ap, _∙_, subst}
-use mathlib.Core.Logic.{_≢_, _⊎_, inl, inr}
+use mathlib.Core.Path.{_≡_, refl, sym, ap, _∙_}
+use mathlib.Core.Logic.{_≢_}
 use mathlib.Core.Bool.{Bool, true, false, _&&_, true≢false}
 use mathlib.Core.List.{List, [], _∷_, _++_, append-nil, map}
-use Prim.Native.Nat.{ℕ, zero, suc, _+_, _*_, _/_, _%_, _^_, _<_, _≤_}
+use Prim.Native.Nat.{ℕ, zero, suc, _+_, _/_, _%_, _^_, _<_, _≤_}
 use native.Mathlib.Omega.{arith}
-use native.Mathlib.Nat.{div-div-eq-div-mul, pow-succ', div-one, le-refl, div-lt-iff-lt-mul}
+use native.Mathlib.Nat.{div-div-eq-div-mul, pow-succ', div-one, le-refl, lt-of-lt-of-le, div-lt-iff-lt-mul}
 use native.Mathlib.Decide.{ℕ-discrete, decLt}
-use lib.Pow.{pow-pos, shr-shr}
+use lib.Pow.{pow-pos, pow-mono, shr-shr}
 use lib.Count.{onesIn, ones, ones-step}
 use lib.ListN.{length, getD, take, replicate, length-append}
 use lib.Seq.{take-suc, take-length}
 use lib.Dec.{eqb}
-use borrow.Author.Tests.{eqb-true, eqb-false, eq-eqb, ne-eqb}
+use borrow.Author.Tests.{eqb-true, eqb-false, ne-eqb}
 use Rattle.lists.specs.Lists.{keep, gather, upto, same}
 use Rattle.lists.specs.Bits.{Bit, hasBit, has, onesOver}
-use Rattle.lists.proofs.Members.{length-upto}
 use Rattle.lists.proofs.Bits.{some-bit, no-bit}
 use Rattle.lists.proofs.Counts.{keep-append, keep-map, gather-append, grid}
 
@@ -113,6 +112,12 @@ one-bit w k = go (eqb (w / 2 ^ k % 2) 1) refl
     go true e = sym (eqb-true _ _ e)
     go false e = omega (arith, eqb-false (w / 2 ^ k % 2) 1 e)
 
+-- no more than k of the first k
+pub ones-le : (k w : ℕ) → onesIn k w ≤ k
+unfolding onesIn
+ones-le zero w = omega arith
+ones-le (suc k) w = omega (arith, ones-le k (w / 2))
+
 pub ones-keep : (k w : ℕ) → onesIn k w ≡ length (keep (hasBit w) (upto k))
 unfolding onesIn upto keep
 ones-keep zero w = refl
@@ -124,6 +129,15 @@ pub over-append : (k : ℕ) (xs ys : List ℕ) → onesOver k (xs ++ ys) ≡ one
 unfolding onesOver
 over-append k [] ys = omega arith
 over-append k (x ∷ xs) ys = omega (arith, over-append k xs ys)
+
+-- words of k bits have no more ones among more bits
+pub over-more : (k n : ℕ) (ws : List ℕ) → k ≤ n → ((q : ℕ) → getD ws q 0 < 2 ^ k) → onesOver n ws ≡ onesOver k ws
+unfolding onesOver
+over-more k n [] h l = refl
+over-more k n (w ∷ ws) h l =
+    let e = ones-first k w (l 0) in
+    let f = ones-first n w (lt-of-lt-of-le (l 0) (pow-mono h)) in
+    omega (arith, over-more k n ws h (λ q. l (suc q)))
 
 -- over all the words: the cells whose bit is 1
 module _ (k : ℕ) (ws : List ℕ) where

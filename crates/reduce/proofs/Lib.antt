@@ -1,3 +1,5 @@
 pub mod Marked
 pub mod Ways
 pub mod Theorems
+pub mod Lowest
+pub mod Numbering

@@ -1,2 +1,3 @@
 pub mod Reduce
 pub mod Demands
+pub mod Lowest

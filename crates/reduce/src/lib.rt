@@ -1,4 +1,5 @@
 // Reducing a table.
+mod map;
 
 // What reduce answers.
 pub enum Reduction {

@@ -1,4 +1,7 @@
 // The search over clause words.
+mod fits;
+mod settle;
+mod solve;
 
 // What the search answers.
 pub enum Solution {

@@ -1,8 +1,8 @@
 -- What the tops ask of a table: its records have their widths and name states, and there are no more states than the limit. Assumes nothing.
-use mathlib.Core.Path.{_≡_, refl, sym, ap, _∙_}
+use mathlib.Core.Path.{_≡_, sym}
 use mathlib.Core.Logic.{_≢_}
-use mathlib.Core.List.{List, [], _∷_, List·Memᴰ, Memᴰ·cast}
-use Prim.Native.Nat.{ℕ, _/_, _%_, _<_, _≤_}
+use mathlib.Core.List.{List, List·Memᴰ, Memᴰ·cast}
+use Prim.Native.Nat.{ℕ, _<_, _≤_}
 use native.Mathlib.Omega.{arith}
 use native.Mathlib.Decide.{decLt}
 use lib.ListN.{length, getD, List·getD-eq-default}
@@ -10,6 +10,7 @@ use Rattle.vpa.specs.Automata.{Lawful}
 use Rattle.table.specs.Limits.{Limits}
 use Rattle.table.specs.File.{Table}
 use Rattle.table.specs.Language.{count, byteOf, automaton}
+use Rattle.table.proofs.Facts.{three-bytes, four-bytes}
 
 -- an internal or a call, a return
 pub record Moves (n : ℕ) (r : List ℕ) : Type 0 where
@@ -29,31 +30,15 @@ pub record Bounded (L : Limits) (t : Table) : Type 0 where
   pub calls : (r : List ℕ) → List·Memᴰ r (t .calls) → Moves (count t) r
   pub returns : (r : List ℕ) → List·Memᴰ r (t .returns) → Pops (count t) r
 
--- a record is its bytes
-pub three : (r : List ℕ) → length r ≡ 3 → (getD r 0 0 ∷ getD r 1 0 ∷ getD r 2 0 ∷ []) ≡ r
-three [] e = absurd (omega arith)
-three (a ∷ []) e = absurd (omega arith)
-three (a ∷ b ∷ []) e = absurd (omega arith)
-three (a ∷ b ∷ c ∷ []) e = refl
-three (a ∷ b ∷ c ∷ d ∷ r) e = absurd (omega arith)
-
-pub four : (r : List ℕ) → length r ≡ 4 → (getD r 0 0 ∷ getD r 1 0 ∷ getD r 2 0 ∷ getD r 3 0 ∷ []) ≡ r
-four [] e = absurd (omega arith)
-four (a ∷ []) e = absurd (omega arith)
-four (a ∷ b ∷ []) e = absurd (omega arith)
-four (a ∷ b ∷ c ∷ []) e = absurd (omega arith)
-four (a ∷ b ∷ c ∷ d ∷ []) e = refl
-four (a ∷ b ∷ c ∷ d ∷ f ∷ r) e = absurd (omega arith)
-
 module _ {L : Limits} {t : Table} (bounded : Bounded L t) where
   pub an-internal : (r : List ℕ) → List·Memᴰ r (t .internals) → automaton t .internal (getD r 0 0) (getD r 1 0) (getD r 2 0)
-  an-internal r m = Memᴰ·cast (three r (bounded .internals r m .wide)) m
+  an-internal r m = Memᴰ·cast (sym (three-bytes r (bounded .internals r m .wide))) m
 
   pub a-call : (r : List ℕ) → List·Memᴰ r (t .calls) → automaton t .call (getD r 0 0) (getD r 1 0) (getD r 2 0)
-  a-call r m = Memᴰ·cast (three r (bounded .calls r m .wide)) m
+  a-call r m = Memᴰ·cast (sym (three-bytes r (bounded .calls r m .wide))) m
 
   pub a-return : (r : List ℕ) → List·Memᴰ r (t .returns) → automaton t .return (getD r 0 0) (getD r 1 0) (getD r 2 0) (getD r 3 0)
-  a-return r m = Memᴰ·cast (four r (bounded .returns r m .wide)) m
+  a-return r m = Memᴰ·cast (sym (four-bytes r (bounded .returns r m .wide))) m
 
   marked : (q : ℕ) → byteOf t q ≢ 0 → q < count t
   marked q h = go (decLt q (count t))

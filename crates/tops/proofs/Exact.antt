@@ -1,15 +1,14 @@
 -- The words hold the reachable tops, exactly (document 01, "Runs and reachable tops"; source 000, Sect. 2.2). Assumes nothing.
-use mathlib.Core.Path.{_≡_, refl, sym, ap, _∙_, subst}
+use mathlib.Core.Path.{_≡_, refl, sym, ap, _∙_}
 use mathlib.Core.Logic.{_≢_, _↔_, _⊎_, inl, inr}
 use mathlib.Core.Bool.{Bool, true, false, true≢false}
-use mathlib.Core.List.{List, [], _∷_, _++_, map, List·Memᴰ, List·Memᴰ·head, List·Memᴰ·tail}
+use mathlib.Core.List.{List, [], _∷_, List·Memᴰ, List·Memᴰ·head, List·Memᴰ·tail}
 use mathlib.Core.Option.{Option, none, some}
-use Prim.Native.Nat.{ℕ, zero, suc, _+_, _-_, _*_, _/_, _%_, _^_, _<_, _≤_}
+use Prim.Native.Nat.{ℕ, zero, suc, _+_, _-_, _*_, _%_, _^_, _<_}
 use native.Mathlib.Omega.{arith}
 use native.Mathlib.Nat.{le-refl}
-use native.Mathlib.Decide.{ℕ-discrete, decLt}
-use lib.ListN.{length, getD, replicate, length-map, List·getD-map, List·getD-eq-default, List·getD-append, length-replicate, length-append}
-use lib.Seq.{getD-append-add}
+use native.Mathlib.Decide.{decLt}
+use lib.ListN.{length, getD, replicate, length-map, List·getD-map, length-replicate, length-append}
 use lib.Dec.{eqb}
 use borrow.Author.Tests.{eqb-true, eqb-false, eq-eqb, ne-eqb}
 use Rattle.lists.specs.Lists.{keep, upto, same}
@@ -17,7 +16,7 @@ use Rattle.lists.specs.Bits.{Bit, has}
 use Rattle.lists.proofs.Bits.{some-bit, no-bit, bit-own, bit-pow, has-true, has-of}
 use Rattle.lists.proofs.Members.{keep-mem, keep-of, upto-of, length-upto, same-true}
 use Rattle.lists.proofs.Counts.{keep-le, keep-less, grid, length-grid, grid-of}
-use Rattle.lists.proofs.Words.{new-bit, has-no, has-false, same-false, getD-padded, word-lt}
+use Rattle.lists.proofs.Words.{new-bit, has-no, same-false, getD-padded, word-lt}
 use Rattle.vpa.specs.Automata.{Tops, Top, bottom, along, pushed, popped}
 use Rattle.vpa.proofs.Tops.{tops-of, top-of, top-state, top-named}
 use Rattle.table.specs.Limits.{Limits}
@@ -26,7 +25,7 @@ use Rattle.table.specs.Reading.{isInitial}
 use Rattle.table.specs.Language.{count, byteOf, automaton}
 use Rattle.tops.specs.Tops.{topNamed, bottomOf, add, live, byCalls, byReturns, round, rounds, startWords, topWords, liveReturns}
 use Rattle.tops.proofs.Bounded.{Bounded, an-internal, a-call, a-return, lawful}
-use Rattle.tops.proofs.Walks.{Below, below-refl, below-trans, add-bit, add-own, length-add, internalStep, callStep, returnStep, walk, round-walk, Grows, internal-grows, call-grows, return-grows, internal-step, call-step, return-step, walk-keeps, walk-longer, walk-wide, walk-at}
+use Rattle.tops.proofs.Walks.{Below, below-refl, below-trans, add-bit, add-own, length-add, internalStep, callStep, returnStep, walk, round-walk, internal-grows, call-grows, return-grows, internal-step, call-step, return-step, walk-keeps, walk-longer, walk-wide, walk-at}
 
 -- ---- the numbers of tops
 

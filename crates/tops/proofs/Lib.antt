@@ -3,3 +3,6 @@ pub mod Walks
 pub mod Exact
 pub mod Count
 pub mod Formed
+pub mod Padded
+pub mod Loops
+pub mod Read

@@ -1,1 +1,2 @@
 pub mod Tops
+pub mod Sections

@@ -1,8 +1,209 @@
 // The reachable stack tops of a table.
+ghost use mathlib.Core.Path.{_≡_};
+ghost use mathlib.Core.Logic.{_≢_};
+ghost use Prim.Native.Nat.{suc, _-_, _*_, _^_, _<_, _≤_};
+ghost use mathlib.Core.List.{[], _++_};
+ghost use lib.ListN.{length, replicate};
+ghost use lib.Count.{onesIn, trailingZeros};
+ghost use Rattle.lists.specs.Lists.{same};
+ghost use Rattle.lists.specs.Bits.{has, onesOver};
+ghost use Rattle.table.specs.Limits.{standard};
+ghost use Rattle.table.specs.File.{records};
+ghost use Rattle.table.specs.Sections.{sectioned};
+ghost use Rattle.tops.specs.Tops.{add, byInternals, byCalls, byReturns, startWords, rounds, topWords};
+ghost use Rattle.tops.specs.Sections.{Section, Sections, topsFound};
 
 // What tops answers: the refusal's number or 0, a word for each possible state, and the number of tops found.
 pub struct TopWords {
     pub number: u8,
     pub words: [u32; 24],
     pub found: u32,
+}
+
+fn wide(x: u8) -> usize
+    ensures { λ r. ⌜ r ≡ x ⌝ }
+{
+    x as usize
+}
+
+// The word whose only bit is x.
+fn bit(x: usize) -> u32
+    requires { ⌜ x < 32 ⌝ }
+    ensures { λ r. ⌜ r ≡ 2 ^ x ⌝ }
+{
+    1u32 << x
+}
+
+// Top x is in word q.
+fn has_top(words: &[u32; 24], q: usize, x: usize) -> bool
+    requires { ⌜ (q < 24) × (x < 32) ⌝ }
+    ensures { λ r. ⌜ r ≡ has (now (words .entry)) q x ⌝ }
+{
+    (words[q] >> x) % 2 == 1
+}
+
+// Word q gains the tops of w.
+fn add(words: &mut [u32; 24], q: usize, w: u32)
+    requires { ⌜ q < 24 ⌝ }
+    ensures { λ _. ⌜ now (words .exit) ≡ add (now (words .entry)) q w ⌝ }
+{
+    words[q] = words[q] | w;
+}
+
+// An initial state has bottom, numbered 24.
+fn start_words(states: &[u8]) -> [u32; 24]
+    requires { ⌜ length (now states) ≤ 24 ⌝ }
+    ensures { λ r. ⌜ r ≡ startWords standard (sectioned [] (now (states .entry)) [] [] []) ++ replicate (24 - length (now (states .entry))) 0 ⌝ }
+{
+    let mut words = [0u32; 24];
+    let mut q: usize = 0;
+    'states: while q < states.len() {
+        if states[q] % 2 == 1 {
+            words[q] = bit(24);
+        }
+        q += 1;
+    }
+    words
+}
+
+// By an internal (q, a, q') the tops of q are tops of q'.
+fn by_internals(section: &[u8], words: &mut [u32; 24])
+    requires { ⌜ Section 3 24 (now section) ⌝ }
+    ensures { λ _. ⌜ now (words .exit) ≡ byInternals (records 3 (now (section .entry))) (now (words .entry)) ⌝ }
+{
+    let mut at: usize = 0;
+    'records: while at < section.len() {
+        let from = wide(section[at]);
+        let to = wide(section[at + 2]);
+        let gained = words[from];
+        add(words, to, gained);
+        at += 3;
+    }
+}
+
+// By a call (q, a, q') the state q is a top of q', if q has a top.
+fn by_calls(section: &[u8], words: &mut [u32; 24])
+    requires { ⌜ Section 3 24 (now section) ⌝ }
+    ensures { λ _. ⌜ now (words .exit) ≡ byCalls (records 3 (now (section .entry))) (now (words .entry)) ⌝ }
+{
+    let mut at: usize = 0;
+    'records: while at < section.len() {
+        let from = wide(section[at]);
+        let to = wide(section[at + 2]);
+        if words[from] != 0 {
+            add(words, to, bit(from));
+        }
+        at += 3;
+    }
+}
+
+// By a live return (q, a, s, q') the tops of s are tops of q'.
+fn by_returns(section: &[u8], words: &mut [u32; 24])
+    requires { ⌜ Section 4 24 (now section) ⌝ }
+    ensures { λ _. ⌜ now (words .exit) ≡ byReturns (records 4 (now (section .entry))) (now (words .entry)) ⌝ }
+{
+    let mut at: usize = 0;
+    'records: while at < section.len() {
+        let from = wide(section[at]);
+        let under = wide(section[at + 2]);
+        let to = wide(section[at + 3]);
+        if has_top(words, from, under) {
+            let gained = words[under];
+            add(words, to, gained);
+        }
+        at += 4;
+    }
+}
+
+fn same_words(a: [u32; 24], b: [u32; 24]) -> bool
+    ensures { λ r. ⌜ r ≡ same a b ⌝ }
+{
+    let mut i: usize = 0;
+    'words: while i < 24 {
+        if a[i] != b[i] {
+            return false;
+        }
+        i += 1;
+    }
+    true
+}
+
+// All records pass until a round changes nothing; so many rounds are enough (proofs/Exact).
+fn rest(states: &[u8], internals: &[u8], calls: &[u8], returns: &[u8], words: &mut [u32; 24])
+    requires { ⌜ Sections (now states) (now internals) (now calls) (now returns) ⌝ }
+    ensures { λ _. ⌜ now (words .exit) ≡ rounds (suc (length (now (states .entry)) * suc (length (now (states .entry))))) (sectioned [] (now (states .entry)) (now (internals .entry)) (now (calls .entry)) (now (returns .entry))) (now (words .entry)) ⌝ }
+{
+    let n = states.len();
+    let mut left = n * (n + 1) + 1;
+    'rounds: while 0 < left {
+        let old = *words;
+        by_internals(internals, words);
+        by_calls(calls, words);
+        by_returns(returns, words);
+        let new = *words;
+        if same_words(new, old) {
+            return;
+        }
+        left -= 1;
+    }
+}
+
+// The top words of the table with these sections.
+fn words_of(states: &[u8], internals: &[u8], calls: &[u8], returns: &[u8]) -> [u32; 24]
+    requires { ⌜ Sections (now states) (now internals) (now calls) (now returns) ⌝ }
+    ensures { λ r. ⌜ r ≡ topWords standard (sectioned [] (now (states .entry)) (now (internals .entry)) (now (calls .entry)) (now (returns .entry))) ⌝ }
+{
+    let mut words = start_words(states);
+    rest(states, internals, calls, returns, &mut words);
+    words
+}
+
+// The number of tops in a word: its ones.
+fn tops_in(word: u32) -> u32
+    ensures { λ r. ⌜ r ≡ onesIn 32 word ⌝ }
+{
+    u32::count_ones(word)
+}
+
+// The number of tops in all the words.
+pub fn count_tops(words: [u32; 24]) -> u32
+    ensures { λ r. ⌜ r ≡ onesOver 32 words ⌝ }
+{
+    let mut found: u32 = 0;
+    let mut q: usize = 0;
+    'words: while q < 24 {
+        found += tops_in(words[q]);
+        q += 1;
+    }
+    found
+}
+
+// The answer for the table with these sections.
+fn tops_of(states: &[u8], internals: &[u8], calls: &[u8], returns: &[u8]) -> TopWords
+    requires { ⌜ Sections (now states) (now internals) (now calls) (now returns) ⌝ }
+    ensures { λ r. ⌜ r ≡ topsFound standard (sectioned [] (now (states .entry)) (now (internals .entry)) (now (calls .entry)) (now (returns .entry))) ⌝ }
+{
+    let words = words_of(states, internals, calls, returns);
+    TopWords {
+        number: 0,
+        words: words,
+        found: count_tops(words),
+    }
+}
+
+// The lowest top of a word, 32 where it has none: its trailing zeros.
+pub fn next_top(word: u32) -> u32
+    ensures { λ r. ⌜ r ≡ trailingZeros 32 word ⌝ }
+{
+    u32::trailing_zeros(word)
+}
+
+// The word without its lowest top.
+pub fn later_tops(word: u32) -> u32
+    ensures { λ r. ⌜ r ≡ word - 2 ^ trailingZeros 32 word ⌝ }
+{
+    if word == 0 {
+        return 0;
+    }
+    word - (1u32 << u32::trailing_zeros(word))
 }

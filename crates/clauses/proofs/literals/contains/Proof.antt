@@ -1,0 +1,67 @@
+-- `clauses::literals::contains` meets its contract: the literal is not among those passed. Assumes nothing.
+use mathlib.Core.Path.{_≡_}
+use Prim.Native.Nat.{_-_, _≤_}
+use lib.ListN.{length}
+use native.Mathlib.Omega.{arith}
+use borrow.Author.Needs.{needs}
+use Rattle.clauses.proofs.Collecting.{whole, Seeking, seeking, seek-on, sought, unseen}
+use Rattle.clauses.proofs.literals.contains.Statement.{statement}
+use Rattle.clauses.proofs.literals.contains.Tie as tie
+use Rattle.clauses.proofs.literals.contains.Reads as reads
+use Rattle.clauses.proofs.literals.contains.Lts as lts
+
+abbrev Inv-literals : tie.InvT-literals
+Inv-literals l c n i₀ i = Seeking l (c .words) n i
+
+abbrev μ-literals : tie.MeasureT-literals
+μ-literals l c n i₀ i = n - i
+
+-- src/literals.rt:52:5
+literals-holds : tie.Need-literals-holds Inv-literals μ-literals
+literals-holds c =
+    let e : length (c .args .t1 .words) ≡ 32 = whole (c .args .t1 .words) (c .good .0 .1 .1 .0 .1 .0 .1) in
+    let k : c .args .t1 .n ≤ length (c .args .t1 .words) = omega (arith, c .pre) in
+    seeking _ _ _ k
+
+-- src/literals.rt:53:12
+mul-if1 : tie.Need-mul-if1 Inv-literals μ-literals
+mul-if1 c = search needs
+
+-- src/literals.rt:53:12
+element-copy-out-if1 : tie.Need-element-copy-out-if1 Inv-literals μ-literals
+element-copy-out-if1 c = search needs
+
+-- src/literals.rt:54:13
+returns : tie.Need-returns Inv-literals μ-literals
+returns c = sought (c .before .before .before .literals .inv) (c .before .before .literals-test .taken) (c .if1 .taken)
+
+-- src/literals.rt:56:9
+add-i : tie.Need-add-i Inv-literals μ-literals
+add-i c = search needs
+
+-- src/literals.rt:52:5
+literals-less : tie.Need-literals-less Inv-literals μ-literals
+literals-less c = search needs
+
+-- src/literals.rt:52:5
+literals-again : tie.Need-literals-again Inv-literals μ-literals
+literals-again c = seek-on (c .before .before .before .literals .inv) (c .before .before .literals-test .taken) (c .if1 .left)
+
+-- src/literals.rt:46:1
+returns-2 : tie.Need-returns-2 Inv-literals μ-literals
+returns-2 c = unseen (c .before .literals .inv) (c .literals-test .left)
+
+pub contains-spec : {M : Type 1} → statement M
+contains-spec =
+    tie.close
+    (tie.spec
+    Inv-literals
+    μ-literals
+    literals-holds
+    mul-if1
+    element-copy-out-if1
+    returns
+    add-i
+    literals-less
+    literals-again
+    returns-2)

@@ -1,0 +1,91 @@
+// The map of an assignment: joined states in one class, the classes numbered by first member.
+ghost use mathlib.Core.Path.{_≡_};
+ghost use Prim.Native.Nat.{_≤_};
+ghost use lib.ListN.{length};
+ghost use Rattle.clauses.specs.Pairs.{pairs};
+ghost use Rattle.reduce.specs.Lowest.{LowestJoined, MapOf};
+
+// A class for each of the first states, and how many classes there are.
+pub struct Classes {
+    pub map: [u8; 24],
+    pub count: u8,
+}
+
+fn wide(x: u8) -> usize
+    ensures { λ r. ⌜ r ≡ x ⌝ }
+{
+    x as usize
+}
+
+// For each state the lowest state that is joined to it, or itself: a true variable names a pair.
+fn lowest_joined(values: &[u8], n: u8) -> [u8; 24]
+    requires { ⌜ (n ≤ 24) × (pairs n ≤ length (now values)) ⌝ }
+    ensures { λ r. ⌜ LowestJoined (now (values .entry)) (pairs n) r ⌝ }
+{
+    let mut low: [u8; 24] = [
+        0,
+        1,
+        2,
+        3,
+        4,
+        5,
+        6,
+        7,
+        8,
+        9,
+        10,
+        11,
+        12,
+        13,
+        14,
+        15,
+        16,
+        17,
+        18,
+        19,
+        20,
+        21,
+        22,
+        23,
+    ];
+    let count = clauses::pairs_of(n);
+    let mut v: u16 = 0;
+    'variables: while v < count {
+        let x = v;
+        v += 1;
+        if values[x as usize] != 1 {
+            continue 'variables;
+        }
+        let pair = clauses::pair_of(x);
+        let q = pair.high as usize;
+        if wide(low[q]) != q {
+            continue 'variables;
+        }
+        low[q] = pair.low as u8;
+    }
+    low
+}
+
+// Numbers the classes by first member, from 0.
+pub(crate) fn map_of(values: &[u8], n: u8) -> Classes
+    requires { ⌜ (n ≤ 24) × (pairs n ≤ length (now values)) ⌝ }
+    ensures { λ r. ⌜ MapOf (now (values .entry)) n r ⌝ }
+{
+    let low = lowest_joined(values, n);
+    let mut map = [0u8; 24];
+    let mut next: u8 = 0;
+    let mut q: u8 = 0;
+    'states: while q < n {
+        let at = wide(q);
+        let p = low[at];
+        if p != q {
+            map[at] = map[wide(p)];
+            q += 1;
+            continue 'states;
+        }
+        map[at] = next;
+        next += 1;
+        q += 1;
+    }
+    Classes { map, count: next }
+}

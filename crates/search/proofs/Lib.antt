@@ -1,0 +1,5 @@
+pub mod Fitting
+pub mod Trails
+pub mod Passing
+pub mod Undoing
+pub mod Turns

@@ -1,0 +1,131 @@
+-- Laws on the values and the trail: a literal's value, variables unset again, and a trail that grows. Assumes nothing.
+use mathlib.Core.Path.{_≡_, refl, sym, ap, _∙_}
+use mathlib.Core.Logic.{_≢_, _⊎_, inl, inr}
+use mathlib.Core.Bool.{Bool, true, false}
+use mathlib.Core.List.{List, [], _∷_, _++_, append-nil, append-assoc, List·Memᴰ, List·Memᴰ·append-cases as append-cases, List·Memᴰ·not-nil as not-nil, List·Memᴰ·eq-of-singleton as eq-of-singleton}
+use Prim.Native.Nat.{ℕ, zero, suc, _+_, _-_, _/_, _%_, _≤_, _<_}
+use native.Mathlib.Nat.{not-suc-le-zero, le-of-suc-le-suc}
+use native.Mathlib.Numerals.{add-one}
+use native.Mathlib.Omega.{arith}
+use lib.ListN.{length, getD, set, take, length-set, length-append}
+use lib.Seq.{set-set, set-getD, take-suc-set, length-take-le}
+use borrow.Author.Tests.{ne-eqb}
+use Rattle.cnf.specs.Clauses.{valueOf}
+use Rattle.cnf.specs.Search.{isRight, isUnset}
+use Rattle.cnf.proofs.Values.{Values, set-values, unsetCount, unset-set}
+use Rattle.cnf.proofs.Found.{right-of, unset-of}
+use Rattle.search.specs.Trail.{valueBy, literalValue, unsetting, Grown}
+
+-- an element that is there is the same at any default
+pub getD-any : (l : List ℕ) (i d e : ℕ) → i < length l → getD l i d ≡ getD l i e
+getD-any [] i d e h = absurd (not-suc-le-zero h)
+getD-any (x ∷ l) zero d e h = refl
+getD-any (x ∷ l) (suc i) d e h = getD-any l i d e (le-of-suc-le-suc h)
+
+-- ---- a literal's value
+
+module _ (v : List ℕ) (l : ℕ) {i : ℕ} (h : l / 2 < length v) (e : i ≡ l / 2) where
+  value-at : valueOf v (l / 2) ≡ getD v i 0
+  value-at = getD-any v (l / 2) 2 0 h ∙ ap (λ (j : ℕ). getD v j 0) (sym e)
+
+  pub value-unset : getD v i 0 ≡ 2 → 2 ≡ literalValue v l
+  value-unset u = rw (unset-of v l (value-at ∙ u))
+
+  pub value-right : {k : ℕ} → k ≡ 1 - l % 2 → getD v i 0 ≢ 2 → getD v i 0 ≡ k → 1 ≡ literalValue v l
+  unfolding isUnset
+  value-right p n q = rw (ne-eqb (valueOf v (l / 2)) 2 (λ u. n (sym value-at ∙ u)), right-of v l (omega (arith, value-at)))
+
+  pub value-wrong : {k : ℕ} → k ≡ 1 - l % 2 → getD v i 0 ≢ 2 → getD v i 0 ≢ k → 0 ≡ literalValue v l
+  unfolding isUnset isRight
+  value-wrong p n q = rw (ne-eqb (valueOf v (l / 2)) 2 (λ u. n (sym value-at ∙ u)), ne-eqb (valueOf v (l / 2) + l % 2) 1 (omega (arith, value-at)))
+
+-- and back
+by-one : (u r : Bool) → valueBy u r ≡ 1 → r ≡ true
+by-one true r e = absurd (omega arith)
+by-one false true e = refl
+by-one false false e = absurd (omega arith)
+
+by-two : (u r : Bool) → valueBy u r ≡ 2 → u ≡ true
+by-two true r e = refl
+by-two false true e = absurd (omega arith)
+by-two false false e = absurd (omega arith)
+
+by-other : (u r : Bool) → valueBy u r ≢ 1 → valueBy u r ≢ 2 → (u ≡ false) × (r ≡ false)
+by-other true r h k = absurd (k refl)
+by-other false true h k = absurd (h refl)
+by-other false false h k = (refl, refl)
+
+module _ (v : List ℕ) (l : ℕ) where
+  pub value-one : literalValue v l ≡ 1 → isRight v l ≡ true
+  value-one = by-one (isUnset v l) (isRight v l)
+
+  pub value-two : literalValue v l ≡ 2 → isUnset v l ≡ true
+  value-two = by-two (isUnset v l) (isRight v l)
+
+  pub value-other : literalValue v l ≢ 1 → literalValue v l ≢ 2 → (isUnset v l ≡ false) × (isRight v l ≡ false)
+  value-other = by-other (isUnset v l) (isRight v l)
+
+-- ---- variables unset again
+
+pub unsetting-append : (v xs ys : List ℕ) → unsetting v (xs ++ ys) ≡ unsetting (unsetting v ys) xs
+unfolding unsetting
+unsetting-append v [] ys = refl
+unsetting-append v (x ∷ xs) ys = ap (λ (u : List ℕ). set u x 2) (unsetting-append v xs ys)
+
+pub length-unsetting : (v xs : List ℕ) → length (unsetting v xs) ≡ length v
+unfolding unsetting
+length-unsetting v [] = refl
+length-unsetting v (x ∷ xs) = length-set (unsetting v xs) x 2 ∙ length-unsetting v xs
+
+pub unsetting-values : (n : ℕ) (v xs : List ℕ) → Values n v → Values n (unsetting v xs)
+unfolding unsetting
+unsetting-values n v [] z = z
+unsetting-values n v (x ∷ xs) z = set-values n (unsetting v xs) x 2 (omega arith) (unsetting-values n v xs z)
+
+-- a store where nothing was set is undone by unsetting
+pub unsetting-store : (v : List ℕ) (x k : ℕ) → valueOf v x ≡ 2 → unsetting (set v x k) (x ∷ []) ≡ v
+unfolding unsetting
+unsetting-store v x k e = set-set v x k 2 ∙ sym (ap (set v x) e) ∙ set-getD v x 2
+
+-- ---- a trail that grows
+
+pub grown-none : {v t : List ℕ} {count : ℕ} → count + unsetCount v ≡ length v → Grown v t count v t count
+unfolding unsetting
+grown-none {v} {t} {count} e = record { long = refl; new = []; grows = sym (append-nil (take count t)); back = refl; below = λ x m. absurd (not-nil m); counted = e }
+
+module _ {v t w s : List ℕ} {count more : ℕ} (g : Grown v t count w s more) where
+  pub grown-length : length w ≡ length v
+  grown-length = sym (length-unsetting w (g .new)) ∙ ap length (g .back)
+
+  -- no fewer are set
+  pub grown-count : count ≤ length t → length w ≤ length s → count ≤ more
+  grown-count h k =
+      omega
+      (arith, g .counted, sym (length-take-le more s (omega (arith, g .counted))) ∙ ap length (g .grows) ∙ length-append (take count t) (g .new), length-take-le count t h)
+
+  pub grown-trans : {x r : List ℕ} {most : ℕ} → Grown w s more x r most → Grown v t count x r most
+  grown-trans {x} {r} {most} h = record {
+    long = h .long ∙ g .long;
+    new = g .new ++ h .new;
+    grows = h .grows ∙ ap (λ (l : List ℕ). l ++ h .new) (g .grows) ∙ append-assoc (take count t) (g .new) (h .new);
+    back = unsetting-append x (g .new) (h .new) ∙ ap (λ (l : List ℕ). unsetting l (g .new)) (h .back) ∙ g .back;
+    below = λ y m. pick y (append-cases (g .new) m);
+    counted = h .counted;
+  }
+    where
+      pick : (y : ℕ) → List·Memᴰ y (g .new) ⊎ List·Memᴰ y (h .new) → y < length v
+      pick y (inl m) = g .below y m
+      pick y (inr m) = rw (← grown-length) (h .below y m)
+
+-- one more variable
+pub grown-store : {v t : List ℕ} {count x k : ℕ} → count + unsetCount v ≡ length v → length v ≤ length t → x < length v → valueOf v x ≡ 2 → k ≢ 2 → Grown v t count (set v x k) (set t count x) (count + 1)
+grown-store {v} {t} {count} {x} {k} e room h u n =
+    let one = unset-set v x k h u n in
+    record {
+      long = length-set t count x;
+      new = x ∷ [];
+      grows = rw add-one (take-suc-set t count x (omega arith));
+      back = unsetting-store v x k u;
+      below = λ y m. rw (eq-of-singleton m) h;
+      counted = simp length-set (omega arith);
+    }

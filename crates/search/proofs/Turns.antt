@@ -1,0 +1,370 @@
+-- Laws for the turns of the search: the guesses that stand are read off the values, the trail and the marks; a turn undoes a guess, ends or
+-- makes one. Assumes nothing.
+use mathlib.Core.Path.{_≡_, refl, sym, ap, _∙_, subst}
+use mathlib.Core.Logic.{_≢_, _⊎_, inl, inr}
+use mathlib.Core.Bool.{Bool, true, false}
+use mathlib.Core.List.{List, [], _∷_, _++_, List·Memᴰ, Memᴰ·append-left, Memᴰ·append-right, List·Memᴰ·head, List·Memᴰ·tail, List·Memᴰ·not-nil as not-nil, List·Memᴰ·append-cases as append-cases, List·Memᴰ·eq-of-singleton as eq-of-singleton}
+use mathlib.Core.Option.{some}
+use Prim.Native.Nat.{ℕ, zero, suc, _+_, _-_, _/_, _%_, _*_, _≤_, _<_, zero-le}
+use native.Mathlib.Numerals.{add-one}
+use native.Mathlib.Omega.{arith}
+use native.Mathlib.Decide.{ℕ-discrete, decLt}
+use lib.ListN.{length, getD, set, replicate, take, drop, length-set, length-append, length-replicate, List·getD-append, take-append-drop}
+use lib.Seq.{slice, set-set, getD-set-same, getD-set-other, take-append-le, drop-append-le, take-append-seam, drop-append-seam, getD-append-seam, take-suc, take-suc-set, drop-cons, getD-take, take-take, length-take-le, take-all}
+use lib.Dec.{eqb}
+use borrow.Author.Tests.{eq-eqb, ne-eqb}
+use Rattle.cnf.specs.Clauses.{valueOf, clausesIn}
+use Rattle.cnf.specs.Search.{Next, goes, ends, Outcome, solved, none-exists, spent, Guess, undo, decide, lowestUnset, searchFrom}
+use Rattle.cnf.proofs.Values.{Formed, Values, _⊑_, set-cases, set-values, start-values, unsetCount, unset-set, unset-start, none-set}
+use Rattle.cnf.proofs.Found.{lowest-some, lowest-none}
+use Rattle.cnf.proofs.Steps.{stateOf, guessOf}
+use Rattle.cnf.proofs.Closure.{breaks, rests, Closes, turnTo, LeadsTo, there, turn, atStart, turns-search}
+use Rattle.search.specs.Trail.{unsetting, Ready, Grown, Settles, closedBy}
+use Rattle.search.specs.Turns.{NextUnset, Undoable, Undone, Fresh}
+use Rattle.search.proofs.Trails.{unsetting-append, length-unsetting, unsetting-values, unsetting-store, grown-length, grown-store}
+
+-- ---- the guesses that stand
+
+-- gs are the guesses that stand, latest first: d of them, and the first d of ms are their places on the trail p. Of each: the values before it,
+-- in which as many variables are set as stand before it on the trail, and every variable below the guessed one is set
+pub data Stands (n : ℕ) (ms : List ℕ) : List ℕ → List ℕ → ℕ → List Guess → Type 0 where
+  none : {v p : List ℕ} → Stands n ms v p 0 []
+  one : {v p u : List ℕ} {d m x : ℕ} {gs : List Guess} → m ≡ getD ms d 0 → m < length p → x ≡ getD p m 0 → unsetting v (drop m p) ≡ u → Values n u → m + unsetCount u ≡ n → ((j : ℕ) → j < x → valueOf u j ≢ 2)
+      → Stands n ms u (take m p) d gs → Stands n ms v p (suc d) (guessOf u x ∷ gs)
+
+module _ {n : ℕ} {ms : List ℕ} where
+  -- no more guesses than variables set
+  depth-le : {v p : List ℕ} {d : ℕ} {gs : List Guess} → Stands n ms v p d gs → d ≤ length p
+  depth-le none = zero-le
+  depth-le (one {p = p} {m = m} em lm ex eu z c l s) = omega (arith, depth-le s, length-take-le m p (omega arith))
+
+  -- further variables are set
+  stands-more : {v p : List ℕ} (w new : List ℕ) {d : ℕ} {gs : List Guess} → unsetting w new ≡ v → Stands n ms v p d gs → Stands n ms w (p ++ new) d gs
+  stands-more w new e none = none
+  stands-more {v} {p} w new e (one {u = u} {d = d} {m = m} {gs = gs} em lm ex eu z c l s) =
+      one {p = p ++ new} em (omega (arith, length-append p new)) (ex ∙ sym (List·getD-append p new 0 m lm)) (back ∙ eu) z c l (subst (λ (q : List ℕ). Stands n ms u q d gs) (sym (take-append-le m p new (omega arith))) s)
+    where
+      back : unsetting w (drop m (p ++ new)) ≡ unsetting v (drop m p)
+      back = ap (unsetting w) (drop-append-le m p new (omega arith)) ∙ unsetting-append w (drop m p) new ∙ ap (λ (u : List ℕ). unsetting u (drop m p)) e
+
+  -- the marks of later guesses do not matter
+  stands-marks : {ls v p : List ℕ} {d : ℕ} {gs : List Guess} → ((i : ℕ) → i < d → getD ls i 0 ≡ getD ms i 0) → Stands n ms v p d gs → Stands n ls v p d gs
+  stands-marks h none = none
+  stands-marks h (one {d = d} em lm ex eu z c l s) = one (em ∙ sym (h d (omega arith))) lm ex eu z c l (stands-marks (λ i k. h i (omega arith)) s)
+
+  -- a guess is made
+  stands-guess : {v p : List ℕ} {d x : ℕ} {gs : List Guess} → d < length ms → Values n v → length p + unsetCount v ≡ n → valueOf v x ≡ 2 → ((j : ℕ) → j < x → valueOf v j ≢ 2)
+      → Stands n ms v p d gs → Stands n (set ms d (length p)) (set v x 1) (p ++ (x ∷ [])) (suc d) (guessOf v x ∷ gs)
+  stands-guess {v} {p} {d} {x} {gs} h z c e l s =
+      one
+      {p = p ++ (x ∷ [])}
+      (sym (getD-set-same ms d (length p) 0 h))
+      (omega (arith, length-append p (x ∷ [])))
+      (sym (getD-append-seam p x [] 0))
+      (ap (unsetting (set v x 1)) (drop-append-seam p (x ∷ [])) ∙ unsetting-store v x 1 e)
+      z
+      c
+      l
+      (stands-marks (λ i k. getD-set-other ms d i (length p) 0 (omega arith)) (subst (λ (q : List ℕ). Stands n ms v q d gs) (sym (take-append-seam p (x ∷ []))) s))
+
+-- the latest guess
+record Latest (n : ℕ) (ms v p : List ℕ) (d : ℕ) (gs : List Guess) : Type 0 where
+  pub place : getD ms d 0 < length p
+  pub values : List ℕ
+  pub rest : List Guess
+  pub guesses : gs ≡ guessOf values (getD p (getD ms d 0) 0) ∷ rest
+  pub back : unsetting v (drop (getD ms d 0) p) ≡ values
+  pub formed : Values n values
+  pub counted : getD ms d 0 + unsetCount values ≡ n
+  pub lower : (j : ℕ) → j < getD p (getD ms d 0) 0 → valueOf values j ≢ 2
+  pub stands : Stands n ms values (take (getD ms d 0) p) d rest
+
+latest : {n : ℕ} {ms v p : List ℕ} {d : ℕ} {gs : List Guess} → Stands n ms v p (suc d) gs → Latest n ms v p d gs
+latest {n} {ms} {v} {p} {d} (one {u = u} {m = m} {x = x} {gs = gs} em lm ex eu z c l s) = record {
+  place = rw (← em) lm;
+  values = u;
+  rest = gs;
+  guesses = ap (λ (y : ℕ). guessOf u y ∷ gs) (ex ∙ ap (λ (k : ℕ). getD p k 0) em);
+  back = rw (← em) eu;
+  formed = z;
+  counted = rw (← em) c;
+  lower = λ j h. l j (rw (ex ∙ ap (λ (k : ℕ). getD p k 0) em) h);
+  stands = rw (← em) s;
+}
+
+no-guess : {n : ℕ} {ms v p : List ℕ} {d : ℕ} {gs : List Guess} → Stands n ms v p d gs → d ≡ 0 → gs ≡ []
+no-guess none e = refl
+no-guess (one em lm ex eu z c l s) e = absurd (omega arith)
+
+-- ---- members of a trail
+
+mem-take : (k : ℕ) (l : List ℕ) (x : ℕ) → List·Memᴰ x (take k l) → List·Memᴰ x l
+mem-take k l x m = subst (λ (r : List ℕ). List·Memᴰ x r) (take-append-drop k l) (Memᴰ·append-left (drop k l) m)
+
+mem-getD : (l : List ℕ) (i d : ℕ) → i < length l → List·Memᴰ (getD l i d) l
+mem-getD [] i d h = absurd (omega arith)
+mem-getD (x ∷ l) zero d h = List·Memᴰ·head refl
+mem-getD (x ∷ l) (suc i) d h = List·Memᴰ·tail (mem-getD l i d (omega arith))
+
+-- the first variable that is unset again
+unset-first : (v p : List ℕ) (m : ℕ) → m < length p → getD p m 0 < length v → valueOf (unsetting v (drop m p)) (getD p m 0) ≡ 2
+unfolding unsetting
+unset-first v p m h k = rw (drop-cons p m 0 h) (getD-set-same (unsetting v (drop (suc m) p)) (getD p m 0) 2 2 (rw length-unsetting k))
+
+-- a variable is set, and all below it are
+set-lower : (v : List ℕ) (x k : ℕ) → x < length v → k ≢ 2 → ((j : ℕ) → j < x → valueOf v j ≢ 2) → (j : ℕ) → j < x + 1 → valueOf (set v x k) j ≢ 2
+set-lower v x k h n l j b = go (ℕ-discrete j x)
+  where
+    go : Dec (j ≡ x) → valueOf (set v x k) j ≢ 2
+    go (yes e) = λ z. n (sym (getD-set-same v x k 2 h) ∙ ap (valueOf (set v x k)) (sym e) ∙ z)
+    go (no e) = λ z. l j (omega arith) (sym (getD-set-other v x j k 2 e) ∙ z)
+
+-- ---- a turn
+
+undo-leads : {cs : List (List ℕ)} {n b k x : ℕ} {v u : List ℕ} {gs : List Guess} {o : Outcome} → Values n v → Closes cs v breaks → LeadsTo cs n b (goes (stateOf (set u x 0) gs k)) o → LeadsTo cs n b (goes (stateOf v (guessOf u x ∷ gs) k)) o
+unfolding turnTo undo
+undo-leads z h l = turn breaks z h l
+
+-- at the head of a turn: n variables, b the budget
+pub record Turning (ws : List ℕ) (n b : ℕ) (v t ms : List ℕ) (count depth made low : ℕ) : Type 0 where
+  pub ready : Ready ws v t count
+  pub size : length v ≡ n
+  pub most : n ≤ 276
+  pub long : length t ≡ 276
+  pub marks : length ms ≡ 276
+  pub below : (x : ℕ) → List·Memᴰ x (take count t) → x < n
+  pub guesses : List Guess
+  pub stands : Stands n ms v (take count t) depth guesses
+  pub low-in : low ≤ n
+  pub lower : (j : ℕ) → j < low → valueOf v j ≢ 2
+  pub few : made ≤ b
+  pub leads : (o : Outcome) → LeadsTo (clausesIn ws) n b (goes (stateOf v guesses made)) o → LeadsTo (clausesIn ws) n b (atStart n) o
+
+pub turning : {ws v : List ℕ} (b : ℕ) → Fresh ws v → Turning ws (length v) b v (replicate 276 0) (replicate 276 0) 0 0 0 0
+turning {ws} {v} b f = record {
+  ready = record {
+    all-there = f .all-there;
+    formed = f .formed;
+    values = subst (Values (length v)) (sym (f .none-set)) (start-values (length v));
+    counted = omega (arith, ap unsetCount (f .none-set), unset-start (length v));
+    room = omega (arith, f .most, length-replicate {A = ℕ} 276 0);
+  };
+  size = refl;
+  most = f .most;
+  long = length-replicate {A = ℕ} 276 0;
+  marks = length-replicate {A = ℕ} 276 0;
+  below = λ x m. absurd (not-nil m);
+  guesses = [];
+  stands = none;
+  low-in = zero-le;
+  lower = λ j h. absurd (omega arith);
+  few = zero-le;
+  leads = λ o l. subst (λ (u : List ℕ). LeadsTo (clausesIn ws) (length v) b (goes (stateOf u [] 0)) o) (f .none-set) l;
+}
+
+module _ {ws v t ms w s : List ℕ} {n b count depth made low more : ℕ} {isBroken : Bool} (i : Turning ws n b v t ms count depth made low) (c : Settles ws v t count w s isBroken more) where
+  pub after-size : length w ≡ n
+  after-size = grown-length (c .grown) ∙ i .size
+
+  pub after-long : length s ≡ 276
+  after-long = c .grown .long ∙ i .long
+
+  -- more variables are set, and the trail has room for all
+  pub after-count : (more ≤ n) × (n ≤ length s)
+  after-count = (omega (arith, c .grown .counted, after-size), omega (arith, i .most, after-long))
+
+  trail-length : length (take more s) ≡ more
+  trail-length = length-take-le more s (omega (arith, after-count))
+
+  after-stands : Stands n ms w (take more s) depth (i .guesses)
+  after-stands = subst (λ (p : List ℕ). Stands n ms w p depth (i .guesses)) (sym (c .grown .grows)) (stands-more w (c .grown .new) (c .grown .back) (i .stands))
+
+  after-below : (x : ℕ) → List·Memᴰ x (take more s) → x < n
+  after-below x m = go (append-cases (take count t) (subst (λ (p : List ℕ). List·Memᴰ x p) (c .grown .grows) m))
+    where
+      go : List·Memᴰ x (take count t) ⊎ List·Memᴰ x (c .grown .new) → x < n
+      go (inl k) = i .below x k
+      go (inr k) = omega (arith, c .grown .below x k, i .size)
+
+  pub after-depth : depth ≤ more
+  after-depth = omega (arith, depth-le after-stands, trail-length)
+
+  formed : Formed (clausesIn ws) n
+  formed = rw (i .size) at (i .ready .formed)
+
+  values : Values n v
+  values = rw (i .size) at (i .ready .values)
+
+  ends-with : (o : Outcome) → LeadsTo (clausesIn ws) n b (goes (stateOf v (i .guesses) made)) o → o ≡ searchFrom (clausesIn ws) n b
+  ends-with o l = turns-search (clausesIn ws) n b formed o (i .leads o l)
+
+  -- ---- a clause is broken
+
+  module _ (e : isBroken ≡ true) where
+    broke : Closes (clausesIn ws) v breaks
+    broke = rw e at (c .closes)
+
+    -- no guess stands
+    pub turn-absent : depth ≡ 0 → none-exists made ≡ searchFrom (clausesIn ws) n b
+    unfolding turnTo undo
+    turn-absent z = ends-with (none-exists made) (subst (λ (gs : List Guess). LeadsTo (clausesIn ws) n b (goes (stateOf v gs made)) (none-exists made)) (sym (no-guess (i .stands) z)) (turn breaks values broke there))
+
+    module _ (d : ℕ) {mark : ℕ} (q : depth ≡ suc d) (m : mark ≡ getD ms d 0) where
+      top : Latest n ms w (take more s) d (i .guesses)
+      top = latest (subst (λ (k : ℕ). Stands n ms w (take more s) k (i .guesses)) q after-stands)
+
+      pub place : mark < more
+      place = omega (arith, top .place, trail-length)
+
+      pub can-undo : Undoable w s mark more
+      can-undo = record {
+        inside = place;
+        room = omega (arith, after-count);
+        below = λ j h. rw after-size (after-below (getD s j 0) (subst (λ (y : ℕ). List·Memᴰ y (take more s)) (getD-take more s j 0 h) (mem-getD (take more s) j 0 (omega (arith, trail-length)))));
+      }
+
+      module _ {u : List ℕ} {x : ℕ} (r : Undone w s mark more u x) where
+        -- the guessed variable, and the values before the guess
+        guessed : x ≡ getD (take more s) (getD ms d 0) 0
+        guessed = r .variable ∙ sym (getD-take more s mark 0 place) ∙ ap (λ (k : ℕ). getD (take more s) k 0) m
+
+        restored : unsetting w (slice mark more s) ≡ top .values
+        restored = ap (λ (k : ℕ). unsetting w (drop k (take more s))) m ∙ top .back
+
+        undone : u ≡ set (top .values) x 0
+        undone = r .values ∙ ap (λ (y : List ℕ). set y x 0) restored
+
+        pub inside : x < n
+        inside = rw guessed (after-below _ (mem-getD (take more s) (getD ms d 0) 0 (top .place)))
+
+        was-unset : valueOf (top .values) x ≡ 2
+        was-unset =
+            ap (λ (y : List ℕ). valueOf y x) (sym (top .back))
+            ∙ ap (valueOf (unsetting w (drop (getD ms d 0) (take more s)))) guessed
+            ∙ unset-first w (take more s) (getD ms d 0) (top .place) (omega (arith, inside, guessed, after-size))
+
+        same-part : take (mark + 1) s ≡ take (mark + 1) (take more s)
+        same-part = sym (take-take (mark + 1) more s (omega (arith, place)))
+
+        shorter : take (mark + 1) s ≡ take (getD ms d 0) (take more s) ++ (x ∷ [])
+        shorter = same-part ∙ rw (add-one, m, guessed) (take-suc (take more s) (getD ms d 0) 0 (top .place))
+
+        undone-size : length u ≡ n
+        undone-size = ap length undone ∙ length-set (top .values) x 0 ∙ top .formed .long
+
+        pub turn-undo : Turning ws n b u s ms (mark + 1) d made (x + 1)
+        turn-undo = record {
+          ready = record {
+            all-there = i .ready .all-there;
+            formed = rw undone-size formed;
+            values = rw undone-size (rw undone (set-values n (top .values) x 0 (omega arith) (top .formed)));
+            counted = omega (arith, undone-size, ap unsetCount undone, unset-set (top .values) x 0 (omega (arith, inside, top .formed .long)) was-unset (omega arith), top .counted);
+            room = omega (arith, undone-size, after-count);
+          };
+          size = undone-size;
+          most = i .most;
+          long = after-long;
+          marks = i .marks;
+          below = λ y k. after-below y (mem-take (mark + 1) (take more s) y (subst (λ (p : List ℕ). List·Memᴰ y p) same-part k));
+          guesses = top .rest;
+          stands = rw (shorter, undone) (stands-more (set (top .values) x 0) (x ∷ []) (unsetting-store (top .values) x 0 was-unset) (top .stands));
+          low-in = omega (arith, inside);
+          lower = rw undone (set-lower (top .values) x 0 (omega (arith, inside, top .formed .long)) (omega arith) (λ j h. top .lower j (omega (arith, guessed))));
+          few = i .few;
+          leads = λ o l. i .leads o (again o l);
+        }
+          where
+            again : (o : Outcome) → LeadsTo (clausesIn ws) n b (goes (stateOf u (top .rest) made)) o → LeadsTo (clausesIn ws) n b (goes (stateOf v (i .guesses) made)) o
+            again o l = rw (top .guesses) (undo-leads values broke (rw (← guessed, ← undone) l))
+
+  -- ---- the values are at rest
+
+  module _ {x : ℕ} (e : isBroken ≡ false) (f : NextUnset w low x) where
+    least : Closes (clausesIn ws) v (rests w)
+    least = rw e at (c .closes)
+
+    after-values : Values n w
+    after-values = record { long = after-size; small = least .small }
+
+    after-lower : (j : ℕ) → j < x → valueOf w j ≢ 2
+    after-lower j h = go (decLt j low)
+      where
+        go : Dec (j < low) → valueOf w j ≢ 2
+        go (yes l) = λ z. i .lower j l (sym (least .extends .keeps j (i .lower j l)) ∙ z)
+        go (no l) = f .passed j (omega arith) h
+
+    rests-with : (o : Outcome) → LeadsTo (clausesIn ws) n b (decide b (stateOf w (i .guesses) made) (lowestUnset w 0)) o → LeadsTo (clausesIn ws) n b (goes (stateOf v (i .guesses) made)) o
+    unfolding turnTo
+    rests-with o l = turn (rests w) values least l
+
+    -- nothing is unset
+    pub turn-solved : x ≡ length w → solved w made ≡ searchFrom (clausesIn ws) n b
+    unfolding decide
+    turn-solved q = ends-with (solved w made) (rests-with (solved w made) (rw (lowest-none w 0 (λ j h. after-lower j (omega arith))) there))
+
+    module _ (q : x ≡ length w → ⊥) where
+      inner : x < length w
+      inner = omega (arith, f .to)
+
+      first : lowestUnset w 0 ≡ some x
+      first = let z : 0 + x ≡ x = omega arith in lowest-some w 0 x inner (f .found inner) after-lower ∙ ap some z
+
+      -- the budget is spent
+      pub turn-spent : made ≡ b → spent made ≡ searchFrom (clausesIn ws) n b
+      unfolding decide
+      turn-spent p = ends-with (spent made) (rests-with (spent made) (rw (first, eq-eqb made b p, decide) there))
+
+      -- a guess
+      further : Grown w s more (set w x 1) (set s more x) (more + 1)
+      further = grown-store (c .grown .counted) (omega (arith, after-size, after-count)) inner (f .found inner) (omega arith)
+
+      pub room-left : more < n
+      room-left = omega (arith, c .grown .counted, after-size, unset-set w x 0 inner (f .found inner) (omega arith))
+
+      pub can-guess : {l : ℕ} → l ≡ 2 * x → (l / 2 < length w) × (more < length s)
+      can-guess z = (omega (arith, inner), omega (arith, room-left, after-count))
+
+      longer : take (more + 1) (set s more x) ≡ take more s ++ (x ∷ [])
+      longer = rw add-one (take-suc-set s more x (omega (arith, room-left, after-count)))
+
+      guess-size : length (set w x 1) ≡ n
+      guess-size = length-set w x 1 ∙ after-size
+
+      guessed-stands : Stands n (set ms depth (length (take more s))) (set w x 1) (take more s ++ (x ∷ [])) (suc depth) (guessOf w x ∷ i .guesses)
+      guessed-stands =
+          stands-guess (omega (arith, after-depth, room-left, i .most, i .marks)) after-values (omega (arith, trail-length, c .grown .counted, after-size)) (f .found inner) after-lower after-stands
+
+      guess-made : (made ≡ b → ⊥) → Turning ws n b (set w x 1) (set s more x) (set ms depth more) (more + 1) (depth + 1) (made + 1) (x + 1)
+      guess-made p = record {
+        ready = record {
+          all-there = i .ready .all-there;
+          formed = rw guess-size formed;
+          values = rw guess-size (set-values n w x 1 (omega arith) after-values);
+          counted = further .counted;
+          room = omega (arith, guess-size, after-count, length-set s more x);
+        };
+        size = guess-size;
+        most = i .most;
+        long = length-set s more x ∙ after-long;
+        marks = length-set ms depth more ∙ i .marks;
+        below = λ y k. pick y (append-cases (take more s) (subst (λ (l : List ℕ). List·Memᴰ y l) longer k));
+        guesses = guessOf w x ∷ i .guesses;
+        stands = rw (longer, add-one depth) (rw trail-length at guessed-stands);
+        low-in = omega (arith, inner, after-size);
+        lower = set-lower w x 1 inner (omega arith) after-lower;
+        few = omega (arith, i .few);
+        leads = λ o l. i .leads o (rests-with o (again o l));
+      }
+        where
+          pick : (y : ℕ) → List·Memᴰ y (take more s) ⊎ List·Memᴰ y (x ∷ []) → y < n
+          pick y (inl k) = after-below y k
+          pick y (inr k) = omega (arith, eq-of-singleton k, inner, after-size)
+
+          again : (o : Outcome) → LeadsTo (clausesIn ws) n b (goes (stateOf (set w x 1) (guessOf w x ∷ i .guesses) (made + 1))) o → LeadsTo (clausesIn ws) n b (decide b (stateOf w (i .guesses) made) (lowestUnset w 0)) o
+          again o l = unfold decide in rw (first, ne-eqb made b p, decide) l
+
+      pub turn-guess : (made ≡ b → ⊥) → {l : ℕ} {u r : List ℕ} → l ≡ 2 * x → u ≡ set w (l / 2) (1 - l % 2) → r ≡ set s more (l / 2) → Turning ws n b u r (set ms depth more) (more + 1) (depth + 1) (made + 1) (x + 1)
+      turn-guess p {l} z qu qr =
+          let half : l / 2 ≡ x = omega arith in
+          let sign : 1 - l % 2 ≡ 1 = omega arith in
+          rw (qu, qr, half, sign) (guess-made p)

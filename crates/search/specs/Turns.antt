@@ -1,0 +1,45 @@
+-- The turns of the search: what the functions around the closing of the values promise. Assumes nothing.
+use mathlib.Core.Path.{_≡_}
+use mathlib.Core.Logic.{_≢_}
+use mathlib.Core.Bool.{true}
+use mathlib.Core.List.{List, List·Memᴰ}
+use Prim.Native.Nat.{ℕ, _≤_, _<_}
+use lib.ListN.{length, getD, set, replicate, take}
+use lib.Seq.{slice}
+use Rattle.cnf.specs.Clauses.{valueOf, clausesIn}
+use Rattle.cnf.specs.Search.{Outcome, solved, none-exists, spent}
+use Rattle.cnf.proofs.Values.{Formed}
+use Rattle.search.specs.declared.solve.Ending.{Ending}
+use Rattle.search.specs.declared.solve.Ending.the-variants.{Found, Absent, Spent}
+use Rattle.search.specs.Trail.{unsetting}
+
+-- r is the first unset variable from low on, or the number of variables
+pub record NextUnset (v : List ℕ) (low r : ℕ) : Type 0 where
+  pub from : low ≤ r
+  pub to : r ≤ length v
+  pub passed : (j : ℕ) → low ≤ j → j < r → valueOf v j ≢ 2
+  pub found : r < length v → valueOf v r ≡ 2
+
+-- the first count variables of the trail t are variables of v, and one of them is at mark
+pub record Undoable (v t : List ℕ) (mark count : ℕ) : Type 0 where
+  pub inside : mark < count
+  pub room : count ≤ length t
+  pub below : (i : ℕ) → i < count → getD t i 0 < length v
+
+-- "undo the latest guess and all set after it, and set its variable false": the guess is at mark
+pub record Undone (v t : List ℕ) (mark count : ℕ) (w : List ℕ) (x : ℕ) : Type 0 where
+  pub variable : x ≡ getD t mark 0
+  pub values : w ≡ set (unsetting v (slice mark count t)) x 0
+
+-- whole clauses over at most 276 variables, none of which is set
+pub record Fresh (ws v : List ℕ) : Type 0 where
+  pub all-there : Rattle.cnf.specs.Clauses.whole ws ≡ true
+  pub formed : Formed (clausesIn ws) (length v)
+  pub none-set : v ≡ replicate (length v) 2
+  pub most : length v ≤ 276
+
+-- how the search ends, with the values that it leaves
+abbrev pub outcomeOf : Ending → List ℕ → Outcome
+outcomeOf (Found k) v = solved v k
+outcomeOf (Absent k) v = none-exists k
+outcomeOf (Spent k) v = spent k

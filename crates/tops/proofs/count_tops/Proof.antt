@@ -1,0 +1,55 @@
+-- `tops::count_tops` meets its contract. The invariant: what was found, and the ones of the words from here on. Assumes nothing.
+use borrow.Author.Needs.{needs}
+use Prim.Native.Nat.{_-_}
+use Rattle.tops.proofs.Loops.{Summing, summing, sum-on, sum-fits, summed}
+use Rattle.tops.proofs.count_tops.Statement.{statement}
+use Rattle.tops.proofs.count_tops.Tie as tie
+
+abbrev Inv-words : tie.InvT-words
+Inv-words words found₀ q₀ found q = Summing words found q
+
+abbrev μ-words : tie.MeasureT-words
+μ-words words found₀ q₀ found q = 24 - q
+
+words-holds : tie.Need-words-holds Inv-words μ-words
+words-holds c = summing _ (c .good .0 .1 .0 .1)
+
+mul-tops-in : tie.Need-mul-tops-in Inv-words μ-words
+mul-tops-in c = search needs
+
+array-read-tops-in : tie.Need-array-read-tops-in Inv-words μ-words
+array-read-tops-in c = search needs
+
+tops-in-requires : tie.Need-tops-in-requires Inv-words μ-words
+tops-in-requires c κs = search needs
+
+add-found : tie.Need-add-found Inv-words μ-words
+add-found c = record { fits = sum-fits (c .before .before .words .inv) _ (c .before .words-test .taken) (c .tops-in .ensures) }
+
+add-q : tie.Need-add-q Inv-words μ-words
+add-q c = search needs
+
+words-less : tie.Need-words-less Inv-words μ-words
+words-less c = search needs
+
+words-again : tie.Need-words-again Inv-words μ-words
+words-again c = sum-on (c .before .before .words .inv) (c .before .words-test .taken) (c .tops-in .ensures)
+
+returns : tie.Need-returns Inv-words μ-words
+returns c = summed (c .before .words .inv) (c .words-test .left)
+
+pub count-tops-spec : {M : Type 1} → statement M
+count-tops-spec =
+    tie.close
+    (tie.spec
+    Inv-words
+    μ-words
+    words-holds
+    mul-tops-in
+    array-read-tops-in
+    tops-in-requires
+    add-found
+    add-q
+    words-less
+    words-again
+    returns)

@@ -1,0 +1,17 @@
+-- `tops::tops_of` meets its contract. Assumes nothing.
+use borrow.Author.Needs.{needs}
+use Rattle.tops.proofs.Padded.{answer-made}
+use Rattle.tops.proofs.tops_of.Statement.{statement}
+use Rattle.tops.proofs.tops_of.Tie as tie
+
+words-of-requires : tie.Need-words-of-requires
+words-of-requires c κs = search needs
+
+count-tops-requires : tie.Need-count-tops-requires
+count-tops-requires c κs = search needs
+
+returns : tie.Need-returns
+returns c = answer-made (c .before .before .before .before .before .before .pre) (c .before .words-of .ensures) (c .count-tops .ensures)
+
+pub tops-of-spec : {M : Type 1} → statement M
+tops-of-spec = tie.close (tie.spec words-of-requires count-tops-requires returns)

@@ -1,0 +1,17 @@
+-- `tops::words_of` meets its contract. Assumes nothing.
+use borrow.Author.Needs.{needs}
+use Rattle.tops.proofs.Padded.{words-made}
+use Rattle.tops.proofs.words_of.Statement.{statement}
+use Rattle.tops.proofs.words_of.Tie as tie
+
+start-words-requires : tie.Need-start-words-requires
+start-words-requires c κs = search needs
+
+rest-requires : tie.Need-rest-requires
+rest-requires c κs = search needs
+
+returns : tie.Need-returns
+returns c = words-made (c .before .before .before .before .before .before .before .pre) (c .before .before .start-words .ensures) (c .rest .ensures)
+
+pub words-of-spec : {M : Type 1} → statement M
+words-of-spec = tie.close (tie.spec start-words-requires rest-requires returns)
