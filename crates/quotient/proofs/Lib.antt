@@ -5,6 +5,8 @@ pub mod States
 pub mod Automaton
 pub mod Table
 pub mod Theorems
+pub mod Numbered
+pub mod ClassBytes
 pub mod Keys
 pub mod Inserting
 pub mod Collecting

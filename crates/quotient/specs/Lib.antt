@@ -1,3 +1,4 @@
 pub mod Quotient
 pub mod Demands
 pub mod Keys
+pub mod Sections

@@ -1,5 +1,6 @@
 // Writing the quotient of a table under a map.
 mod images;
+mod numbering;
 mod write;
 
 // What writing the quotient answers.
