@@ -11,3 +11,4 @@ pub mod Keys
 pub mod Inserting
 pub mod Collecting
 pub mod Writing
+pub mod Whole

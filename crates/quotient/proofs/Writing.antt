@@ -1,14 +1,15 @@
 -- What is still to be written at each place of a writer, and a law for each way to write. One invariant for every writer. Assumes nothing.
 use mathlib.Core.Path.{_≡_, refl, sym, ap, _∙_, subst}
-use mathlib.Core.List.{List, [], _∷_, _++_, append-assoc, append-nil, map}
+use mathlib.Core.List.{List, [], _∷_, _++_, append-assoc, append-nil}
 use Prim.Native.Nat.{ℕ, suc, _+_, _-_, _<_, _≤_}
 use native.Mathlib.Omega.{arith}
+use native.Mathlib.Nat.{zero-add}
 use native.Mathlib.Numerals.{add-one}
 use lib.ListN.{length, getD, take, drop, set, length-append, length-drop, take-append-drop, drop-of-length-le}
 use lib.Seq.{length-take-le, drop-cons, drop-drop, take-all, take-at, drop-at, set-split}
-use Rattle.lists.specs.Lists.{flat, over}
+use Rattle.lists.specs.Lists.{gather, over}
+use Rattle.table.specs.File.{bytes16}
 use Rattle.quotient.specs.Keys.{bytes32, lastBytes}
-use Rattle.quotient.proofs.Keys.{length-last}
 
 pub over-length : (xs out : List ℕ) → length xs ≤ length out → length (over xs out) ≡ length out
 unfolding over
@@ -47,6 +48,16 @@ written x {todo} {rest} {end} {out} {out'} {at} {n} w s l e = record {
     long : length todo ≡ n + length rest
     long = omega (arith, ap length s, length-append x rest, l)
 
+-- the first part is written
+pub begun : (x out : List ℕ) {all rest out' : List ℕ} → length all ≤ length out → all ≡ x ++ rest → out' ≡ over x out → Writing rest (over all out) out' (length x)
+begun x out {all} {rest} {out'} h s e = subst (λ (n : ℕ). Writing rest (over all out) out' n) (zero-add (length x)) (written x (writing all out h) s refl e)
+
+-- the next part fits what is lent
+pub part-room : (x rest : List ℕ) {todo end out : List ℕ} {at : ℕ} → Writing todo end out at → todo ≡ x ++ rest → length x ≤ length (take (length out - at) (drop at out))
+part-room x rest {todo} {end} {out} {at} w s =
+    let n : length (drop at out) ≤ length out - at = omega (arith, length-drop at out) in
+    rw (take-all (length out - at) (drop at out) n) (omega (arith, length-drop at out, w .room, ap length s, length-append x rest))
+
 pub finished : {end out : List ℕ} {at : ℕ} → Writing [] end out at → out ≡ end
 unfolding over
 finished {end} {out} {at} w = sym (w .meets ∙ take-append-drop at out)
@@ -83,31 +94,35 @@ module _ {xs end out : List ℕ} {i : ℕ} (w : Spelling xs end out i) where
   pub spelt : length xs ≤ i → out ≡ end
   spelt h = finished (subst (λ (ys : List ℕ). Writing ys end out i) (drop-of-length-le xs h) (w .rest))
 
--- ---- records by their keys
+-- ---- numbers, each as bytes of one width
 
 -- the part that was lent to its end
 pub last-part : (w k : ℕ) → w ≤ 4 → take (4 - (4 - w)) (drop (4 - w) (bytes32 k)) ≡ lastBytes w k
 unfolding lastBytes bytes32
 last-part w k h = take-all (4 - (4 - w)) (drop (4 - w) (bytes32 k)) (omega (arith, length-drop (4 - w) (bytes32 k)))
 
--- the keys from i on are still to be written
-pub record Listing (w : ℕ) (ks end out : List ℕ) (at i : ℕ) : Type 0 where
-  pub rest : Writing (flat (map (lastBytes w) (drop i ks))) end out at
+pub length-word : (k : ℕ) → length (bytes16 k) ≡ 2
+unfolding bytes16
+length-word k = refl
 
-pub listing : (w : ℕ) (ks out : List ℕ) → length (flat (map (lastBytes w) ks)) ≤ length out → Listing w ks (over (flat (map (lastBytes w) ks)) out) out 0 0
-listing w ks out h = record { rest = writing (flat (map (lastBytes w) ks)) out h }
+-- the bytes of the numbers from i on are still to be written
+pub record Listing (f : ℕ → List ℕ) (ks end out : List ℕ) (at i : ℕ) : Type 0 where
+  pub rest : Writing (gather f (drop i ks)) end out at
 
-module _ {w : ℕ} {ks end out : List ℕ} {at i : ℕ} (l : Listing w ks end out at i) where
-  key-on : i < length ks → flat (map (lastBytes w) (drop i ks)) ≡ lastBytes w (getD ks i 0) ++ flat (map (lastBytes w) (drop (i + 1) ks))
-  unfolding flat
+pub listing : (f : ℕ → List ℕ) (ks out : List ℕ) → length (gather f ks) ≤ length out → Listing f ks (over (gather f ks) out) out 0 0
+listing f ks out h = record { rest = writing (gather f ks) out h }
+
+module _ {f : ℕ → List ℕ} {ks end out : List ℕ} {at i : ℕ} (l : Listing f ks end out at i) where
+  key-on : i < length ks → gather f (drop i ks) ≡ f (getD ks i 0) ++ gather f (drop (i + 1) ks)
+  unfolding gather
   key-on h = rw (add-one, drop-cons ks i 0 h)
 
-  pub key-room : w ≤ 4 → i < length ks → at + w ≤ length out
-  key-room h k = omega (arith, l .rest .room, ap length (key-on k), length-append (lastBytes w (getD ks i 0)) (flat (map (lastBytes w) (drop (i + 1) ks))), length-last w (getD ks i 0) h)
+  pub key-room : {w : ℕ} → ((k : ℕ) → length (f k) ≡ w) → i < length ks → at + w ≤ length out
+  key-room h k = omega (arith, l .rest .room, ap length (key-on k), length-append (f (getD ks i 0)) (gather f (drop (i + 1) ks)), h (getD ks i 0))
 
-  pub key-listed : {k : ℕ} {out' : List ℕ} → w ≤ 4 → i < length ks → k ≡ getD ks i 0 → out' ≡ take at out ++ over (lastBytes w k) (drop at out) → Listing w ks end out' (at + w) (i + 1)
-  key-listed h p d e = record { rest = written (lastBytes w (getD ks i 0)) (l .rest) (key-on p) (length-last w (getD ks i 0) h) (e ∙ ap (λ x. take at out ++ over (lastBytes w x) (drop at out)) d) }
+  pub key-listed : {w : ℕ} {out' : List ℕ} → ((k : ℕ) → length (f k) ≡ w) → i < length ks → out' ≡ take at out ++ over (f (getD ks i 0)) (drop at out) → Listing f ks end out' (at + w) (i + 1)
+  key-listed h p e = record { rest = written (f (getD ks i 0)) (l .rest) (key-on p) (h (getD ks i 0)) e }
 
   pub listed : length ks ≤ i → out ≡ end
-  unfolding flat
-  listed h = finished (subst (λ (xs : List ℕ). Writing (flat (map (lastBytes w) xs)) end out at) (drop-of-length-le ks h) (l .rest))
+  unfolding gather
+  listed h = finished (subst (λ (xs : List ℕ). Writing (gather f xs) end out at) (drop-of-length-le ks h) (l .rest))

@@ -1,11 +1,12 @@
 -- What the functions of src/ are stated with: the parts of a table that they are lent. Assumes nothing.
 use mathlib.Core.Bool.{Bool}
-use mathlib.Core.List.{List, [], map}
-use Prim.Native.Nat.{ℕ, _/_, _%_}
+use mathlib.Core.List.{List, [], _∷_, map}
+use Prim.Native.Nat.{ℕ, _+_, _*_, _/_, _%_}
 use lib.Dec.{eqb}
-use Rattle.lists.specs.Lists.{upto}
-use Rattle.table.specs.File.{Table}
+use Rattle.lists.specs.Lists.{gather, upto}
+use Rattle.table.specs.File.{Table, bytes16}
 use Rattle.quotient.specs.Quotient.{classByte}
+use Rattle.quotient.specs.Keys.{lastBytes}
 
 -- a table with these states
 abbrev pub ofStates : List ℕ → Table
@@ -18,3 +19,18 @@ flagged flag byte = eqb (byte / flag % 2) 1
 -- the state bytes of n classes
 abbrev pub classBytes : Table → List ℕ → ℕ → List ℕ
 classBytes t m n = map (classByte t m) (upto n)
+
+-- a table whose records are given by their keys
+abbrev pub keyedTable : List ℕ → List ℕ → List ℕ → List ℕ → List ℕ → Table
+keyedTable symbols states internals calls returns =
+    record {
+      symbols = symbols;
+      states = states;
+      internals = map (lastBytes 3) internals;
+      calls = map (lastBytes 3) calls;
+      returns = map (lastBytes 4) returns;
+    }
+
+-- the trailer behind so many symbols, states, internals, calls and returns
+unfoldable pub trailerFrom : ℕ → ℕ → ℕ → ℕ → ℕ → List ℕ
+trailerFrom y s i c r = gather bytes16 ((y + (s + (3 * i + (3 * c + 4 * r)))) ∷ (s + (3 * i + (3 * c + 4 * r))) ∷ (3 * i + (3 * c + 4 * r)) ∷ (3 * c + 4 * r) ∷ (4 * r) ∷ 1 ∷ [])

@@ -1,12 +1,12 @@
 // Writing a table, section by section: each writer is lent the remaining output.
 ghost use mathlib.Core.Path.{_≡_};
-ghost use mathlib.Core.List.{map};
-ghost use Prim.Native.Nat.{_<_, _≤_};
+ghost use Prim.Native.Nat.{_+_, _*_, _^_, _<_, _≤_};
 ghost use lib.ListN.{length};
-ghost use Rattle.lists.specs.Lists.{flat, over};
+ghost use Rattle.lists.specs.Lists.{gather, over};
+ghost use Rattle.table.specs.File.{bytes16, bytesOf};
 ghost use Rattle.quotient.specs.Quotient.{memberHas, bitOf, classByte};
 ghost use Rattle.quotient.specs.Keys.{lastBytes};
-ghost use Rattle.quotient.specs.Sections.{ofStates, flagged, classBytes};
+ghost use Rattle.quotient.specs.Sections.{ofStates, flagged, classBytes, keyedTable, trailerFrom};
 use super::images::class_of;
 
 // Bytes to the front of the remaining output.
@@ -38,8 +38,8 @@ fn put_key(width: usize, key: u32, out: &mut [u8])
 
 // The records of keys.
 pub(crate) fn put_keys(width: usize, keys: &[u32], out: &mut [u8])
-    requires { ⌜ (width ≤ 4) × (length (flat (map (lastBytes width) (now keys))) ≤ length (now out)) ⌝ }
-    ensures { λ _. ⌜ now (out .exit) ≡ over (flat (map (lastBytes width) (now (keys .entry)))) (now (out .entry)) ⌝ }
+    requires { ⌜ (width ≤ 4) × (length (gather (lastBytes width) (now keys)) ≤ length (now out)) ⌝ }
+    ensures { λ _. ⌜ now (out .exit) ≡ over (gather (lastBytes width) (now (keys .entry))) (now (out .entry)) ⌝ }
 {
     let mut at: usize = 0;
     let mut i: usize = 0;
@@ -48,6 +48,57 @@ pub(crate) fn put_keys(width: usize, keys: &[u32], out: &mut [u8])
         at += width;
         i += 1;
     }
+}
+
+// A 16-bit number, the lower byte first.
+fn put_word(word: usize, out: &mut [u8])
+    requires { ⌜ 2 ≤ length (now out) ⌝ }
+    ensures { λ _. ⌜ now (out .exit) ≡ over (bytes16 word) (now (out .entry)) ⌝ }
+{
+    let bytes = [(word % 256) as u8, (word / 256 % 256) as u8];
+    put_bytes(&bytes, out);
+}
+
+// 16-bit numbers.
+fn put_words(words: &[usize], out: &mut [u8])
+    requires { ⌜ length (gather bytes16 (now words)) ≤ length (now out) ⌝ }
+    ensures { λ _. ⌜ now (out .exit) ≡ over (gather bytes16 (now (words .entry))) (now (out .entry)) ⌝ }
+{
+    let mut at: usize = 0;
+    let mut i: usize = 0;
+    'words: while i < words.len() {
+        put_word(words[i], &mut out[at..]);
+        at += 2;
+        i += 1;
+    }
+}
+
+// The trailer behind so many symbols, states and records: "the distances back from its first byte to each section's start, then version 1".
+fn put_trailer(
+    symbols: usize,
+    states: usize,
+    internals: usize,
+    calls: usize,
+    returns: usize,
+    out: &mut [u8],
+)
+    requires { ⌜ (symbols + states + 3 * internals + 3 * calls + 4 * returns < 2 ^ 64) × (12 ≤ length (now out)) ⌝ }
+    ensures { λ _. ⌜ now (out .exit) ≡ over (trailerFrom symbols states internals calls returns) (now (out .entry)) ⌝ }
+{
+    let from_returns = 4 * returns;
+    let from_calls = 3 * calls + from_returns;
+    let from_internals = 3 * internals + from_calls;
+    let from_states = states + from_internals;
+    let from_symbols = symbols + from_states;
+    let words = [
+        from_symbols,
+        from_states,
+        from_internals,
+        from_calls,
+        from_returns,
+        1,
+    ];
+    put_words(&words, out);
 }
 
 // Some member of a class has a flag in its state byte: 1 "for initial", 2 "for accepting".
@@ -92,4 +143,38 @@ pub(crate) fn put_states(states: &[u8], map: &[u8], classes: usize, out: &mut [u
         out[c] = class_byte(states, map, c as u8);
         c += 1;
     }
+}
+
+// "Each section is written behind the one before it, then the trailer."
+pub(crate) fn put_table(
+    symbols: &[u8],
+    states: &[u8],
+    map: &[u8],
+    classes: usize,
+    internals: &[u32],
+    calls: &[u32],
+    returns: &[u32],
+    out: &mut [u8],
+)
+    requires { ⌜ (classes ≤ 256) × (length (bytesOf (keyedTable (now symbols) (classBytes (ofStates (now states)) (now map) classes) (now internals) (now calls) (now returns))) ≤ length (now out)) ⌝ }
+    ensures { λ _. ⌜ now (out .exit) ≡ over (bytesOf (keyedTable (now (symbols .entry)) (classBytes (ofStates (now (states .entry))) (now (map .entry)) classes) (now (internals .entry)) (now (calls .entry)) (now (returns .entry)))) (now (out .entry)) ⌝ }
+{
+    put_bytes(symbols, out);
+    let mut at = symbols.len();
+    put_states(states, map, classes, &mut out[at..]);
+    at += classes;
+    put_keys(3, internals, &mut out[at..]);
+    at += 3 * internals.len();
+    put_keys(3, calls, &mut out[at..]);
+    at += 3 * calls.len();
+    put_keys(4, returns, &mut out[at..]);
+    at += 4 * returns.len();
+    put_trailer(
+        symbols.len(),
+        classes,
+        internals.len(),
+        calls.len(),
+        returns.len(),
+        &mut out[at..],
+    );
 }
