@@ -3,3 +3,4 @@ pub mod Trails
 pub mod Passing
 pub mod Undoing
 pub mod Turns
+pub mod Answering

@@ -140,19 +140,19 @@ pub record Turning (ws : List ℕ) (n b : ℕ) (v t ms : List ℕ) (count depth 
   pub few : made ≤ b
   pub leads : (o : Outcome) → LeadsTo (clausesIn ws) n b (goes (stateOf v guesses made)) o → LeadsTo (clausesIn ws) n b (atStart n) o
 
-pub turning : {ws v : List ℕ} (b : ℕ) → Fresh ws v → Turning ws (length v) b v (replicate 276 0) (replicate 276 0) 0 0 0 0
-turning {ws} {v} b f = record {
+pub turning : {ws v : List ℕ} (b : ℕ) (t ms : List ℕ) → Fresh ws v → length t ≡ 276 → length ms ≡ 276 → Turning ws (length v) b v t ms 0 0 0 0
+turning {ws} {v} b t ms f p q = record {
   ready = record {
     all-there = f .all-there;
     formed = f .formed;
     values = subst (Values (length v)) (sym (f .none-set)) (start-values (length v));
     counted = omega (arith, ap unsetCount (f .none-set), unset-start (length v));
-    room = omega (arith, f .most, length-replicate {A = ℕ} 276 0);
+    room = omega (arith, f .most);
   };
   size = refl;
   most = f .most;
-  long = length-replicate {A = ℕ} 276 0;
-  marks = length-replicate {A = ℕ} 276 0;
+  long = p;
+  marks = q;
   below = λ x m. absurd (not-nil m);
   guesses = [];
   stands = none;

@@ -31,6 +31,10 @@ pub record Undone (v t : List ℕ) (mark count : ℕ) (w : List ℕ) (x : ℕ) :
   pub variable : x ≡ getD t mark 0
   pub values : w ≡ set (unsetting v (slice mark count t)) x 0
 
+-- the values of 276 variables, none of which is set
+unfoldable pub noneSet : List ℕ
+noneSet = replicate 276 2
+
 -- whole clauses over at most 276 variables, none of which is set
 pub record Fresh (ws v : List ℕ) : Type 0 where
   pub all-there : Rattle.cnf.specs.Clauses.whole ws ≡ true

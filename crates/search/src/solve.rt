@@ -16,6 +16,13 @@ pub enum Ending {
     Spent(u64),
 }
 
+// Room for 276 places.
+fn places() -> [u16; 276]
+    ensures { λ r. ⌜ length r ≡ 276 ⌝ }
+{
+    [0u16; 276]
+}
+
 // The first unset variable from `low` on, or the number of variables.
 fn next_unset(values: &[u8], low: usize) -> usize
     requires { ⌜ low ≤ length (now values) ⌝ }
@@ -51,8 +58,8 @@ pub fn solve(list: &[u16], values: &mut [u8], budget: u64) -> Ending
     requires { ⌜ Fresh (now list) (now values) ⌝ }
     ensures { λ r. ⌜ outcomeOf r (now (values .exit)) ≡ searchFrom (clausesIn (now (list .entry))) (length (now (values .entry))) budget ⌝ }
 {
-    let mut trail = [0u16; 276];
-    let mut marks = [0u16; 276];
+    let mut trail = places();
+    let mut marks = places();
     let mut count: usize = 0;
     let mut depth: usize = 0;
     let mut made: u64 = 0;

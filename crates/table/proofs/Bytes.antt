@@ -92,7 +92,7 @@ records-flat : (w : ℕ) (rs : List (List ℕ)) → 0 < w → ((r : List ℕ) �
 unfolding records
 records-flat w rs p h = rw (length-flat w rs h, mul-div-cancel (length rs) p) (parts-flat w rs h)
 
-length-records : (w : ℕ) (s : List ℕ) → length (records w s) ≡ length s / w
+pub length-records : (w : ℕ) (s : List ℕ) → length (records w s) ≡ length s / w
 unfolding records
 length-records w s = length-parts (length s / w) w s
 
@@ -131,27 +131,27 @@ module _ (L : Limits) (b : List ℕ) (p : Passed L b) where
 
   from-returns : fromReturns (tableOf b) ≡ slice (start b 4) (trailer b) b
   unfolding fromReturns tableOf
-  from-returns = flat-records 4 (slice (start b 4) (trailer b) b) (ap (λ n. n % 4) (rest 4 (omega arith)) ∙ p .fours-4)
+  from-returns = flat-records 4 (slice (start b 4) (trailer b) b) (ap (λ n. n % 4) (rest 4 (omega arith)) ∙ p .framed .fours-4)
 
   from-calls : fromCalls (tableOf b) ≡ slice (start b 3) (trailer b) b
   unfolding fromCalls tableOf
   from-calls =
-      let whole = flat-records 3 (slice (start b 3) (start b 4) b) (ap (λ n. n % 3) (between 3 4 (p .falls-4) (omega arith)) ∙ p .threes-3) in
-      (λ i. whole i ++ from-returns i) ∙ join 3 4 (p .falls-4)
+      let whole = flat-records 3 (slice (start b 3) (start b 4) b) (ap (λ n. n % 3) (between 3 4 (p .framed .falls-4) (omega arith)) ∙ p .framed .threes-3) in
+      (λ i. whole i ++ from-returns i) ∙ join 3 4 (p .framed .falls-4)
 
   from-internals : fromInternals (tableOf b) ≡ slice (start b 2) (trailer b) b
   unfolding fromInternals tableOf
   from-internals =
-      let whole = flat-records 3 (slice (start b 2) (start b 3) b) (ap (λ n. n % 3) (between 2 3 (p .falls-3) (omega arith)) ∙ p .threes-2) in
-      (λ i. whole i ++ from-calls i) ∙ join 2 3 (p .falls-3)
+      let whole = flat-records 3 (slice (start b 2) (start b 3) b) (ap (λ n. n % 3) (between 2 3 (p .framed .falls-3) (omega arith)) ∙ p .framed .threes-2) in
+      (λ i. whole i ++ from-calls i) ∙ join 2 3 (p .framed .falls-3)
 
   from-states : fromStates (tableOf b) ≡ slice (start b 1) (trailer b) b
   unfolding fromStates tableOf
-  from-states = ap (λ s. slice (start b 1) (start b 2) b ++ s) from-internals ∙ join 1 2 (p .falls-2)
+  from-states = ap (λ s. slice (start b 1) (start b 2) b ++ s) from-internals ∙ join 1 2 (p .framed .falls-2)
 
   from-symbols : fromSymbols (tableOf b) ≡ slice (start b 0) (trailer b) b
   unfolding fromSymbols tableOf
-  from-symbols = ap (λ s. slice (start b 0) (start b 1) b ++ s) from-states ∙ join 0 1 (p .falls-1)
+  from-symbols = ap (λ s. slice (start b 0) (start b 1) b ++ s) from-states ∙ join 0 1 (p .framed .falls-1)
 
   first-start : start b 0 ≡ 0
   unfolding start
@@ -310,14 +310,17 @@ module _ (L : Limits) (t : Table) (s : Small L) (f : WellFormed L t) where
     long = omega (arith, n);
     short = omega (arith, n, few);
     dated = dated;
-    whole = d0 ∙ sym trailer-at;
-    falls-1 = omega (arith, n, d0, d1);
-    falls-2 = omega (arith, n, d1, d2);
-    falls-3 = omega (arith, n, d2, d3);
-    falls-4 = omega (arith, n, d3, d4);
-    threes-2 = omega (arith, n, d2, d3);
-    threes-3 = omega (arith, n, d3, d4);
-    fours-4 = omega (arith, n, d4);
+    framed =
+        record {
+          whole = d0 ∙ sym trailer-at;
+          falls-1 = omega (arith, n, d0, d1);
+          falls-2 = omega (arith, n, d1, d2);
+          falls-3 = omega (arith, n, d2, d3);
+          falls-4 = omega (arith, n, d3, d4);
+          threes-2 = omega (arith, n, d2, d3);
+          threes-3 = omega (arith, n, d3, d4);
+          fours-4 = omega (arith, n, d4);
+        };
     fits = ap (λ u. firstFailed (tableTests L u)) table-of-bytes ∙ f .fits;
   }
 

@@ -4,3 +4,6 @@ pub mod Order
 pub mod Facts
 pub mod Spans
 pub mod Examples
+pub mod Walks
+pub mod Fits
+pub mod Numbers

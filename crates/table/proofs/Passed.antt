@@ -17,10 +17,8 @@ use Rattle.table.specs.Reading.{lengthFits, distancesFit, countsFit, byt
 
 -- ---- what it says that bytes are readable
 
-pub record Passed (L : Limits) (b : List ℕ) : Type 0 where
-  pub long : 12 ≤ length b
-  pub short : length b ≤ longest L
-  pub dated : version b ≡ 1
+-- 3 does not apply
+pub record Framed (b : List ℕ) : Type 0 where
   pub whole : distance b 0 ≡ trailer b
   pub falls-1 : distance b 1 ≤ distance b 0
   pub falls-2 : distance b 2 ≤ distance b 1
@@ -29,16 +27,11 @@ pub record Passed (L : Limits) (b : List ℕ) : Type 0 where
   pub threes-2 : (distance b 2 - distance b 3) % 3 ≡ 0
   pub threes-3 : (distance b 3 - distance b 4) % 3 ≡ 0
   pub fours-4 : distance b 4 % 4 ≡ 0
-  pub fits : firstFailed (tableTests L (tableOf b)) ≡ 0
 
-pub read-passed : (L : Limits) (b : List ℕ) → Readable L b → Passed L b
-unfolding readNumber lengthFits distancesFit
-read-passed L b e =
-    let p1 = passed 1 _ _ (λ z. absurd (omega arith)) e in
-    let p2 = passed 2 _ _ (λ z. absurd (omega arith)) (p1 .1) in
-    let p3 = passed 3 _ _ (λ z. absurd (omega arith)) (p2 .1) in
-    let l = and-true _ _ (p1 .0) in
-    let d7 = and-true _ _ (p3 .0) in
+pub distances-framed : (b : List ℕ) → distancesFit b ≡ true → Framed b
+unfolding distancesFit
+distances-framed b e =
+    let d7 = and-true _ _ e in
     let d6 = and-true _ _ (d7 .0) in
     let d5 = and-true _ _ (d6 .0) in
     let d4 = and-true _ _ (d5 .0) in
@@ -46,9 +39,6 @@ read-passed L b e =
     let d2 = and-true _ _ (d3 .0) in
     let d1 = and-true _ _ (d2 .0) in
     record {
-      long = leb-true _ _ (l .0);
-      short = leb-true _ _ (l .1);
-      dated = eqb-true _ _ (p2 .0);
       whole = eqb-true _ _ (d1 .0);
       falls-1 = leb-true _ _ (d1 .1);
       falls-2 = leb-true _ _ (d2 .1);
@@ -57,18 +47,44 @@ read-passed L b e =
       threes-2 = eqb-true _ _ (d5 .1);
       threes-3 = eqb-true _ _ (d6 .1);
       fours-4 = eqb-true _ _ (d7 .1);
+    }
+
+pub framed-distances : (b : List ℕ) → Framed b → distancesFit b ≡ true
+unfolding distancesFit
+framed-distances b f =
+    and-of (and-of (and-of (and-of (and-of (and-of (and-of (eq-eqb _ _ (f .whole)) (le-leb _ _ (f .falls-1)))
+    (le-leb _ _ (f .falls-2))) (le-leb _ _ (f .falls-3))) (le-leb _ _ (f .falls-4))) (eq-eqb _ _ (f .threes-2))) (eq-eqb _ _ (f .threes-3)))
+    (eq-eqb _ _ (f .fours-4))
+
+-- 1 to 8 do not apply
+pub record Passed (L : Limits) (b : List ℕ) : Type 0 where
+  pub long : 12 ≤ length b
+  pub short : length b ≤ longest L
+  pub dated : version b ≡ 1
+  pub framed : Framed b
+  pub fits : firstFailed (tableTests L (tableOf b)) ≡ 0
+
+pub read-passed : (L : Limits) (b : List ℕ) → Readable L b → Passed L b
+unfolding readNumber lengthFits
+read-passed L b e =
+    let p1 = passed 1 _ _ (λ z. absurd (omega arith)) e in
+    let p2 = passed 2 _ _ (λ z. absurd (omega arith)) (p1 .1) in
+    let p3 = passed 3 _ _ (λ z. absurd (omega arith)) (p2 .1) in
+    let l = and-true _ _ (p1 .0) in
+    record {
+      long = leb-true _ _ (l .0);
+      short = leb-true _ _ (l .1);
+      dated = eqb-true _ _ (p2 .0);
+      framed = distances-framed b (p3 .0);
       fits = p3 .1;
     }
 
 pub passed-read : (L : Limits) (b : List ℕ) → Passed L b → Readable L b
-unfolding readNumber lengthFits distancesFit
+unfolding readNumber lengthFits
 passed-read L b p =
     passes 1 _ (and-of (le-leb _ _ (p .long)) (le-leb _ _ (p .short)))
     ∙ passes 2 _ (eq-eqb _ _ (p .dated))
-    ∙ passes 3 _
-    (and-of (and-of (and-of (and-of (and-of (and-of (and-of (eq-eqb _ _ (p .whole)) (le-leb _ _ (p .falls-1)))
-    (le-leb _ _ (p .falls-2))) (le-leb _ _ (p .falls-3))) (le-leb _ _ (p .falls-4))) (eq-eqb _ _ (p .threes-2))) (eq-eqb _ _ (p .threes-3)))
-    (eq-eqb _ _ (p .fours-4)))
+    ∙ passes 3 _ (framed-distances b (p .framed))
     ∙ p .fits
 
 -- ---- what it says that a table is well formed
@@ -132,7 +148,7 @@ tests-passed L t e =
       returns-ascend = o2 .1;
     }
 
-no-test : firstFailed [] ≡ 0
+pub no-test : firstFailed [] ≡ 0
 unfolding firstFailed
 no-test = refl
 

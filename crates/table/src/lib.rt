@@ -1,4 +1,15 @@
 // The table file: reading it, its records, and writing it.
+ghost use mathlib.Core.Path.{_≡_};
+ghost use mathlib.Core.Bool.{true};
+ghost use mathlib.Core.List.{[]};
+ghost use Prim.Native.Nat.{_+_, _≤_, _<_};
+ghost use lib.ListN.{length};
+ghost use lib.Dec.{ltb};
+ghost use Rattle.lists.specs.Lists.{any, all, firstFailed};
+ghost use Rattle.table.specs.Limits.{standard};
+ghost use Rattle.table.specs.File.{word16, records, tableOf};
+ghost use Rattle.table.specs.Reading.{distancesFit, countsFit, bytesFit, isInitial, recordFits, recordsFit, before, ascend, orderFits, tableTests, startsOf, readOf};
+ghost use Rattle.table.specs.Sections.{sectioned};
 
 // "Reading answers the five section starts."
 pub struct Starts {
@@ -14,4 +25,313 @@ pub enum Reading {
     Sections(Starts),
     // 1 to 8
     Refused(u8),
+}
+
+// "over 22,596 bytes"
+const LONGEST: usize = 22596;
+// "At most 32" symbols, "1 to 24" states, "At most 1,024" internals and calls, "At most 4,096" returns
+const SYMBOLS: usize = 32;
+
+const STATES: usize = 24;
+
+const MOVES: usize = 1024;
+
+const RETURNS: usize = 4096;
+
+fn wide(x: u8) -> usize
+    ensures { λ r. ⌜ r ≡ x ⌝ }
+{
+    x as usize
+}
+
+// The 16-bit number at a place of the file.
+fn word_at(table: &[u8], at: usize) -> usize
+    requires { ⌜ at + 1 < length (now table) ⌝ }
+    ensures { λ r. ⌜ r ≡ word16 (now (table .entry)) at ⌝ }
+{
+    wide(table[at]) + 256 * wide(table[at + 1])
+}
+
+// Every byte is below a limit.
+fn all_below(bytes: &[u8], limit: usize) -> bool
+    ensures { λ r. ⌜ r ≡ all (λ x. ltb x limit) (now (bytes .entry)) ⌝ }
+{
+    let mut i: usize = 0;
+    'bytes: while i < bytes.len() {
+        if limit <= wide(bytes[i]) {
+            return false;
+        }
+        i += 1;
+    }
+    true
+}
+
+// Some state is initial.
+fn any_initial(states: &[u8]) -> bool
+    ensures { λ r. ⌜ r ≡ any isInitial (now (states .entry)) ⌝ }
+{
+    let mut i: usize = 0;
+    'states: while i < states.len() {
+        if states[i] % 2 == 1 {
+            return true;
+        }
+        i += 1;
+    }
+    false
+}
+
+// One record of any width: its state, its symbol and the symbol's kind, and its further states.
+fn record_fits(symbols: &[u8], states: &[u8], kind: u8, fields: &[u8]) -> bool
+    ensures { λ r. ⌜ r ≡ recordFits (sectioned (now (symbols .entry)) (now (states .entry)) [] [] []) kind (now (fields .entry)) ⌝ }
+{
+    if fields.len() < 2 {
+        return false;
+    }
+    if states.len() <= wide(fields[0]) {
+        return false;
+    }
+    let symbol = wide(fields[1]);
+    if symbols.len() <= symbol {
+        return false;
+    }
+    if symbols[symbol] != kind {
+        return false;
+    }
+    all_below(&fields[2..], states.len())
+}
+
+// The records of a section, of any width.
+fn records_fit(symbols: &[u8], states: &[u8], kind: u8, width: usize, section: &[u8]) -> bool
+    requires { ⌜ 0 < width ⌝ }
+    ensures { λ r. ⌜ r ≡ all (recordFits (sectioned (now (symbols .entry)) (now (states .entry)) [] [] []) kind) (records width (now (section .entry))) ⌝ }
+{
+    let mut at: usize = 0;
+    'records: while width <= section.len() - at {
+        let next = at + width;
+        if !record_fits(symbols, states, kind, &section[at..next]) {
+            return false;
+        }
+        at = next;
+    }
+    true
+}
+
+// One byte string stands before the other.
+fn stands_before(x: &[u8], y: &[u8]) -> bool
+    ensures { λ r. ⌜ r ≡ before (now (x .entry)) (now (y .entry)) ⌝ }
+{
+    let mut i: usize = 0;
+    'bytes: while i < x.len() {
+        if y.len() <= i {
+            return false;
+        }
+        if x[i] < y[i] {
+            return true;
+        }
+        if y[i] < x[i] {
+            return false;
+        }
+        i += 1;
+    }
+    i < y.len()
+}
+
+// The records of a section ascend, of any width.
+fn ascends(width: usize, section: &[u8]) -> bool
+    requires { ⌜ 0 < width ⌝ }
+    ensures { λ r. ⌜ r ≡ ascend (records width (now (section .entry))) ⌝ }
+{
+    if section.len() < width {
+        return true;
+    }
+    let mut at: usize = 0;
+    let mut next = width;
+    'records: while width <= section.len() - next {
+        let end = next + width;
+        if !stands_before(&section[at..next], &section[next..end]) {
+            return false;
+        }
+        at = next;
+        next = end;
+    }
+    true
+}
+
+// 4: the counts.
+fn counts_fit(symbols: &[u8], states: &[u8], internals: &[u8], calls: &[u8], returns: &[u8]) -> bool
+    ensures { λ r. ⌜ r ≡ countsFit standard (sectioned (now (symbols .entry)) (now (states .entry)) (now (internals .entry)) (now (calls .entry)) (now (returns .entry))) ⌝ }
+{
+    if SYMBOLS < symbols.len() {
+        return false;
+    }
+    if states.len() < 1 {
+        return false;
+    }
+    if STATES < states.len() {
+        return false;
+    }
+    if MOVES < internals.len() / 3 {
+        return false;
+    }
+    if MOVES < calls.len() / 3 {
+        return false;
+    }
+    returns.len() / 4 <= RETURNS
+}
+
+// 5: the bytes of the symbols and the states.
+fn bytes_fit(symbols: &[u8], states: &[u8]) -> bool
+    ensures { λ r. ⌜ r ≡ bytesFit (sectioned (now (symbols .entry)) (now (states .entry)) [] [] []) ⌝ }
+{
+    if !all_below(symbols, 3) {
+        return false;
+    }
+    all_below(states, 4)
+}
+
+// 7: the records of the three sections, each of its kind and width.
+fn sections_fit(
+    symbols: &[u8],
+    states: &[u8],
+    internals: &[u8],
+    calls: &[u8],
+    returns: &[u8],
+) -> bool
+    ensures { λ r. ⌜ r ≡ recordsFit (sectioned (now (symbols .entry)) (now (states .entry)) (now (internals .entry)) (now (calls .entry)) (now (returns .entry))) ⌝ }
+{
+    if !records_fit(symbols, states, 0, 3, internals) {
+        return false;
+    }
+    if !records_fit(symbols, states, 1, 3, calls) {
+        return false;
+    }
+    records_fit(symbols, states, 2, 4, returns)
+}
+
+// 8: the order of the three sections.
+fn sections_ascend(internals: &[u8], calls: &[u8], returns: &[u8]) -> bool
+    ensures { λ r. ⌜ r ≡ orderFits (sectioned [] [] (now (internals .entry)) (now (calls .entry)) (now (returns .entry))) ⌝ }
+{
+    if !ascends(3, internals) {
+        return false;
+    }
+    if !ascends(3, calls) {
+        return false;
+    }
+    ascends(4, returns)
+}
+
+// The first of 4 to 8 that applies to five sections, or 0.
+fn table_number(symbols: &[u8], states: &[u8], internals: &[u8], calls: &[u8], returns: &[u8]) -> u8
+    ensures { λ r. ⌜ r ≡ firstFailed (tableTests standard (sectioned (now (symbols .entry)) (now (states .entry)) (now (internals .entry)) (now (calls .entry)) (now (returns .entry)))) ⌝ }
+{
+    if !counts_fit(symbols, states, internals, calls, returns) {
+        return 4;
+    }
+    if !bytes_fit(symbols, states) {
+        return 5;
+    }
+    if !any_initial(states) {
+        return 6;
+    }
+    if !sections_fit(symbols, states, internals, calls, returns) {
+        return 7;
+    }
+    if !sections_ascend(internals, calls, returns) {
+        return 8;
+    }
+    0
+}
+
+// 3: the five distances.
+fn distances_fit(table: &[u8], end: usize) -> bool
+    requires { ⌜ end + 12 ≡ length (now table) ⌝ }
+    ensures { λ r. ⌜ r ≡ distancesFit (now (table .entry)) ⌝ }
+{
+    let symbols = word_at(table, end);
+    let states = word_at(table, end + 2);
+    let internals = word_at(table, end + 4);
+    let calls = word_at(table, end + 6);
+    let returns = word_at(table, end + 8);
+    if symbols != end {
+        return false;
+    }
+    if symbols < states {
+        return false;
+    }
+    if states < internals {
+        return false;
+    }
+    if internals < calls {
+        return false;
+    }
+    if calls < returns {
+        return false;
+    }
+    if (internals - calls) % 3 != 0 {
+        return false;
+    }
+    if (calls - returns) % 3 != 0 {
+        return false;
+    }
+    returns % 4 == 0
+}
+
+// The five section starts, by the distances.
+fn starts_at(table: &[u8], end: usize) -> Starts
+    requires { ⌜ (end + 12 ≡ length (now table)) × (distancesFit (now table) ≡ true) ⌝ }
+    ensures { λ r. ⌜ r ≡ startsOf (now (table .entry)) ⌝ }
+{
+    Starts {
+        symbols: end - word_at(table, end),
+        states: end - word_at(table, end + 2),
+        internals: end - word_at(table, end + 4),
+        calls: end - word_at(table, end + 6),
+        returns: end - word_at(table, end + 8),
+    }
+}
+
+// The first of 4 to 8 that applies to the file's table: each section is handed on as a part of the file.
+fn sections_number(table: &[u8], starts: Starts, end: usize) -> u8
+    requires { ⌜ (end + 12 ≡ length (now table)) × (distancesFit (now table) ≡ true) × (starts ≡ startsOf (now table)) ⌝ }
+    ensures { λ r. ⌜ r ≡ firstFailed (tableTests standard (tableOf (now (table .entry)))) ⌝ }
+{
+    let symbols = starts.symbols;
+    let states = starts.states;
+    let internals = starts.internals;
+    let calls = starts.calls;
+    let returns = starts.returns;
+    table_number(
+        &table[symbols..states],
+        &table[states..internals],
+        &table[internals..calls],
+        &table[calls..returns],
+        &table[returns..end],
+    )
+}
+
+// Reads a table: the five section starts, or the first refusal that applies.
+pub fn read(table: &[u8]) -> Reading
+    ensures { λ r. ⌜ r ≡ readOf standard (now (table .entry)) ⌝ }
+{
+    let length = table.len();
+    if length < 12 {
+        return Reading::Refused(1);
+    }
+    if LONGEST < length {
+        return Reading::Refused(1);
+    }
+    let end = length - 12;
+    if word_at(table, end + 10) != 1 {
+        return Reading::Refused(2);
+    }
+    if !distances_fit(table, end) {
+        return Reading::Refused(3);
+    }
+    let starts = starts_at(table, end);
+    let number = sections_number(table, starts, end);
+    if number != 0 {
+        return Reading::Refused(number);
+    }
+    Reading::Sections(starts)
 }

@@ -10,12 +10,24 @@ ghost use Rattle.lists.specs.Bits.{has, onesOver};
 ghost use Rattle.table.specs.Limits.{standard};
 ghost use Rattle.table.specs.File.{records};
 ghost use Rattle.table.specs.Sections.{sectioned};
-ghost use Rattle.tops.specs.Tops.{add, byInternals, byCalls, byReturns, startWords, rounds, topWords};
+ghost use Rattle.tops.specs.Tops.{add, byInternals, byCalls, byReturns, startWords, rounds, topWords, topsOf};
+ghost use Rattle.table.specs.Reading.{Readable, startsOf};
+ghost use Rattle.tops.specs.Demands.{examinedOf, TopsExact};
 ghost use Rattle.tops.specs.Sections.{Section, Sections, topsFound};
+use table::Reading;
+use table::Starts;
 
 // What tops answers: the refusal's number or 0, a word for each possible state, and the number of tops found.
 pub struct TopWords {
     pub number: u8,
+    pub words: [u32; 24],
+    pub found: u32,
+}
+
+// A table that was read, with its tops: what the other operations on a table go on with.
+pub struct Examined {
+    pub number: u8,
+    pub starts: Starts,
     pub words: [u32; 24],
     pub found: u32,
 }
@@ -206,4 +218,67 @@ pub fn later_tops(word: u32) -> u32
         return 0;
     }
     word - (1u32 << u32::trailing_zeros(word))
+}
+
+// The tops of a table that was read: its sections are handed on as parts of the file.
+fn tops_read(table: &[u8], starts: Starts) -> TopWords
+    requires { ⌜ Readable standard (now table) × (starts ≡ startsOf (now table)) ⌝ }
+    ensures { λ r. ⌜ r ≡ topsOf standard (now (table .entry)) ⌝ }
+{
+    let end = table.len() - 12;
+    let states = starts.states;
+    let internals = starts.internals;
+    let calls = starts.calls;
+    let returns = starts.returns;
+    tops_of(
+        &table[states..internals],
+        &table[internals..calls],
+        &table[calls..returns],
+        &table[returns..end],
+    )
+}
+
+// Reads a table and works out its tops.
+pub fn examine(table: &[u8]) -> Examined
+    ensures { λ r. ⌜ r ≡ examinedOf standard (now (table .entry)) ⌝ }
+{
+    let reading = table::read(table);
+    match reading {
+        Reading::Sections(starts) => {
+            let t = tops_read(table, starts);
+            let words = t.words;
+            Examined {
+                number: 0,
+                starts,
+                words,
+                found: t.found,
+            }
+        }
+        Reading::Refused(number) => Examined {
+            number,
+            starts: Starts {
+                symbols: 0,
+                states: 0,
+                internals: 0,
+                calls: 0,
+                returns: 0,
+            },
+            words: [0u32; 24],
+            found: 0,
+        },
+    }
+}
+
+// The reachable tops of a table.
+pub fn tops(table: &[u8]) -> TopWords
+    ensures { λ r. ⌜ r ≡ topsOf standard (now (table .entry)) ⌝ }
+    ensures exact { λ r. ⌜ TopsExact standard (now (table .entry)) r ⌝ }
+{
+    let e = examine(table);
+    let words = e.words;
+    TopWords {
+        number: e.number,
+        words,
+        found: e.found,
+    }
 }

@@ -1,0 +1,264 @@
+-- Laws for the operation: writing the answer, the refusals in order, and what the answer promises. Assumes nothing.
+use mathlib.Core.Path.{_≡_, refl, sym, ap, _∙_, subst}
+use mathlib.Core.Logic.{_≢_}
+use mathlib.Core.Bool.{Bool, true, false, _&&_, true≢false}
+use mathlib.Core.List.{List, [], _∷_, _++_}
+use Prim.Native.Nat.{ℕ, zero, suc, _+_, _≤_, _<_}
+use native.Mathlib.Numerals.{add-one}
+use native.Mathlib.Omega.{arith}
+use lib.ListN.{length, getD, set, take, drop, replicate, length-append, length-drop, length-replicate}
+use lib.Seq.{take-all, take-suc, take-at, drop-cons, set-at, append-snoc, length-take-le}
+use lib.Dec.{eqb, leb}
+use borrow.Author.Tests.{eq-eqb, ne-eqb, eqb-true, le-leb, lt-leb, leb-true}
+use Rattle.lists.specs.Lists.{all, over, firstFailed}
+use Rattle.lists.proofs.Members.{and-true, and-of}
+use Rattle.lists.proofs.Refusals.{passed, passes, fails}
+use Rattle.cnf.specs.Clauses.{clausesIn, whole, clauseFits, Model, Maximal, Horn}
+use Rattle.cnf.specs.Search.{Outcome, solved, none-exists, spent, unfinished, searchFrom}
+use Rattle.cnf.proofs.Values.{Formed}
+use Rattle.cnf.proofs.Words.{fit-formed}
+use Rattle.cnf.proofs.Theorems as theorems
+use Rattle.search.specs.declared.Solution.{Solution}
+use Rattle.search.specs.declared.Solution.the-variants.{Solved, Refused}
+use Rattle.search.specs.declared.solve.Ending.{Ending}
+use Rattle.search.specs.declared.solve.Ending.the-variants.{Found, Absent, Spent}
+use Rattle.search.specs.Turns.{noneSet, Fresh, outcomeOf}
+use Rattle.search.specs.Answers.{listFits, searchNumber, Searched, searched, searchOf}
+
+-- ---- writing the answer
+
+pub record Writing (vs old new : List ℕ) (i : ℕ) : Type 0 where
+  pub inside : i ≤ length vs
+  pub room : length vs ≤ length old
+  pub meets : new ≡ take i vs ++ drop i old
+
+pub writing : {vs old : List ℕ} → length vs ≤ length old → Writing vs old old 0
+writing h = record { inside = omega arith; room = h; meets = refl }
+
+module _ {vs old new : List ℕ} {i : ℕ} (w : Writing vs old new i) where
+  pub same-length : length new ≡ length old
+  same-length = omega (arith, ap length (w .meets) ∙ length-append (take i vs) (drop i old), length-take-le i vs (w .inside), length-drop i old, w .room)
+
+  pub write-on : i < length vs → Writing vs old (set new i (getD vs i 0)) (i + 1)
+  write-on h = record { inside = omega arith; room = w .room; meets = stored }
+    where
+      stored : set new i (getD vs i 0) ≡ take (i + 1) vs ++ drop (i + 1) old
+      stored =
+          rw (w .meets, drop-cons old i 0 (omega (arith, w .room)), add-one, take-suc vs i 0 h, append-snoc)
+          (set-at (take i vs) (getD old i 0) (drop (suc i) old) (getD vs i 0) i (length-take-le i vs (w .inside)))
+
+  pub write-all : length vs ≤ i → new ≡ over vs old
+  unfolding over
+  write-all h = let e : i ≡ length vs = omega (arith, w .inside) in w .meets ∙ rw (take-all i vs h, e)
+
+-- ---- the refusals, in order
+
+module _ (most : ℕ) (ws : List ℕ) (n b : ℕ) (a : List ℕ) where
+  by-number : (k : ℕ) → searchNumber most ws n a ≡ k → k ≢ 0 → record { solution = Refused k; answer = a } ≡ searchOf most ws n b a
+  unfolding searchOf
+  by-number k e z = rw (e, ne-eqb k 0 z, searchOf) (λ j. record { solution = Refused (sym e j); answer = a })
+
+  by-outcome : searchNumber most ws n a ≡ 0 → (o : Outcome) → o ≡ searchFrom (clausesIn ws) n b → searched a o ≡ searchOf most ws n b a
+  unfolding searchOf
+  by-outcome e o q = rw (e, searchOf) (ap (searched a) q)
+
+  -- 11
+  pub refuse-list : listFits most ws n ≡ false → record { solution = Refused 11; answer = a } ≡ searchOf most ws n b a
+  unfolding searchNumber
+  refuse-list e = by-number 11 (fails 11 ((14, leb n (length a)) ∷ []) e) (omega arith)
+
+  -- 14
+  pub refuse-short : listFits most ws n ≡ true → length a < n → record { solution = Refused 14; answer = a } ≡ searchOf most ws n b a
+  unfolding searchNumber
+  refuse-short e h = by-number 14 (passes 11 ((14, leb n (length a)) ∷ []) e ∙ fails 14 [] (lt-leb _ _ h)) (omega arith)
+
+  -- the outcome
+  answer-outcome : listFits most ws n ≡ true → n ≤ length a → (o : Outcome) → o ≡ searchFrom (clausesIn ws) n b → searched a o ≡ searchOf most ws n b a
+  unfolding searchNumber firstFailed
+  answer-outcome e h = by-outcome (passes 11 ((14, leb n (length a)) ∷ []) e ∙ passes 14 [] (le-leb _ _ h))
+
+module _ (most : ℕ) (ws : List ℕ) (n b : ℕ) (a : List ℕ) (e : listFits most ws n ≡ true) (h : n ≤ length a) {k : ℕ} where
+  pub answer-found : {v out : List ℕ} → solved v k ≡ searchFrom (clausesIn ws) n b → out ≡ over v a → record { solution = Solved k; answer = out } ≡ searchOf most ws n b a
+  unfolding searched
+  answer-found {v} {out} q p = (λ j. record { solution = Solved k; answer = p j }) ∙ answer-outcome most ws n b a e h (solved v k) q
+
+  -- 12
+  pub answer-absent : none-exists k ≡ searchFrom (clausesIn ws) n b → record { solution = Refused 12; answer = a } ≡ searchOf most ws n b a
+  unfolding searched
+  answer-absent q = answer-outcome most ws n b a e h (none-exists k) q
+
+  -- 13
+  pub answer-spent : spent k ≡ searchFrom (clausesIn ws) n b → record { solution = Refused 13; answer = a } ≡ searchOf most ws n b a
+  unfolding searched
+  answer-spent q = answer-outcome most ws n b a e h (spent k) q
+
+-- ---- the values and the outcome
+
+take-replicate : (n m : ℕ) → n ≤ m → take {A = ℕ} n (replicate m 2) ≡ replicate n 2
+take-replicate zero m h = refl
+take-replicate (suc n) zero h = absurd (omega arith)
+take-replicate (suc n) (suc m) h = ap (λ (l : List ℕ). 2 ∷ l) (take-replicate n m (omega arith))
+
+module _ (n : ℕ) (h : n ≤ 276) {s : List ℕ} (z : s ≡ noneSet) where
+  prefix-is : take n s ≡ replicate n 2
+  unfolding noneSet
+  prefix-is = ap (take n) z ∙ take-replicate n 276 h
+
+  pub prefix-length : length (take n s) ≡ n
+  prefix-length = ap length prefix-is ∙ length-replicate {A = ℕ} n 2
+
+  pub fresh : {ws : List ℕ} → whole ws ≡ true → Formed (clausesIn ws) n → Fresh ws (take n s)
+  fresh w f = record {
+    all-there = w;
+    formed = rw prefix-length f;
+    none-set = rw prefix-length prefix-is;
+    most = rw prefix-length h;
+  }
+
+  -- the values that come back, in front of the rest of the array
+  module _ (v : List ℕ) (e : length v ≡ length (take n s)) where
+    long : length v ≡ n
+    long = e ∙ prefix-length
+
+    pub prefix-room : n ≤ length (v ++ drop n s)
+    prefix-room = omega (arith, long, length-append v (drop n s))
+
+    pub prefix-values : take n (v ++ drop n s) ≡ v
+    prefix-values = take-at v (drop n s) n long
+
+    pub prefix-size : length (take n (v ++ drop n s)) ≡ n
+    prefix-size = ap length prefix-values ∙ long
+
+module _ (ws : List ℕ) (n b : ℕ) (r : Ending) (v : List ℕ) {m : ℕ} (e : m ≡ n) (q : outcomeOf r v ≡ searchFrom (clausesIn ws) m b) where
+  outcome : outcomeOf r v ≡ searchFrom (clausesIn ws) n b
+  outcome = q ∙ ap (λ (j : ℕ). searchFrom (clausesIn ws) j b) e
+
+  pub is-found : {k : ℕ} → r ≡ Found k → solved v k ≡ searchFrom (clausesIn ws) n b
+  is-found p = sym (ap (λ (z : Ending). outcomeOf z v) p) ∙ outcome
+
+  pub is-absent : {k : ℕ} → r ≡ Absent k → none-exists k ≡ searchFrom (clausesIn ws) n b
+  is-absent p = sym (ap (λ (z : Ending). outcomeOf z v) p) ∙ outcome
+
+  pub is-spent : {k : ℕ} → r ≡ Spent k → spent k ≡ searchFrom (clausesIn ws) n b
+  is-spent p = sym (ap (λ (z : Ending). outcomeOf z v) p) ∙ outcome
+
+-- 11 as it is judged: the number of variables, then the list
+module _ (most n : ℕ) (ws : List ℕ) where
+  pub list-many : most < n → listFits most ws n ≡ false
+  unfolding listFits
+  list-many h = rw (lt-leb n most h)
+
+  pub list-as : n ≤ most → (t : Bool) → (whole ws && all (clauseFits n) (clausesIn ws)) ≡ t → listFits most ws n ≡ t
+  unfolding listFits
+  list-as h t e = rw (le-leb n most h, e)
+
+  pub list-formed : listFits most ws n ≡ true → (n ≤ most) × (whole ws ≡ true) × Formed (clausesIn ws) n
+  unfolding listFits
+  list-formed e =
+      let p = and-true (leb n most && whole ws) (all (clauseFits n) (clausesIn ws)) e in
+      let q = and-true (leb n most) (whole ws) (p .0) in
+      (leb-true n most (q .0), q .1, fit-formed n (clausesIn ws) (p .1))
+
+-- ---- what the answer promises
+
+not-solved : {m k : ℕ} → Refused m ≡ Solved k → ⊥
+not-solved e = let z : _≡_ {A = ℕ} 0 1 = cc in omega arith
+
+solved-one : {j k : ℕ} → Solved j ≡ Solved k → j ≡ k
+solved-one e = cc
+
+refused-other : {j k : ℕ} → j ≢ k → Refused j ≡ Refused k → ⊥
+refused-other {j} {k} n e = let z : j ≡ k = cc in n z
+
+module _ (most : ℕ) (ws : List ℕ) (n b : ℕ) (a : List ℕ) where
+  -- an answer that is solved
+  record IsSolved (s : Searched) (k : ℕ) : Type 0 where
+    pub formed : Formed (clausesIn ws) n
+    pub values : List ℕ
+    pub outcome : searchFrom (clausesIn ws) n b ≡ solved values k
+    pub answer : s .answer ≡ over values a
+
+  record IsNone : Type 0 where
+    pub formed : Formed (clausesIn ws) n
+    pub made : ℕ
+    pub outcome : searchFrom (clausesIn ws) n b ≡ none-exists made
+
+  formed-of : eqb (searchNumber most ws n a) 0 ≡ true → Formed (clausesIn ws) n
+  unfolding searchNumber
+  formed-of e = list-formed most n ws (passed 11 (listFits most ws n) ((14, leb n (length a)) ∷ []) (omega arith) (eqb-true _ _ e) .0) .2
+
+  abbrev answerBy : Bool → Searched
+  answerBy true = searched a (searchFrom (clausesIn ws) n b)
+  answerBy false = record { solution = Refused (searchNumber most ws n a); answer = a }
+
+  answer-by : searchOf most ws n b a ≡ answerBy (eqb (searchNumber most ws n a) 0)
+  unfolding searchOf
+  answer-by = go (eqb (searchNumber most ws n a) 0)
+    where
+      go : (t : Bool) → elim t as (λ _. Searched) [ true ↦ searched a (searchFrom (clausesIn ws) n b) | false ↦ record { solution = Refused (searchNumber most ws n a); answer = a } ] ≡ answerBy t
+      go true = refl
+      go false = refl
+
+  solved-is : (s : Searched) → s ≡ searchOf most ws n b a → (k : ℕ) → s .solution ≡ Solved k → IsSolved s k
+  unfolding searched
+  solved-is s e k p = go (eqb (searchNumber most ws n a) 0) refl (e ∙ answer-by)
+    where
+      by : Formed (clausesIn ws) n → (o : Outcome) → searchFrom (clausesIn ws) n b ≡ o → s ≡ searched a o → IsSolved s k
+      by f (solved v j) q r = record { formed = f; values = v; outcome = q ∙ ap (solved v) (solved-one (sym (ap (λ (z : Searched). z .solution) r) ∙ p)); answer = ap (λ (z : Searched). z .answer) r }
+      by f (none-exists j) q r = absurd (not-solved (sym (ap (λ (z : Searched). z .solution) r) ∙ p))
+      by f (spent j) q r = absurd (not-solved (sym (ap (λ (z : Searched). z .solution) r) ∙ p))
+      by f unfinished q r = absurd (not-solved (sym (ap (λ (z : Searched). z .solution) r) ∙ p))
+
+      go : (t : Bool) → eqb (searchNumber most ws n a) 0 ≡ t → s ≡ answerBy t → IsSolved s k
+      go true t r = by (formed-of t) (searchFrom (clausesIn ws) n b) refl r
+      go false t r = absurd (not-solved (sym (ap (λ (z : Searched). z .solution) r) ∙ p))
+
+  -- no other refusal has number 12
+  not-twelve : searchNumber most ws n a ≢ 12
+  unfolding searchNumber firstFailed
+  not-twelve = go (listFits most ws n) (leb n (length a))
+    where
+      go : (t u : Bool) → firstFailed ((11, t) ∷ (14, u) ∷ []) ≢ 12
+      go true true = omega arith
+      go true false = omega arith
+      go false u = omega arith
+
+  none-is : (s : Searched) → s ≡ searchOf most ws n b a → s .solution ≡ Refused 12 → IsNone
+  unfolding searched
+  none-is s e p = go (eqb (searchNumber most ws n a) 0) refl (e ∙ answer-by)
+    where
+      by : Formed (clausesIn ws) n → (o : Outcome) → searchFrom (clausesIn ws) n b ≡ o → s ≡ searched a o → IsNone
+      by f (solved v j) q r = absurd (not-solved (sym p ∙ ap (λ (z : Searched). z .solution) r))
+      by f (none-exists j) q r = record { formed = f; made = j; outcome = q }
+      by f (spent j) q r = absurd (refused-other (omega arith) (sym (ap (λ (z : Searched). z .solution) r) ∙ p))
+      by f unfinished q r = absurd (refused-other (omega arith) (sym (ap (λ (z : Searched). z .solution) r) ∙ p))
+
+      go : (t : Bool) → eqb (searchNumber most ws n a) 0 ≡ t → s ≡ answerBy t → IsNone
+      go true t r = by (formed-of t) (searchFrom (clausesIn ws) n b) refl r
+      go false t r = absurd (refused-other not-twelve (sym (ap (λ (z : Searched). z .solution) r) ∙ p))
+
+  -- what the answer bytes begin with
+  module _ {r : Solution} {out : List ℕ} (e : record { solution = r; answer = out } ≡ searchOf most ws n b a) where
+    first-values : {k : ℕ} (i : IsSolved (record { solution = r; answer = out }) k) → take n out ≡ i .values
+    unfolding over
+    first-values i = ap (take n) (i .answer) ∙ take-at (i .values) (drop (length (i .values)) a) n (theorems.satisfies (clausesIn ws) n b (i .formed) (i .values) _ (i .outcome) .assigns .long)
+
+    pub satisfies : (k : ℕ) → r ≡ Solved k → Model (clausesIn ws) n (take n out)
+    satisfies k p = let i = solved-is (record { solution = r; answer = out }) e k p in rw (first-values i) (theorems.satisfies (clausesIn ws) n b (i .formed) (i .values) k (i .outcome))
+
+    pub maximal : (k : ℕ) → r ≡ Solved k → Maximal (clausesIn ws) n (take n out)
+    maximal k p = let i = solved-is (record { solution = r; answer = out }) e k p in rw (first-values i) (theorems.maximal (clausesIn ws) n b (i .formed) (i .values) k (i .outcome))
+
+    pub complete : r ≡ Refused 12 → (m : List ℕ) → Model (clausesIn ws) n m → ⊥
+    complete p = let i = none-is (record { solution = r; answer = out }) e p in theorems.complete (clausesIn ws) n b (i .formed) (i .made) (i .outcome)
+
+    pub few : Horn (clausesIn ws) → (k : ℕ) → r ≡ Solved k → k ≤ n
+    few h k p = let i = solved-is (record { solution = r; answer = out }) e k p in rw (i .outcome) at (theorems.horn (clausesIn ws) n b (i .formed) h)
+
+    -- the contract
+    pub promised : (record { solution = r; answer = out } ≡ searchOf most ws n b a)
+        × (((k : ℕ) → r ≡ Solved k → Model (clausesIn ws) n (take n out))
+        × (((k : ℕ) → r ≡ Solved k → Maximal (clausesIn ws) n (take n out))
+        × ((r ≡ Refused 12 → (m : List ℕ) → Model (clausesIn ws) n m → ⊥)
+        × (Horn (clausesIn ws) → (k : ℕ) → r ≡ Solved k → k ≤ n))))
+    promised = (e, (satisfies, (maximal, (complete, few))))

@@ -1,0 +1,333 @@
+-- The numbers that reading answers, one law for each way to a return of src/. Assumes nothing.
+use mathlib.Core.Path.{_≡_, refl, sym, ap, _∙_}
+use mathlib.Core.Bool.{Bool, true, false, _&&_}
+use mathlib.Core.List.{List, [], _∷_}
+use Prim.Native.Nat.{ℕ, zero, suc, _+_, _-_, _*_, _/_, _%_, _≤_, _<_}
+use native.Mathlib.Nat.{add-zero, sub-zero, suc-sub-suc}
+use native.Mathlib.Omega.{arith}
+use lib.ListN.{length, take, drop}
+use lib.Seq.{slice, take-nil}
+use lib.Dec.{eqb, leb, ltb, leb·suc-suc}
+use borrow.Author.Tests.{lt-leb, le-leb, eq-eqb, ne-eqb, eqb-false}
+use Rattle.lists.specs.Lists.{any, all, firstFailed}
+use Rattle.lists.proofs.Members.{and-of}
+use Rattle.lists.proofs.Refusals.{passes, fails}
+use Rattle.table.specs.Limits.{standard, longest}
+use Rattle.table.specs.File.{Table, word16, trailer, distance, version, start, records, tableOf}
+use Rattle.table.specs.Reading.{lengthFits, distancesFit, countsFit, bytesFit, isInitial, startFits, recordFits, recordsFit, ascend, orderFits, tableTests, readNumber, startsOf, readOf}
+use Rattle.table.specs.Sections.{sectioned}
+use Rattle.table.specs.declared.Starts.{Starts}
+use Rattle.table.specs.declared.Reading.{Reading}
+use Rattle.table.specs.declared.Reading.the-variants.{Sections, Refused}
+use Rattle.table.proofs.Passed.{distances-framed, no-test}
+use Rattle.table.proofs.Bytes.{length-records}
+use Rattle.table.proofs.Fits.{fits-by}
+
+-- ---- 4: counts
+
+module _ (a b c d e : List ℕ) where
+  counts : countsFit standard (sectioned a b c d e)
+      ≡ leb (length a) 32 && leb 1 (length b) && leb (length b) 24 && leb (length c / 3) 1024 && leb (length d / 3) 1024 && leb (length e / 4) 4096
+  unfolding countsFit sectioned
+  counts = λ i. leb (length a) 32 && leb 1 (length b) && leb (length b) 24 && leb (length-records 3 c i) 1024 && leb (length-records 3 d i) 1024 && leb (length-records 4 e i) 4096
+
+  pub symbols-many : 32 < length a → false ≡ countsFit standard (sectioned a b c d e)
+  symbols-many h = sym (counts ∙ rw (lt-leb _ _ h))
+
+  module _ (p1 : length a ≤ 32) where
+    pub states-none : length b < 1 → false ≡ countsFit standard (sectioned a b c d e)
+    states-none h = sym (counts ∙ rw (le-leb _ _ p1, lt-leb _ _ h))
+
+    module _ (p2 : 1 ≤ length b) where
+      pub states-many : 24 < length b → false ≡ countsFit standard (sectioned a b c d e)
+      states-many h = sym (counts ∙ rw (le-leb _ _ p1, le-leb _ _ p2, lt-leb _ _ h))
+
+      module _ (p3 : length b ≤ 24) where
+        pub internals-many : 1024 < length c / 3 → false ≡ countsFit standard (sectioned a b c d e)
+        internals-many h = sym (counts ∙ rw (le-leb _ _ p1, le-leb _ _ p2, le-leb _ _ p3, lt-leb _ _ h))
+
+        module _ (p4 : length c / 3 ≤ 1024) where
+          pub calls-many : 1024 < length d / 3 → false ≡ countsFit standard (sectioned a b c d e)
+          calls-many h = sym (counts ∙ rw (le-leb _ _ p1, le-leb _ _ p2, le-leb _ _ p3, le-leb _ _ p4, lt-leb _ _ h))
+
+          pub by-returns : length d / 3 ≤ 1024 → leb (length e / 4) 4096 ≡ countsFit standard (sectioned a b c d e)
+          by-returns p5 = sym (counts ∙ rw (le-leb _ _ p1, le-leb _ _ p2, le-leb _ _ p3, le-leb _ _ p4, le-leb _ _ p5))
+
+-- ---- two or three tests in a row
+
+pub first-of-two : {x : Bool} (y : Bool) → x ≡ false → false ≡ x && y
+first-of-two y p = sym (rw p)
+
+pub last-of-two : {x : Bool} (y : Bool) → x ≡ true → y ≡ x && y
+last-of-two y p = sym (rw p)
+
+pub first-of-three : {x : Bool} (y z : Bool) → x ≡ false → false ≡ x && y && z
+first-of-three y z p = sym (rw p)
+
+pub second-of-three : {x y : Bool} (z : Bool) → x ≡ true → y ≡ false → false ≡ x && y && z
+second-of-three z p q = sym (rw (p, q))
+
+pub last-of-three : {x y : Bool} (z : Bool) → x ≡ true → y ≡ true → z ≡ x && y && z
+last-of-three z p q = sym (rw (p, q))
+
+-- ---- 5: bytes
+
+below : (n : ℕ) (xs : List ℕ) → all (λ x. ltb x (suc n)) xs ≡ all (λ x. leb x n) xs
+below n xs = λ i. all (λ x. leb·suc-suc x n i) xs
+
+module _ (a b : List ℕ) where
+  pub bytes : bytesFit (sectioned a b [] [] []) ≡ all (λ x. ltb x 3) a && all (λ x. ltb x 4) b
+  unfolding bytesFit sectioned
+  bytes = λ i. sym (below 2 a) i && sym (below 3 b) i
+
+-- ---- 7 and 8: records and their order
+
+module _ (a b c d e : List ℕ) where
+  pub fitting : recordsFit (sectioned a b c d e)
+      ≡ all (recordFits (sectioned a b [] [] []) 0) (records 3 c) && all (recordFits (sectioned a b [] [] []) 1) (records 3 d) && all (recordFits (sectioned a b [] [] []) 2) (records 4 e)
+  unfolding recordsFit sectioned
+  fitting = λ i. all (alone 0 i) (records 3 c) && all (alone 1 i) (records 3 d) && all (alone 2 i) (records 4 e)
+    where
+      alone : (kind : ℕ) → recordFits (sectioned a b c d e) kind ≡ recordFits (sectioned a b [] [] []) kind
+      alone kind = λ i r. fits-by (sectioned a b c d e) (sectioned a b [] [] []) kind r refl refl i
+
+pub ordered : (c d e : List ℕ) → orderFits (sectioned [] [] c d e) ≡ ascend (records 3 c) && ascend (records 3 d) && ascend (records 4 e)
+unfolding orderFits sectioned
+ordered c d e = refl
+
+-- ---- the first of 4 to 8
+
+module _ (a b c d e : List ℕ) where
+  -- the tests, each over the sections that it reads
+  tests : firstFailed (tableTests standard (sectioned a b c d e))
+      ≡ firstFailed ((4, countsFit standard (sectioned a b c d e)) ∷ (5, bytesFit (sectioned a b [] [] [])) ∷ (6, any isInitial b) ∷ (7, recordsFit (sectioned a b c d e)) ∷ (8, orderFits (sectioned [] [] c d e)) ∷ [])
+  unfolding tableTests bytesFit startFits orderFits sectioned
+  tests = refl
+
+  pub number-4 : countsFit standard (sectioned a b c d e) ≡ false → 4 ≡ firstFailed (tableTests standard (sectioned a b c d e))
+  number-4 h = sym (tests ∙ fails 4 _ h)
+
+  module _ (p4 : countsFit standard (sectioned a b c d e) ≡ true) where
+    pub number-5 : bytesFit (sectioned a b [] [] []) ≡ false → 5 ≡ firstFailed (tableTests standard (sectioned a b c d e))
+    number-5 h = sym (tests ∙ passes 4 _ p4 ∙ fails 5 _ h)
+
+    module _ (p5 : bytesFit (sectioned a b [] [] []) ≡ true) where
+      pub number-6 : any isInitial b ≡ false → 6 ≡ firstFailed (tableTests standard (sectioned a b c d e))
+      number-6 h = sym (tests ∙ passes 4 _ p4 ∙ passes 5 _ p5 ∙ fails 6 _ h)
+
+      module _ (p6 : any isInitial b ≡ true) where
+        pub number-7 : recordsFit (sectioned a b c d e) ≡ false → 7 ≡ firstFailed (tableTests standard (sectioned a b c d e))
+        number-7 h = sym (tests ∙ passes 4 _ p4 ∙ passes 5 _ p5 ∙ passes 6 _ p6 ∙ fails 7 _ h)
+
+        module _ (p7 : recordsFit (sectioned a b c d e) ≡ true) where
+          pub number-8 : orderFits (sectioned [] [] c d e) ≡ false → 8 ≡ firstFailed (tableTests standard (sectioned a b c d e))
+          number-8 h = sym (tests ∙ passes 4 _ p4 ∙ passes 5 _ p5 ∙ passes 6 _ p6 ∙ passes 7 _ p7 ∙ fails 8 _ h)
+
+          pub number-0 : orderFits (sectioned [] [] c d e) ≡ true → 0 ≡ firstFailed (tableTests standard (sectioned a b c d e))
+          number-0 h = sym (tests ∙ passes 4 _ p4 ∙ passes 5 _ p5 ∙ passes 6 _ p6 ∙ passes 7 _ p7 ∙ passes 8 _ h ∙ no-test)
+
+-- ---- 3: distances
+
+pub trailer-end : (b : List ℕ) (end : ℕ) → end + 12 ≡ length b → trailer b ≡ end
+unfolding trailer
+trailer-end b end h = omega arith
+
+-- the distances, as the code reads them
+pub distance-at : (b : List ℕ) (end : ℕ) → end + 12 ≡ length b → (k : ℕ) → distance b k ≡ word16 b (end + 2 * k)
+unfolding distance
+distance-at b end h k = ap (λ n. word16 b (n + 2 * k)) (trailer-end b end h)
+
+distance-first : (b : List ℕ) (end : ℕ) → end + 12 ≡ length b → distance b 0 ≡ word16 b end
+distance-first b end h = distance-at b end h 0 ∙ ap (word16 b) (add-zero end)
+
+pub record Words (b : List ℕ) (end d0 d1 d2 d3 d4 : ℕ) : Type 0 where
+  pub at-end : end + 12 ≡ length b
+  pub word-0 : d0 ≡ word16 b end
+  pub word-1 : d1 ≡ word16 b (end + 2)
+  pub word-2 : d2 ≡ word16 b (end + 4)
+  pub word-3 : d3 ≡ word16 b (end + 6)
+  pub word-4 : d4 ≡ word16 b (end + 8)
+
+module _ {b : List ℕ} {end d0 d1 d2 d3 d4 : ℕ} (w : Words b end d0 d1 d2 d3 d4) where
+  distances : distancesFit b ≡ eqb d0 end && leb d1 d0 && leb d2 d1 && leb d3 d2 && leb d4 d3 && eqb ((d2 - d3) % 3) 0 && eqb ((d3 - d4) % 3) 0 && eqb (d4 % 4) 0
+  unfolding distancesFit
+  distances =
+      let e0 = distance-first b end (w .at-end) ∙ sym (w .word-0) in
+      let e1 = distance-at b end (w .at-end) 1 ∙ sym (w .word-1) in
+      let e2 = distance-at b end (w .at-end) 2 ∙ sym (w .word-2) in
+      let e3 = distance-at b end (w .at-end) 3 ∙ sym (w .word-3) in
+      let e4 = distance-at b end (w .at-end) 4 ∙ sym (w .word-4) in
+      let t = trailer-end b end (w .at-end) in
+      λ i. eqb (e0 i) (t i) && leb (e1 i) (e0 i) && leb (e2 i) (e1 i) && leb (e3 i) (e2 i) && leb (e4 i) (e3 i) && eqb ((e2 i - e3 i) % 3) 0 && eqb ((e3 i - e4 i) % 3) 0 && eqb (e4 i % 4) 0
+
+  pub not-whole : (d0 ≡ end → ⊥) → false ≡ distancesFit b
+  not-whole h = sym (distances ∙ rw (ne-eqb _ _ h))
+
+  module _ (p0 : d0 ≡ end) where
+    pub rises-1 : d0 < d1 → false ≡ distancesFit b
+    rises-1 h = sym (distances ∙ rw (eq-eqb _ _ p0, lt-leb _ _ h))
+
+    module _ (p1 : d1 ≤ d0) where
+      pub rises-2 : d1 < d2 → false ≡ distancesFit b
+      rises-2 h = sym (distances ∙ rw (eq-eqb _ _ p0, le-leb _ _ p1, lt-leb _ _ h))
+
+      module _ (p2 : d2 ≤ d1) where
+        pub rises-3 : d2 < d3 → false ≡ distancesFit b
+        rises-3 h = sym (distances ∙ rw (eq-eqb _ _ p0, le-leb _ _ p1, le-leb _ _ p2, lt-leb _ _ h))
+
+        module _ (p3 : d3 ≤ d2) where
+          pub rises-4 : d3 < d4 → false ≡ distancesFit b
+          rises-4 h = sym (distances ∙ rw (eq-eqb _ _ p0, le-leb _ _ p1, le-leb _ _ p2, le-leb _ _ p3, lt-leb _ _ h))
+
+          module _ (p4 : d4 ≤ d3) where
+            pub part-2 : ((d2 - d3) % 3 ≡ 0 → ⊥) → false ≡ distancesFit b
+            part-2 h = sym (distances ∙ rw (eq-eqb _ _ p0, le-leb _ _ p1, le-leb _ _ p2, le-leb _ _ p3, le-leb _ _ p4, ne-eqb _ _ h))
+
+            module _ (p5 : (d2 - d3) % 3 ≡ 0) where
+              pub part-3 : ((d3 - d4) % 3 ≡ 0 → ⊥) → false ≡ distancesFit b
+              part-3 h = sym (distances ∙ rw (eq-eqb _ _ p0, le-leb _ _ p1, le-leb _ _ p2, le-leb _ _ p3, le-leb _ _ p4, eq-eqb _ _ p5, ne-eqb _ _ h))
+
+              pub by-fours : (d3 - d4) % 3 ≡ 0 → eqb (d4 % 4) 0 ≡ distancesFit b
+              by-fours p6 = sym (distances ∙ rw (eq-eqb _ _ p0, le-leb _ _ p1, le-leb _ _ p2, le-leb _ _ p3, le-leb _ _ p4, eq-eqb _ _ p5, eq-eqb _ _ p6))
+
+-- ---- the starts
+
+-- no distance leads before the file
+pub record Within (b : List ℕ) (end : ℕ) : Type 0 where
+  pub within-0 : word16 b end ≤ end
+  pub within-1 : word16 b (end + 2) ≤ end
+  pub within-2 : word16 b (end + 4) ≤ end
+  pub within-3 : word16 b (end + 6) ≤ end
+  pub within-4 : word16 b (end + 8) ≤ end
+
+pub within : (b : List ℕ) (end : ℕ) → end + 12 ≡ length b → distancesFit b ≡ true → Within b end
+within b end h e =
+    let f = distances-framed b e in
+    let t = trailer-end b end h in
+    let e0 = distance-first b end h in
+    let e1 = distance-at b end h 1 in
+    let e2 = distance-at b end h 2 in
+    let e3 = distance-at b end h 3 in
+    let e4 = distance-at b end h 4 in
+    record { within-0 = omega arith; within-1 = omega arith; within-2 = omega arith; within-3 = omega arith; within-4 = omega arith }
+
+pub starts-are : {b : List ℕ} {end d0 d1 d2 d3 d4 : ℕ} → Words b end d0 d1 d2 d3 d4
+    → _≡_ {A = Starts} (record { symbols = end - d0; states = end - d1; internals = end - d2; calls = end - d3; returns = end - d4 }) (startsOf b)
+unfolding startsOf start
+starts-are {b} {end} w =
+    let t = sym (trailer-end b end (w .at-end)) in
+    let e0 = w .word-0 ∙ sym (distance-first b end (w .at-end)) in
+    let e1 = w .word-1 ∙ sym (distance-at b end (w .at-end) 1) in
+    let e2 = w .word-2 ∙ sym (distance-at b end (w .at-end) 2) in
+    let e3 = w .word-3 ∙ sym (distance-at b end (w .at-end) 3) in
+    let e4 = w .word-4 ∙ sym (distance-at b end (w .at-end) 4) in
+    λ i. record { symbols = t i - e0 i; states = t i - e1 i; internals = t i - e2 i; calls = t i - e3 i; returns = t i - e4 i }
+
+-- ---- the sections, as parts of the file
+
+-- each section begins where the one before it ends
+pub record Follow (b : List ℕ) (s : Starts) (end : ℕ) : Type 0 where
+  pub symbols : s .symbols ≤ s .states
+  pub states : s .states ≤ s .internals
+  pub internals : s .internals ≤ s .calls
+  pub calls : s .calls ≤ s .returns
+  pub returns : s .returns ≤ end
+  pub last : end ≤ length b
+
+next-start : (e : ℕ) {p q x y : ℕ} → p ≡ e - x → q ≡ e - y → y ≤ x → p ≤ q
+next-start e h k l = omega arith
+
+pub follow : (b : List ℕ) (s : Starts) (end : ℕ) → end + 12 ≡ length b → distancesFit b ≡ true → s ≡ startsOf b → Follow b s end
+unfolding startsOf start
+follow b s end h d e =
+    let f = distances-framed b d in
+    let t = trailer-end b end h in
+    let s0 = ap (λ (s : Starts). s .symbols) e in
+    let s1 = ap (λ (s : Starts). s .states) e in
+    let s2 = ap (λ (s : Starts). s .internals) e in
+    let s3 = ap (λ (s : Starts). s .calls) e in
+    let s4 = ap (λ (s : Starts). s .returns) e in
+    record {
+      symbols = next-start (trailer b) s0 s1 (f .falls-1);
+      states = next-start (trailer b) s1 s2 (f .falls-2);
+      internals = next-start (trailer b) s2 s3 (f .falls-3);
+      calls = next-start (trailer b) s3 s4 (f .falls-4);
+      returns = omega (arith, s4, t);
+      last = omega (arith, h);
+    }
+
+-- a part of a slice as the code takes it
+pub part : (f t : ℕ) (b : List ℕ) → f ≤ t → take (t - f) (drop f b) ≡ slice f t b
+part zero t b h = ap (λ n. take n b) (sub-zero t)
+part (suc f) zero b h = absurd (omega arith)
+part (suc f) (suc t) [] h = rw take-nil
+part (suc f) (suc t) (x ∷ b) h = rw suc-sub-suc (part f t b (omega arith))
+
+pub sections-are : (b : List ℕ) (s : Starts) (end : ℕ) → end + 12 ≡ length b → distancesFit b ≡ true → s ≡ startsOf b
+    → sectioned (take (s .states - s .symbols) (drop (s .symbols) b)) (take (s .internals - s .states) (drop (s .states) b)) (take (s .calls - s .internals) (drop (s .internals) b)) (take (s .returns - s .calls) (drop (s .calls) b)) (take (end - s .returns) (drop (s .returns) b))
+    ≡ tableOf b
+unfolding sectioned tableOf startsOf
+sections-are b s end h d e = parts ∙ (λ i. at-starts (e i) (sym (trailer-end b end h) i))
+  where
+    f : Follow b s end
+    f = follow b s end h d e
+
+    at-starts : Starts → ℕ → Table
+    at-starts u e = sectioned (slice (u .symbols) (u .states) b) (slice (u .states) (u .internals) b) (slice (u .internals) (u .calls) b) (slice (u .calls) (u .returns) b) (slice (u .returns) e b)
+
+    parts : sectioned (take (s .states - s .symbols) (drop (s .symbols) b)) (take (s .internals - s .states) (drop (s .states) b)) (take (s .calls - s .internals) (drop (s .internals) b)) (take (s .returns - s .calls) (drop (s .calls) b)) (take (end - s .returns) (drop (s .returns) b)) ≡ at-starts s end
+    parts =
+        λ i. sectioned (part (s .symbols) (s .states) b (f .symbols) i) (part (s .states) (s .internals) b (f .states) i) (part (s .internals) (s .calls) b (f .internals) i) (part (s .calls) (s .returns) b (f .calls) i) (part (s .returns) end b (f .returns) i)
+
+-- ---- the answer
+
+answer : Starts → ℕ → Reading
+answer s k = elim (eqb k 0) [ true ↦ Sections s | false ↦ Refused k ]
+
+answered : (b : List ℕ) (k : ℕ) → readNumber standard b ≡ k → readOf standard b ≡ answer (startsOf b) k
+unfolding readOf answer
+answered b k e = ap (answer (startsOf b)) e
+
+refused : (b : List ℕ) (k : ℕ) → readNumber standard b ≡ k → (k ≡ 0 → ⊥) → Refused k ≡ readOf standard b
+unfolding answer
+refused b k e h = sym (answered b k e ∙ rw (ne-eqb _ _ h, answer))
+
+module _ (b : List ℕ) where
+  pub file-short : length b < 12 → Refused 1 ≡ readOf standard b
+  unfolding readNumber lengthFits
+  file-short h = refused b 1 (fails 1 _ (rw (lt-leb _ _ h))) (eqb-false 1 0 refl)
+
+  module _ (p : 12 ≤ length b) where
+    pub file-long : 22596 < length b → Refused 1 ≡ readOf standard b
+    unfolding readNumber lengthFits longest
+    file-long h = refused b 1 (fails 1 _ (rw (le-leb _ _ p, lt-leb _ _ h))) (eqb-false 1 0 refl)
+
+    module _ (q : length b ≤ 22596) where
+      length-passes : lengthFits standard b ≡ true
+      unfolding lengthFits longest
+      length-passes = and-of (le-leb _ _ p) (le-leb _ _ q)
+
+      pub file-version : (word16 b (length b - 12 + 10) ≡ 1 → ⊥) → Refused 2 ≡ readOf standard b
+      unfolding readNumber version trailer
+      file-version h = refused b 2 (passes 1 _ length-passes ∙ fails 2 _ (ne-eqb _ _ h)) (eqb-false 2 0 refl)
+
+      module _ (v : word16 b (length b - 12 + 10) ≡ 1) where
+        version-passes : eqb (version b) 1 ≡ true
+        unfolding version trailer
+        version-passes = eq-eqb _ _ v
+
+        pub file-distances : distancesFit b ≡ false → Refused 3 ≡ readOf standard b
+        unfolding readNumber
+        file-distances h = refused b 3 (passes 1 _ length-passes ∙ passes 2 _ version-passes ∙ fails 3 _ h) (eqb-false 3 0 refl)
+
+        module _ (d : distancesFit b ≡ true) where
+          table-decides : readNumber standard b ≡ firstFailed (tableTests standard (tableOf b))
+          unfolding readNumber
+          table-decides = passes 1 _ length-passes ∙ passes 2 _ version-passes ∙ passes 3 _ d
+
+          pub table-refused : (k : ℕ) → k ≡ firstFailed (tableTests standard (tableOf b)) → (k ≡ 0 → ⊥) → Refused k ≡ readOf standard b
+          table-refused k e h = refused b k (table-decides ∙ sym e) h
+
+          pub table-read : (k : ℕ) (s : Starts) → k ≡ firstFailed (tableTests standard (tableOf b)) → k ≡ 0 → s ≡ startsOf b → Sections s ≡ readOf standard b
+          unfolding answer
+          table-read k s e z f = ap Sections f ∙ sym (answered b 0 (table-decides ∙ sym e ∙ z))
