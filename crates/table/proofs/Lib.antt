@@ -7,3 +7,5 @@ pub mod Examples
 pub mod Walks
 pub mod Fits
 pub mod Numbers
+pub mod Keys
+pub mod Handed

@@ -16,7 +16,7 @@ use Rattle.table.specs.Reading.{before, ascendFrom, ascend}
 -- ---- one before the other
 
 -- by the first element, or by the others
-first-cases : (x y : ℕ) (xs ys : List ℕ) → before (x ∷ xs) (y ∷ ys) ≡ true → (x < y) ⊎ ((x ≡ y) × (before xs ys ≡ true))
+pub first-cases : (x y : ℕ) (xs ys : List ℕ) → before (x ∷ xs) (y ∷ ys) ≡ true → (x < y) ⊎ ((x ≡ y) × (before xs ys ≡ true))
 unfolding before
 first-cases x y xs ys e = go (or-true _ _ e)
   where
@@ -24,11 +24,11 @@ first-cases x y xs ys e = go (or-true _ _ e)
     go (inl h) = inl (ltb-true x y h)
     go (inr h) = let p = and-true (eqb x y) (before xs ys) h in inr (eqb-true x y (p .0), p .1)
 
-by-first : (x y : ℕ) (xs ys : List ℕ) → x < y → before (x ∷ xs) (y ∷ ys) ≡ true
+pub by-first : (x y : ℕ) (xs ys : List ℕ) → x < y → before (x ∷ xs) (y ∷ ys) ≡ true
 unfolding before
 by-first x y xs ys h = or-left _ (lt-ltb x y h)
 
-by-others : (x y : ℕ) (xs ys : List ℕ) → x ≡ y → before xs ys ≡ true → before (x ∷ xs) (y ∷ ys) ≡ true
+pub by-others : (x y : ℕ) (xs ys : List ℕ) → x ≡ y → before xs ys ≡ true → before (x ∷ xs) (y ∷ ys) ≡ true
 unfolding before
 by-others x y xs ys h k = or-right (ltb x y) (and-of (eq-eqb x y h) k)
 

@@ -1,7 +1,7 @@
 -- What is still to come of a walk over bytes or records: one invariant for every loop of src/, and a law for each way through its body. The
 -- records' width is a variable. Assumes nothing.
 use mathlib.Core.Path.{_≡_, refl, sym, ap, _∙_}
-use mathlib.Core.Bool.{Bool, true, false}
+use mathlib.Core.Bool.{Bool, true, false, _&&_}
 use mathlib.Core.List.{List, [], _∷_}
 use Prim.Native.Nat.{ℕ, suc, _+_, _-_, _/_, _≤_, _<_}
 use native.Mathlib.Nat.{div-eq-sub-div, div-eq-of-lt}
@@ -10,9 +10,9 @@ use native.Mathlib.Omega.{arith}
 use lib.ListN.{length, getD, take, drop, length-drop, drop-of-length-le}
 use lib.Seq.{drop-cons, drop-drop}
 use native.Mathlib.Decide.{decLt}
-use lib.Dec.{ltb}
+use lib.Dec.{ltb, eqb}
 use borrow.Author.Tests.{lt-ltb, le-ltb, eq-eqb, ne-eqb}
-use Rattle.lists.specs.Lists.{any, all, parts}
+use Rattle.lists.specs.Lists.{any, all, same, parts}
 use Rattle.table.specs.File.{records}
 use Rattle.table.specs.Reading.{before, ascendFrom, ascend}
 
@@ -93,6 +93,41 @@ module _ {x y : List ℕ} {i : ℕ} (w : Abreast x y i) where
       go : Dec (i < length y) → before [] (drop i y) ≡ ltb i (length y)
       go (yes l) = rw (one-on y i l, lt-ltb _ _ l)
       go (no l) = let k : length y ≤ i = omega arith in rw (drop-of-length-le y k, le-ltb _ _ k)
+
+-- equal so far
+pub record Matching (x y : List ℕ) (i : ℕ) : Type 0 where
+  pub long : length x ≡ length y
+  pub inside : i ≤ length x
+  pub meets : same x y ≡ same (drop i x) (drop i y)
+
+pub unlike : (x y : List ℕ) → (length x ≡ length y → ⊥) → false ≡ same x y
+unfolding same
+unlike [] [] h = absurd (h refl)
+unlike [] (y ∷ ys) h = refl
+unlike (x ∷ xs) [] h = refl
+unlike (x ∷ xs) (y ∷ ys) h = go (eqb x y) (unlike xs ys (λ e. h (ap suc e)))
+  where
+    go : (t : Bool) → false ≡ same xs ys → false ≡ t && same xs ys
+    go true e = e
+    go false e = refl
+
+pub matching : (x y : List ℕ) → length x ≡ length y → Matching x y 0
+matching x y e = record { long = e; inside = omega arith; meets = refl }
+
+module _ {x y : List ℕ} {i : ℕ} (w : Matching x y i) where
+  pub differ : i < length x → (getD x i 0 ≡ getD y i 0 → ⊥) → false ≡ same x y
+  unfolding same
+  differ h d = let k : i < length y = omega (arith, w .long) in sym (w .meets ∙ rw (one-on x i h, one-on y i k, ne-eqb _ _ d))
+
+  pub match : i < length x → getD x i 0 ≡ getD y i 0 → Matching x y (i + 1)
+  unfolding same
+  match h e =
+      let k : i < length y = omega (arith, w .long) in
+      record { long = w .long; inside = omega arith; meets = w .meets ∙ rw (one-on x i h, one-on y i k, eq-eqb _ _ e) }
+
+  pub matched : length x ≤ i → true ≡ same x y
+  unfolding same
+  matched h = let k : length y ≤ i = omega (arith, w .long) in sym (w .meets ∙ rw (drop-of-length-le x h, drop-of-length-le y k))
 
 -- ---- records
 

@@ -1,9 +1,16 @@
--- What the functions of src/ are stated with: the table of five sections, and the first record at or after a key. Assumes nothing.
-use mathlib.Core.Bool.{true, false}
+-- What the functions of src/ are stated with: the table of five sections, a read table as it is passed on, and the first record at or after
+-- a key. Assumes nothing.
+use mathlib.Core.Path.{_≡_}
+use mathlib.Core.Bool.{Bool, true, false, _&&_}
 use mathlib.Core.List.{List, [], _∷_}
 use Prim.Native.Nat.{ℕ, suc}
+use lib.ListN.{length, getD, take}
+use lib.Dec.{ltb}
+use Rattle.lists.specs.Lists.{same}
+use Rattle.table.specs.Limits.{Limits}
 use Rattle.table.specs.File.{Table, records}
-use Rattle.table.specs.Reading.{before}
+use Rattle.table.specs.Reading.{before, Readable, startsOf}
+use Rattle.table.specs.declared.Starts.{Starts}
 
 -- the table that five parts of a file hold: symbols, states, internals, calls, returns
 unfoldable pub sectioned : List ℕ → List ℕ → List ℕ → List ℕ → List ℕ → Table
@@ -16,7 +23,16 @@ sectioned symbols states internals calls returns =
       returns = records 4 returns;
     }
 
+-- "a read table is passed on as the lent bytes together with its five section starts"
+pub record ReadAs (L : Limits) (b : List ℕ) (s : Starts) : Type 0 where
+  pub readable : Readable L b
+  pub starts : s ≡ startsOf b
+
 -- the index of the first record that does not stand before the key; their count where there is none
 unfoldable pub firstAt : List (List ℕ) → List ℕ → ℕ
 firstAt [] key = 0
 firstAt (r ∷ rs) key = elim (before r key) [ true ↦ suc (firstAt rs key) | false ↦ 0 ]
+
+-- record i is there and starts with the key
+unfoldable pub startsWith : List (List ℕ) → ℕ → List ℕ → Bool
+startsWith rs i key = ltb i (length rs) && same key (take (length key) (getD rs i []))

@@ -1,0 +1,176 @@
+// Runs the operations on the cases of its standard input, and prints each answer and every buffer.
+//
+// A case is the operation's number (1 read, 2 tops, 4 search), the length of the rest, and the rest. For a search the rest begins with the
+// variables, the budget and the length of the answer. Then comes the table, or the clause words. Lengths and words are 16-bit little-endian
+// numbers. A line is the operation's name, the refusal's number or 0, the answer's values and, behind a bar, the buffer, which is filled with
+// 7 beforehand.
+ghost use mathlib.Core.Path.{_≡_};
+ghost use Prim.Native.Nat.{_≤_, _<_};
+ghost use lib.ListN.{length};
+use libc::STDOUT_FILENO;
+use search::Solution;
+use table::Reading;
+
+fn say(text: &[u8]) -> bool {
+    io::write_all(STDOUT_FILENO, text)
+}
+
+fn number(n: u64) -> bool {
+    say(b" ");
+    io::print_decimal(STDOUT_FILENO, n)
+}
+
+fn wide(x: u8) -> usize
+    ensures { λ r. ⌜ r < 256 ⌝ }
+{
+    x as usize
+}
+
+// The 16-bit number at a place, 0 past the end.
+fn word_at(bytes: &[u8], at: usize) -> usize
+    ensures { λ r. ⌜ r < 65536 ⌝ }
+{
+    if bytes.len() < 2 {
+        return 0;
+    }
+    if bytes.len() - 2 < at {
+        return 0;
+    }
+    wide(bytes[at]) + 256 * wide(bytes[at + 1])
+}
+
+fn say_bytes(bytes: &[u8]) -> bool {
+    say(b" |");
+    let mut i: usize = 0;
+    'bytes: while i < bytes.len() {
+        number(wide(bytes[i]) as u64);
+        i += 1;
+    }
+    say(b"\n")
+}
+
+fn say_read(table: &[u8]) -> bool {
+    say(b"read");
+    let reading = table::read(table);
+    match reading {
+        Reading::Sections(starts) => {
+            number(0);
+            number(starts.symbols as u64);
+            number(starts.states as u64);
+            number(starts.internals as u64);
+            number(starts.calls as u64);
+            number(starts.returns as u64);
+        }
+        Reading::Refused(k) => {
+            number(k as u64);
+        }
+    }
+    say(b"\n")
+}
+
+fn say_tops(table: &[u8]) -> bool {
+    say(b"tops");
+    let t = tops::tops(table);
+    number(t.number as u64);
+    number(t.found as u64);
+    let mut q: usize = 0;
+    'words: while q < 24 {
+        number(t.words[q] as u64);
+        q += 1;
+    }
+    say(b"\n")
+}
+
+// The clause words of a search, from their bytes.
+fn words_from(bytes: &[u8], list: &mut [u16]) -> usize
+    ensures { λ r. ⌜ (r ≤ length (now (list .entry))) × (length (now (list .exit)) ≡ length (now (list .entry))) ⌝ }
+{
+    let mut n: usize = 0;
+    'words: while n < list.len() {
+        if bytes.len() / 2 <= n {
+            return n;
+        }
+        list[n] = (word_at(bytes, 2 * n) % 65536) as u16;
+        n += 1;
+    }
+    n
+}
+
+// Searches in the first words of a list, for an answer in the first bytes of a buffer.
+fn say_found(list: &[u16], words: usize, variables: usize, budget: u64, space: &mut [u8], length: usize) -> bool {
+    if list.len() < words {
+        return say(b" ?\n");
+    }
+    if space.len() < length {
+        return say(b" ?\n");
+    }
+    let answer = &mut space[..length];
+    let solution = search::search(&list[..words], variables, budget, answer);
+    match solution {
+        Solution::Solved(guesses) => {
+            number(0);
+            number(guesses);
+        }
+        Solution::Refused(k) => {
+            number(wide(k) as u64);
+        }
+    }
+    say_bytes(answer)
+}
+
+fn say_search(rest: &[u8]) -> bool {
+    say(b"search");
+    if rest.len() < 6 {
+        return say(b" ?\n");
+    }
+    let variables = word_at(rest, 0);
+    let budget = word_at(rest, 2) as u64;
+    let length = word_at(rest, 4);
+    let mut list = [0u16; 8192];
+    let words = words_from(&rest[6..], &mut list);
+    let mut answer = [7u8; 512];
+    say_found(&list, words, variables, budget, &mut answer, length)
+}
+
+fn say_case(operation: u8, rest: &[u8]) -> bool {
+    match operation {
+        1 => say_read(rest),
+        2 => say_tops(rest),
+        4 => say_search(rest),
+        _ => say(b"?\n"),
+    }
+}
+
+// A case of a known length: false where the input ends before it does.
+fn read_case(operation: u8, rest: &mut [u8]) -> bool {
+    let length = io::read_full(0, rest);
+    if length < rest.len() {
+        return false;
+    }
+    say_case(operation, rest)
+}
+
+// One case; false at the end of the input.
+fn next_case(space: &mut [u8]) -> bool {
+    let mut head = [0u8; 3];
+    let got = io::read_full(0, &mut head);
+    if got < 3 {
+        return false;
+    }
+    let n = wide(head[1]) + 256 * wide(head[2]);
+    if space.len() < n {
+        return false;
+    }
+    read_case(head[0], &mut space[..n])
+}
+
+fn main() {
+    let mut space = [0u8; 32768];
+    let mut turns: usize = 1000000;
+    'cases: while 0 < turns {
+        if !next_case(&mut space) {
+            return;
+        }
+        turns -= 1;
+    }
+}
