@@ -7,6 +7,7 @@ pub mod Table
 pub mod Theorems
 pub mod Numbered
 pub mod ClassBytes
+pub mod Matched
 pub mod Keys
 pub mod Inserting
 pub mod Collecting

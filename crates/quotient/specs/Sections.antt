@@ -1,10 +1,13 @@
 -- What the functions of src/ are stated with: the parts of a table that they are lent. Assumes nothing.
-use mathlib.Core.Bool.{Bool}
+use mathlib.Core.Bool.{Bool, _||_, not}
 use mathlib.Core.List.{List, [], _∷_, map}
 use Prim.Native.Nat.{ℕ, _+_, _*_, _/_, _%_}
+use lib.ListN.{length, getD}
 use lib.Dec.{eqb}
-use Rattle.lists.specs.Lists.{gather, upto}
+use Rattle.lists.specs.Lists.{all, gather, upto}
 use Rattle.table.specs.File.{Table, bytes16}
+use Rattle.table.specs.Language.{look}
+use Rattle.table.specs.Maps.{joins}
 use Rattle.quotient.specs.Quotient.{classByte}
 use Rattle.quotient.specs.Keys.{lastBytes}
 
@@ -19,6 +22,10 @@ flagged flag byte = eqb (byte / flag % 2) 1
 -- the state bytes of n classes
 abbrev pub classBytes : Table → List ℕ → ℕ → List ℕ
 classBytes t m n = map (classByte t m) (upto n)
+
+-- (i) for one state: those joined to it agree with it
+abbrev pub agreesAt : List ℕ → List ℕ → ℕ → Bool
+agreesAt states m p = all (λ q. not (joins m p q) || eqb (look (getD states p 0)) (look (getD states q 0))) (upto (length states))
 
 -- a table whose records are given by their keys
 abbrev pub keyedTable : List ℕ → List ℕ → List ℕ → List ℕ → List ℕ → Table

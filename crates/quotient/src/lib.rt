@@ -1,5 +1,6 @@
 // Writing the quotient of a table under a map.
 mod images;
+mod matching;
 mod numbering;
 mod write;
 
