@@ -97,7 +97,14 @@ fn words_from(bytes: &[u8], list: &mut [u16]) -> usize
 }
 
 // Searches in the first words of a list, for an answer in the first bytes of a buffer.
-fn say_found(list: &[u16], words: usize, variables: usize, budget: u64, space: &mut [u8], length: usize) -> bool {
+fn say_found(
+    list: &[u16],
+    words: usize,
+    variables: usize,
+    budget: u64,
+    space: &mut [u8],
+    length: usize,
+) -> bool {
     if list.len() < words {
         return say(b" ?\n");
     }

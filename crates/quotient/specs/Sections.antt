@@ -8,6 +8,7 @@ use Rattle.lists.specs.Lists.{all, gather, upto}
 use Rattle.table.specs.File.{Table, bytes16}
 use Rattle.table.specs.Language.{look}
 use Rattle.table.specs.Maps.{joins}
+use Rattle.maps.specs.Check.{moveMatched, returnMatched}
 use Rattle.quotient.specs.Quotient.{classByte}
 use Rattle.quotient.specs.Keys.{lastBytes}
 
@@ -26,6 +27,17 @@ classBytes t m n = map (classByte t m) (upto n)
 -- (i) for one state: those joined to it agree with it
 abbrev pub agreesAt : List ℕ → List ℕ → ℕ → Bool
 agreesAt states m p = all (λ q. not (joins m p q) || eqb (look (getD states p 0)) (look (getD states q 0))) (upto (length states))
+
+-- (ii) and (iii) for one record: every state
+abbrev pub moveMet : List (List ℕ) → ℕ → List ℕ → List ℕ → Bool
+moveMet rs n m r = all (λ q. moveMatched rs m (getD r 0 0) (getD r 1 0) (getD r 2 0) q) (upto n)
+
+-- (iv) for one return and a state: every stack state; and for every state
+abbrev pub returnMetAt : List ℕ → List (List ℕ) → ℕ → List ℕ → List ℕ → ℕ → Bool
+returnMetAt f rs n m r q = all (λ u. returnMatched f rs m (getD r 0 0) (getD r 1 0) (getD r 2 0) (getD r 3 0) q u) (upto n)
+
+abbrev pub returnMet : List ℕ → List (List ℕ) → ℕ → List ℕ → List ℕ → Bool
+returnMet f rs n m r = all (returnMetAt f rs n m r) (upto n)
 
 -- a table whose records are given by their keys
 abbrev pub keyedTable : List ℕ → List ℕ → List ℕ → List ℕ → List ℕ → Table
