@@ -31,7 +31,7 @@ fn value_of(values: &[u8], l: u16) -> u8
 }
 
 // Makes the literal true, and puts its variable behind the first `count` of the trail.
-pub fn store(values: &mut [u8], trail: &mut [u16], count: usize, l: u16)
+pub(crate) fn store(values: &mut [u8], trail: &mut [u16], count: usize, l: u16)
     requires { ⌜ (l / 2 < length (now values)) × (count < length (now trail)) ⌝ }
     ensures { λ _. ⌜ (now (values .exit) ≡ set (now (values .entry)) (l / 2) (1 - l % 2)) × (now (trail .exit) ≡ set (now (trail .entry)) count (l / 2)) ⌝ }
 {
@@ -84,7 +84,7 @@ fn pass(list: &[u16], values: &mut [u8], trail: &mut [u16], start: usize) -> Rea
 }
 
 // Passes until one sets nothing or breaks a clause.
-pub fn settle(list: &[u16], values: &mut [u8], trail: &mut [u16], start: usize) -> Reached
+pub(crate) fn settle(list: &[u16], values: &mut [u8], trail: &mut [u16], start: usize) -> Reached
     requires { ⌜ Ready (now list) (now values) (now trail) start ⌝ }
     ensures { λ r. ⌜ Settles (now (list .entry)) (now (values .entry)) (now (trail .entry)) start (now (values .exit)) (now (trail .exit)) (r .broken) (r .count) ⌝ }
 {

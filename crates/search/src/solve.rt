@@ -54,7 +54,7 @@ fn undo(values: &mut [u8], trail: &[u16], mark: usize, count: usize) -> usize
 }
 
 // The trail has the variables that are set, in order; `marks` has the place on it of each guess that stands; every variable below `low` is set.
-pub fn solve(list: &[u16], values: &mut [u8], budget: u64) -> Ending
+pub(crate) fn solve(list: &[u16], values: &mut [u8], budget: u64) -> Ending
     requires { ⌜ Fresh (now list) (now values) ⌝ }
     ensures { λ r. ⌜ outcomeOf r (now (values .exit)) ≡ searchFrom (clausesIn (now (list .entry))) (length (now (values .entry))) budget ⌝ }
 {

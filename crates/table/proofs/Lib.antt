@@ -7,5 +7,4 @@ pub mod Examples
 pub mod Walks
 pub mod Fits
 pub mod Numbers
-pub mod Keys
 pub mod Handed

@@ -1,12 +1,9 @@
 -- What the functions of src/ are stated with: the table of five sections, a read table as it is passed on, and the first record at or after
 -- a key. Assumes nothing.
 use mathlib.Core.Path.{_≡_}
-use mathlib.Core.Bool.{Bool, true, false, _&&_}
+use mathlib.Core.Bool.{true, false}
 use mathlib.Core.List.{List, [], _∷_}
 use Prim.Native.Nat.{ℕ, suc}
-use lib.ListN.{length, getD, take}
-use lib.Dec.{ltb}
-use Rattle.lists.specs.Lists.{same}
 use Rattle.table.specs.Limits.{Limits}
 use Rattle.table.specs.File.{Table, records}
 use Rattle.table.specs.Reading.{before, Readable, startsOf}
@@ -32,7 +29,3 @@ pub record ReadAs (L : Limits) (b : List ℕ) (s : Starts) : Type 0 where
 unfoldable pub firstAt : List (List ℕ) → List ℕ → ℕ
 firstAt [] key = 0
 firstAt (r ∷ rs) key = elim (before r key) [ true ↦ suc (firstAt rs key) | false ↦ 0 ]
-
--- record i is there and starts with the key
-unfoldable pub startsWith : List (List ℕ) → ℕ → List ℕ → Bool
-startsWith rs i key = ltb i (length rs) && same key (take (length key) (getD rs i []))

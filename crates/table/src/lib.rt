@@ -5,11 +5,11 @@ ghost use mathlib.Core.List.{[]};
 ghost use Prim.Native.Nat.{_+_, _≤_, _<_};
 ghost use lib.ListN.{length};
 ghost use lib.Dec.{ltb};
-ghost use Rattle.lists.specs.Lists.{any, all, same, firstFailed};
+ghost use Rattle.lists.specs.Lists.{any, all, firstFailed};
 ghost use Rattle.table.specs.Limits.{standard};
 ghost use Rattle.table.specs.File.{word16, records, tableOf};
 ghost use Rattle.table.specs.Reading.{distancesFit, countsFit, bytesFit, isInitial, recordFits, recordsFit, before, ascend, orderFits, tableTests, startsOf, readOf};
-ghost use Rattle.table.specs.Sections.{sectioned, firstAt, startsWith};
+ghost use Rattle.table.specs.Sections.{sectioned};
 
 // "Reading answers the five section starts."
 pub struct Starts {
@@ -334,55 +334,4 @@ pub fn read(table: &[u8]) -> Reading
         return Reading::Refused(number);
     }
     Reading::Sections(starts)
-}
-
-// The index of the first record of a section that does not stand before a key, by halving: with a key (q, a) of records (q, a, q'), or
-// (q, r, u) of records (q, r, u, q'), the first record that starts with the key, if there is one.
-pub fn first_at(section: &[u8], width: usize, key: &[u8]) -> usize
-    requires { ⌜ (0 < width) × (ascend (records width (now section)) ≡ true) ⌝ }
-    ensures { λ r. ⌜ r ≡ firstAt (records width (now (section .entry))) (now (key .entry)) ⌝ }
-{
-    let mut low: usize = 0;
-    let mut high = section.len() / width;
-    'halves: while low < high {
-        let mid = low + (high - low) / 2;
-        let at = mid * width;
-        let end = at + width;
-        if stands_before(&section[at..end], key) {
-            low = mid + 1;
-            continue 'halves;
-        }
-        high = mid;
-    }
-    low
-}
-
-// Two byte strings are equal.
-fn same_bytes(x: &[u8], y: &[u8]) -> bool
-    ensures { λ r. ⌜ r ≡ same (now (x .entry)) (now (y .entry)) ⌝ }
-{
-    if x.len() != y.len() {
-        return false;
-    }
-    let mut i: usize = 0;
-    'bytes: while i < x.len() {
-        if x[i] != y[i] {
-            return false;
-        }
-        i += 1;
-    }
-    true
-}
-
-// Record `index` of a section is there and starts with a key.
-pub fn starts_with(section: &[u8], width: usize, index: usize, key: &[u8]) -> bool
-    requires { ⌜ (0 < width) × (length (now key) ≤ width) ⌝ }
-    ensures { λ r. ⌜ r ≡ startsWith (records width (now (section .entry))) index (now (key .entry)) ⌝ }
-{
-    if section.len() / width <= index {
-        return false;
-    }
-    let at = index * width;
-    let end = at + key.len();
-    same_bytes(key, &section[at..end])
 }
