@@ -11,5 +11,6 @@ pub mod Matched
 pub mod Keys
 pub mod Inserting
 pub mod Collecting
+pub mod Found
 pub mod Writing
 pub mod Whole

@@ -14,9 +14,6 @@ use Rattle.table.specs.File.{records}
 use Rattle.table.specs.Reading.{ascend}
 use Rattle.table.specs.Language.{targets}
 use Rattle.table.specs.Maps.{joins}
-use Rattle.table.specs.Sections.{firstAt, startsWith}
-use Rattle.table.proofs.Bytes.{length-records}
-use Rattle.table.proofs.Keys.{record-at, record-ends, targets-from, targets-next, targets-none}
 use Rattle.maps.specs.Check.{moveMatched, returnMatched}
 
 -- ---- a test that only counts where another holds
@@ -29,49 +26,6 @@ met p q = rw (p, q)
 
 pub broken : {a b : Bool} → a ≡ true → b ≡ false → (not a || b) ≡ false
 broken p q = rw (p, q)
-
--- ---- the records that start with a key
-
--- the records from i on are still to be looked at
-pub record Reaching (w : ℕ) (s key m : List ℕ) (target i : ℕ) : Type 0 where
-  pub past : firstAt (records w s) key ≤ i
-  pub meets : any (joins m target) (targets (records w s) key) ≡ any (joins m target) (targets (drop i (records w s)) key)
-
-pub reaching : (w : ℕ) (s key m : List ℕ) (target : ℕ) {i : ℕ} → i ≡ firstAt (records w s) key → Reaching w s key m target i
-reaching w s key m target e = record {
-  past = omega arith;
-  meets = ap (any (joins m target)) (targets-from (records w s) key ∙ ap (λ j. targets (drop j (records w s)) key) (sym e));
-}
-
-module _ {w : ℕ} {s key m : List ℕ} {target i : ℕ} (r : Reaching w s key m target i) (wide : w ≡ length key + 1) where
-  module _ (h : startsWith (records w s) i key ≡ true) where
-    pub record-there : i < length s / w
-    unfolding startsWith
-    record-there = omega (arith, ltb-true i (length (records w s)) (and-true _ _ h .0), length-records w s)
-
-    pub record-whole : i * w + w ≤ length s
-    record-whole = record-ends w s i (omega arith) record-there
-
-    -- the record's last byte
-    target-here : getD (getD (records w s) i []) (length key) 0 ≡ getD s (i * w + length key) 0
-    target-here =
-        ap (λ x. getD x (length key) 0) (record-at w s i record-there)
-        ∙ getD-take (i * w + w - i * w) (drop (i * w) s) (length key) 0 (omega arith)
-        ∙ getD-drop (i * w) s (length key) 0
-
-    next : {x : ℕ} → x ≡ getD s (i * w + length key) 0 → any (joins m target) (targets (records w s) key) ≡ (joins m target x || any (joins m target) (targets (drop (i + 1) (records w s)) key))
-    unfolding any
-    next e = r .meets ∙ ap (any (joins m target)) (targets-next (records w s) key i h) ∙ ap (λ y. joins m target y || any (joins m target) (targets (drop (i + 1) (records w s)) key)) (target-here ∙ sym e)
-
-    pub target-joined : {x : ℕ} → x ≡ getD s (i * w + length key) 0 → joins m target x ≡ true → true ≡ any (joins m target) (targets (records w s) key)
-    target-joined e j = sym (next e ∙ rw j)
-
-    pub target-other : {x : ℕ} → x ≡ getD s (i * w + length key) 0 → joins m target x ≡ false → Reaching w s key m target (i + 1)
-    target-other e j = record { past = omega (arith, r .past); meets = next e ∙ rw j }
-
-  pub no-target : ascend (records w s) ≡ true → startsWith (records w s) i key ≡ false → false ≡ any (joins m target) (targets (records w s) key)
-  unfolding any
-  no-target a h = sym (r .meets ∙ ap (any (joins m target)) (targets-none (records w s) key i a (r .past) h))
 
 -- ---- a record and a state
 

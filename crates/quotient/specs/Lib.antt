@@ -2,3 +2,4 @@ pub mod Quotient
 pub mod Demands
 pub mod Keys
 pub mod Sections
+pub mod Accepting

@@ -1,16 +1,23 @@
 -- What the functions of src/ are stated with: the parts of a table that they are lent. Assumes nothing.
-use mathlib.Core.Bool.{Bool, _||_, not}
+use mathlib.Core.Path.{_≡_}
+use mathlib.Core.Bool.{Bool, true, false, _||_, not}
 use mathlib.Core.List.{List, [], _∷_, map}
-use Prim.Native.Nat.{ℕ, _+_, _*_, _/_, _%_}
+use Prim.Native.Nat.{ℕ, _+_, _*_, _/_, _%_, _≤_}
 use lib.ListN.{length, getD}
-use lib.Dec.{eqb}
-use Rattle.lists.specs.Lists.{all, gather, upto}
-use Rattle.table.specs.File.{Table, bytes16}
+use lib.Dec.{eqb, leb}
+use Rattle.lists.specs.Lists.{all, keep, gather, upto, over}
+use Rattle.table.specs.Limits.{standard}
+use Rattle.table.specs.File.{Table, records, tableOf, bytes16}
+use Rattle.table.specs.Reading.{ascend}
 use Rattle.table.specs.Language.{look}
-use Rattle.table.specs.Maps.{joins}
-use Rattle.maps.specs.Check.{moveMatched, returnMatched}
-use Rattle.quotient.specs.Quotient.{classByte}
-use Rattle.quotient.specs.Keys.{lastBytes}
+use Rattle.table.specs.Maps.{joins, classes, numbered}
+use Rattle.table.specs.Sections.{ReadAs}
+use Rattle.table.specs.declared.Starts.{Starts}
+use Rattle.tops.specs.Tops.{topWords}
+use Rattle.maps.specs.Check.{looksAgree, moveMatched, movesMatched, returnMatched, returnsMatched}
+use Rattle.quotient.specs.Quotient.{images, classByte, QuotientDone}
+use Rattle.quotient.specs.Keys.{keysOf, lastBytes, kept}
+use Rattle.quotient.specs.declared.Written.the-variants.{Length, Refused}
 
 -- a table with these states
 abbrev pub ofStates : List ℕ → Table
@@ -53,3 +60,44 @@ keyedTable symbols states internals calls returns =
 -- the trailer behind so many symbols, states, internals, calls and returns
 unfoldable pub trailerFrom : ℕ → ℕ → ℕ → ℕ → ℕ → List ℕ
 trailerFrom y s i c r = gather bytes16 ((y + (s + (3 * i + (3 * c + 4 * r)))) ∷ (s + (3 * i + (3 * c + 4 * r))) ∷ (3 * i + (3 * c + 4 * r)) ∷ (3 * c + 4 * r) ∷ (4 * r) ∷ 1 ∷ [])
+
+-- ---- a table that was read, by its parts
+
+-- "the lent bytes together with its five section starts", and the table's top words
+pub record Known (b : List ℕ) (s : Starts) (f : List ℕ) : Type 0 where
+  pub read : ReadAs standard b s
+  pub words : f ≡ topWords standard (tableOf b)
+
+-- what its parts are: few, and in order
+pub record Parted (states internals calls returns : List ℕ) : Type 0 where
+  pub few : length states ≤ 24
+  pub internals-ascend : ascend (records 3 internals) ≡ true
+  pub calls-ascend : ascend (records 3 calls) ≡ true
+  pub returns-ascend : ascend (records 4 returns) ≡ true
+
+-- 15 to 20, over the parts
+unfoldable pub partTests : List ℕ → List ℕ → List ℕ → List ℕ → List ℕ → List ℕ → List (ℕ × Bool)
+partTests states internals calls returns f m =
+    (15, eqb (length m) (length states))
+    ∷ (16, numbered m)
+    ∷ (17, looksAgree (ofStates states) m)
+    ∷ (18, movesMatched (records 3 internals) (length states) m)
+    ∷ (19, movesMatched (records 3 calls) (length states) m)
+    ∷ (20, returnsMatched f (records 4 returns) (length states) m)
+    ∷ []
+
+-- the keys of the images of a section's records
+abbrev pub imageKeys : ℕ → List ℕ → List ℕ → List ℕ → List ℕ
+imageKeys w s f m = keysOf (images m (keep (kept f) (records w s)))
+
+-- the quotient's table over the parts
+abbrev pub partedQuotient : List ℕ → List ℕ → List ℕ → List ℕ → List ℕ → List ℕ → List ℕ → Table
+partedQuotient symbols states internals calls returns f m =
+    keyedTable symbols (classBytes (ofStates states) m (classes m)) (imageKeys 3 internals f m) (imageKeys 3 calls f m) (imageKeys 4 returns f m)
+
+-- the answer and the output where these bytes are to be written: "21 output short"
+unfoldable pub writtenFor : List ℕ → List ℕ → QuotientDone
+writtenFor bytes out = elim (leb (length bytes) (length out)) [
+  | true ↦ record { answer = Length (length bytes); out = over bytes out }
+  | false ↦ record { answer = Refused 21; out = out }
+]

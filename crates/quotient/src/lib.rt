@@ -1,4 +1,5 @@
 // Writing the quotient of a table under a map.
+mod finding;
 mod images;
 mod matching;
 mod numbering;

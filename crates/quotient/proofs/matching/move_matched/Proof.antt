@@ -1,4 +1,5 @@
 -- `quotient::matching::move_matched` meets its contract. Assumes nothing.
+use native.Mathlib.Omega.{arith}
 use Rattle.quotient.proofs.Matched.{move-apart, move-by}
 use borrow.Author.Tests.{not-true, not-false}
 use mathlib.Core.Path.{refl, sym, _∙_}
@@ -34,7 +35,7 @@ wide-requires-2 : tie.Need-wide-requires-2
 wide-requires-2 c κs = search needs
 
 reaches-requires : tie.Need-reaches-requires
-reaches-requires c κs = let a = c .before .before .before .before .before .before .before .before .before .before .before in (refl, a .pre .0)
+reaches-requires c κs = let a = c .before .before .before .before .before .before .before .before .before .before .before in (refl, omega arith, a .pre .0)
 
 returns-2 : tie.Need-returns-2
 returns-2 c = c .reaches .ensures ∙ move-by _ _ _ _ _ _ (c .before .before .before .before .before .before .before .wide .ensures) (c .before .wide2 .ensures) (sym (c .before .before .before .before .before .before .joined .ensures) ∙ not-false _ (c .before .before .before .before .before .if1 .left))
