@@ -14,3 +14,4 @@ pub mod Collecting
 pub mod Found
 pub mod Writing
 pub mod Whole
+pub mod Checking
