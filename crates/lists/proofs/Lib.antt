@@ -5,3 +5,4 @@ pub mod Bits
 pub mod Counts
 pub mod Words
 pub mod Lowest
+pub mod Upto

@@ -17,7 +17,7 @@ use Rattle.table.specs.Language.{count, byteOf}
 use Rattle.table.specs.Maps.{classOf, classes}
 use Rattle.quotient.specs.Quotient.{memberHas, bitOf, classByte, quotientTable}
 
-getD-map : (f : ℕ → ℕ) (xs : List ℕ) (i d e : ℕ) → i < length xs → getD (map f xs) i d ≡ f (getD xs i e)
+pub getD-map : (f : ℕ → ℕ) (xs : List ℕ) (i d e : ℕ) → i < length xs → getD (map f xs) i d ≡ f (getD xs i e)
 getD-map f [] i d e h = absurd (omega arith)
 getD-map f (x ∷ xs) zero d e h = refl
 getD-map f (x ∷ xs) (suc i) d e h = getD-map f xs i d e (omega arith)

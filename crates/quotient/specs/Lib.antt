@@ -1,2 +1,5 @@
 pub mod Quotient
 pub mod Demands
+pub mod Keys
+pub mod Sections
+pub mod Accepting

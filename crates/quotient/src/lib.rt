@@ -1,4 +1,25 @@
-// Writing the quotient of a table under a map.
+// Checking a map, and writing the quotient of a table under a map.
+ghost use mathlib.Core.Path.{_≡_};
+ghost use Rattle.lists.specs.Lists.{firstFailed};
+ghost use Rattle.table.specs.Limits.{standard};
+ghost use Rattle.table.specs.File.{tableOf};
+ghost use Rattle.maps.specs.Check.{mapTests, checkOf};
+ghost use Rattle.quotient.specs.Accepting.{AcceptsExactly};
+ghost use Rattle.quotient.specs.Sections.{Known, Parted, partTests};
+
+mod finding;
+mod images;
+mod matching;
+mod numbering;
+mod write;
+
+use maps::Checked;
+use matching::looks_agree;
+use matching::moves_matched;
+use matching::returns_matched;
+use numbering::class_count;
+use numbering::numbered;
+use table::Starts;
 
 // What writing the quotient answers.
 pub enum Written {
@@ -6,4 +27,76 @@ pub enum Written {
     Length(usize),
     // 1 to 8, 15 to 21
     Refused(u8),
+}
+
+// The first of 15 to 20 that applies, over the parts of a table; or 0.
+fn tests_number(
+    states: &[u8],
+    internals: &[u8],
+    calls: &[u8],
+    returns: &[u8],
+    words: &[u32],
+    map: &[u8],
+) -> u8
+    requires { ⌜ Parted (now states) (now internals) (now calls) (now returns) ⌝ }
+    ensures { λ r. ⌜ r ≡ firstFailed (partTests (now (states .entry)) (now (internals .entry)) (now (calls .entry)) (now (returns .entry)) (now (words .entry)) (now (map .entry))) ⌝ }
+{
+    let n = states.len();
+    if map.len() != n {
+        return 15;
+    }
+    if !numbered(map) {
+        return 16;
+    }
+    if !looks_agree(states, map) {
+        return 17;
+    }
+    if !moves_matched(internals, n, map) {
+        return 18;
+    }
+    if !moves_matched(calls, n, map) {
+        return 19;
+    }
+    if !returns_matched(returns, words, n, map) {
+        return 20;
+    }
+    0
+}
+
+// The first of 15 to 20 that applies to a read table: its sections are handed on as parts of the file.
+fn map_number(table: &[u8], starts: Starts, words: &[u32], map: &[u8]) -> u8
+    requires { ⌜ Known (now table) starts (now words) ⌝ }
+    ensures { λ r. ⌜ r ≡ firstFailed (mapTests standard (tableOf (now (table .entry))) (now (map .entry))) ⌝ }
+{
+    let end = table.len() - 12;
+    let states = starts.states;
+    let internals = starts.internals;
+    let calls = starts.calls;
+    let returns = starts.returns;
+    tests_number(
+        &table[states..internals],
+        &table[internals..calls],
+        &table[calls..returns],
+        &table[returns..end],
+        words,
+        map,
+    )
+}
+
+// Checks a map: the class count, or the first refusal that applies.
+pub fn check(table: &[u8], map: &[u8]) -> Checked
+    ensures { λ r. ⌜ r ≡ checkOf standard (now (table .entry)) (now (map .entry)) ⌝ }
+    ensures exact { λ r. ⌜ AcceptsExactly standard (now (table .entry)) (now (map .entry)) r ⌝ }
+{
+    let examined = tops::examine(table);
+    if examined.number != 0 {
+        return Checked::Refused(examined.number);
+    }
+    let starts = examined.starts;
+    let words = examined.words;
+    let number = map_number(table, starts, &words, map);
+    if number != 0 {
+        return Checked::Refused(number);
+    }
+    Checked::Accepted(class_count(map))
 }

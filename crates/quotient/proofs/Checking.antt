@@ -1,0 +1,144 @@
+-- The numbers that the check answers, one law for each way to a return of src/, and what its answer promises. Assumes nothing.
+use mathlib.Core.Path.{_≡_, refl, sym, ap, _∙_, subst}
+use mathlib.Core.Logic.{_↔_}
+use mathlib.Core.Bool.{Bool, true, false}
+use mathlib.Core.List.{List, [], _∷_}
+use Prim.Native.Nat.{ℕ, _+_, _-_, _≤_}
+use native.Mathlib.Omega.{arith}
+use lib.ListN.{length, take, drop}
+use lib.Dec.{eqb}
+use borrow.Author.Tests.{eqb-true, eqb-false, eq-eqb, ne-eqb}
+use Rattle.lists.specs.Lists.{firstFailed}
+use Rattle.lists.proofs.Refusals.{passes, fails}
+use Rattle.table.specs.Limits.{standard}
+use Rattle.table.specs.File.{records, tableOf}
+use Rattle.table.specs.Reading.{readNumber, startsOf, ascend}
+use Rattle.table.specs.Maps.{classes, numbered, Proper, RaqMap}
+use Rattle.table.specs.Sections.{ReadAs}
+use Rattle.table.specs.declared.Starts.{Starts}
+use Rattle.table.proofs.Passed.{formed-tested, no-test}
+use Rattle.table.proofs.Bytes.{read-well-formed}
+use Rattle.table.proofs.Facts.{few-states}
+use Rattle.table.proofs.Handed.{states-part, internals-part, calls-part, returns-part}
+use Rattle.tops.specs.declared.Examined.{Examined}
+use Rattle.tops.specs.Demands.{examinedOf}
+use Rattle.maps.specs.declared.Checked.{Checked}
+use Rattle.maps.specs.declared.Checked.the-variants.{Accepted, Refused}
+use Rattle.maps.specs.Check.{looksAgree, movesMatched, returnsMatched, mapTests, checkNumber, checkOf}
+use Rattle.maps.proofs.Accepted.{accepted, accepts}
+use Rattle.quotient.specs.Accepting.{IsAccepted, AcceptsExactly}
+use Rattle.quotient.specs.Sections.{ofStates, Known, Parted, partTests}
+
+-- ---- 15 to 20, over the parts of a table
+
+module _ (s i c r f m : List ℕ) where
+  pub number-15 : (length m ≡ length s → ⊥) → 15 ≡ firstFailed (partTests s i c r f m)
+  unfolding partTests
+  number-15 h = sym (fails 15 _ (ne-eqb _ _ h))
+
+  module _ (p15 : length m ≡ length s) where
+    pub number-16 : numbered m ≡ false → 16 ≡ firstFailed (partTests s i c r f m)
+    unfolding partTests
+    number-16 h = sym (passes 15 _ (eq-eqb _ _ p15) ∙ fails 16 _ h)
+
+    module _ (p16 : numbered m ≡ true) where
+      pub number-17 : looksAgree (ofStates s) m ≡ false → 17 ≡ firstFailed (partTests s i c r f m)
+      unfolding partTests
+      number-17 h = sym (passes 15 _ (eq-eqb _ _ p15) ∙ passes 16 _ p16 ∙ fails 17 _ h)
+
+      module _ (p17 : looksAgree (ofStates s) m ≡ true) where
+        pub number-18 : movesMatched (records 3 i) (length s) m ≡ false → 18 ≡ firstFailed (partTests s i c r f m)
+        unfolding partTests
+        number-18 h = sym (passes 15 _ (eq-eqb _ _ p15) ∙ passes 16 _ p16 ∙ passes 17 _ p17 ∙ fails 18 _ h)
+
+        module _ (p18 : movesMatched (records 3 i) (length s) m ≡ true) where
+          pub number-19 : movesMatched (records 3 c) (length s) m ≡ false → 19 ≡ firstFailed (partTests s i c r f m)
+          unfolding partTests
+          number-19 h = sym (passes 15 _ (eq-eqb _ _ p15) ∙ passes 16 _ p16 ∙ passes 17 _ p17 ∙ passes 18 _ p18 ∙ fails 19 _ h)
+
+          module _ (p19 : movesMatched (records 3 c) (length s) m ≡ true) where
+            pub number-20 : returnsMatched f (records 4 r) (length s) m ≡ false → 20 ≡ firstFailed (partTests s i c r f m)
+            unfolding partTests
+            number-20 h = sym (passes 15 _ (eq-eqb _ _ p15) ∙ passes 16 _ p16 ∙ passes 17 _ p17 ∙ passes 18 _ p18 ∙ passes 19 _ p19 ∙ fails 20 _ h)
+
+            pub number-0 : returnsMatched f (records 4 r) (length s) m ≡ true → 0 ≡ firstFailed (partTests s i c r f m)
+            unfolding partTests
+            number-0 h = sym (passes 15 _ (eq-eqb _ _ p15) ∙ passes 16 _ p16 ∙ passes 17 _ p17 ∙ passes 18 _ p18 ∙ passes 19 _ p19 ∙ passes 20 _ h ∙ no-test)
+
+-- ---- the parts of a read table
+
+module _ {b f : List ℕ} {s : Starts} (k : Known b s f) (end : ℕ) (e : end + 12 ≡ length b) where
+  abbrev part : ℕ → ℕ → List ℕ
+  part from to = take (to - from) (drop from b)
+
+  pub known-parts : Parted (part (s .states) (s .internals)) (part (s .internals) (s .calls)) (part (s .calls) (s .returns)) (part (s .returns) end)
+  known-parts =
+      let wf = read-well-formed standard b (k .read .readable) in
+      record {
+        few = omega (arith, ap length (states-part (k .read) end e), few-states wf);
+        internals-ascend = ap ascend (internals-part (k .read) end e) ∙ formed-tested wf .internals-ascend;
+        calls-ascend = ap ascend (calls-part (k .read) end e) ∙ formed-tested wf .calls-ascend;
+        returns-ascend = ap ascend (returns-part (k .read) end e) ∙ formed-tested wf .returns-ascend;
+      }
+
+  pub parts-tests : (m : List ℕ) → firstFailed (partTests (part (s .states) (s .internals)) (part (s .internals) (s .calls)) (part (s .calls) (s .returns)) (part (s .returns) end) f m) ≡ firstFailed (mapTests standard (tableOf b) m)
+  unfolding partTests mapTests looksAgree
+  parts-tests m =
+      let n = states-part (k .read) end e in
+      λ j. firstFailed
+      ((15, eqb (length m) (length (n j)))
+      ∷ (16, numbered m)
+      ∷ (17, looksAgree (ofStates (n j)) m)
+      ∷ (18, movesMatched (internals-part (k .read) end e j) (length (n j)) m)
+      ∷ (19, movesMatched (calls-part (k .read) end e j) (length (n j)) m)
+      ∷ (20, returnsMatched (k .words j) (returns-part (k .read) end e j) (length (n j)) m)
+      ∷ [])
+
+-- ---- the answer
+
+module _ (b : List ℕ) {x : Examined} (e : x ≡ examinedOf standard b) where
+  pub examined-number : x .number ≡ readNumber standard b
+  unfolding examinedOf
+  examined-number = ap (λ (y : Examined). y .number) e ∙ go (eqb (readNumber standard b) 0) refl
+    where
+      go : (t : Bool) → eqb (readNumber standard b) 0 ≡ t → examinedOf standard b .number ≡ readNumber standard b
+      go true p = rw (p, examinedOf) (sym (eqb-true _ _ p))
+      go false p = rw (p, examinedOf)
+
+  pub examined-known : x .number ≡ 0 → Known b (x .starts) (x .words)
+  unfolding examinedOf
+  examined-known n =
+      let p : readNumber standard b ≡ 0 = sym examined-number ∙ n in
+      record {
+        read = record { readable = p; starts = ap (λ (y : Examined). y .starts) e ∙ rw (eq-eqb _ _ p, examinedOf) };
+        words = ap (λ (y : Examined). y .words) e ∙ rw (eq-eqb _ _ p, examinedOf);
+      }
+
+module _ (b m : List ℕ) where
+  pub refused-reading : {x : Examined} → x ≡ examinedOf standard b → (x .number ≡ 0 → ⊥) → checkNumber standard b m ≡ x .number
+  unfolding checkNumber
+  refused-reading e n = let p = examined-number b e in rw (ne-eqb (readNumber standard b) 0 (λ q. n (p ∙ q)), checkNumber) (sym p)
+
+  pub number-tested : {s : Starts} {f : List ℕ} {k : ℕ} → Known b s f → k ≡ firstFailed (mapTests standard (tableOf b) m) → checkNumber standard b m ≡ k
+  unfolding checkNumber
+  number-tested h e = rw (eq-eqb (readNumber standard b) 0 (h .read .readable), checkNumber) (sym e)
+
+  pub check-refused : {k : ℕ} → checkNumber standard b m ≡ k → (k ≡ 0 → ⊥) → Refused k ≡ checkOf standard b m
+  unfolding checkOf
+  check-refused e n = sym (rw (ne-eqb (checkNumber standard b m) 0 (λ q. n (sym e ∙ q)), checkOf) (ap (λ k. Refused k) e))
+
+  pub check-accepted : {k n : ℕ} → checkNumber standard b m ≡ k → k ≡ 0 → n ≡ classes m → Accepted n ≡ checkOf standard b m
+  unfolding checkOf
+  check-accepted e z l = sym (rw (eq-eqb (checkNumber standard b m) 0 (e ∙ z), checkOf) (ap (λ n. Accepted n) (sym l)))
+
+  -- demand 2
+  exactly : AcceptsExactly standard b m (checkOf standard b m)
+  unfolding checkOf
+  exactly readable = go (eqb (checkNumber standard b m) 0) refl
+    where
+      go : (t : Bool) → eqb (checkNumber standard b m) 0 ≡ t → IsAccepted (elim t as (λ _. Checked) [ true ↦ Accepted (classes m) | false ↦ Refused (checkNumber standard b m) ]) ↔ (Proper (tableOf b) m × RaqMap (tableOf b) m)
+      go true p = (λ z. let a = accepted standard b m (eqb-true _ _ p) in (a .proper, a .raq), λ z. tt)
+      go false p = (λ z. absurd z, λ z. eqb-false (checkNumber standard b m) 0 p (accepts standard b m (record { readable = readable; proper = z .0; raq = z .1 })))
+
+  pub checked : {r : Checked} → r ≡ checkOf standard b m → (r ≡ checkOf standard b m) × AcceptsExactly standard b m r
+  checked {r} e = (e, subst (λ (y : Checked). AcceptsExactly standard b m y) (sym e) exactly)

@@ -1,0 +1,62 @@
+-- The conditions of the check, record by record and state by state: a law for each way through a loop's turn. Assumes nothing.
+use mathlib.Core.Path.{_≡_, refl, sym, ap, _∙_}
+use mathlib.Core.Bool.{Bool, true, false, _&&_, _||_, not}
+use mathlib.Core.List.{List, [], _∷_}
+use Prim.Native.Nat.{ℕ, _+_, _-_, _*_, _/_, _<_, _≤_}
+use native.Mathlib.Omega.{arith}
+use lib.ListN.{length, getD, drop}
+use lib.Seq.{getD-take, getD-drop}
+use borrow.Author.Tests.{ltb-true}
+use Rattle.lists.specs.Lists.{any}
+use Rattle.lists.specs.Bits.{has}
+use Rattle.lists.proofs.Members.{and-true}
+use Rattle.table.specs.File.{records}
+use Rattle.table.specs.Reading.{ascend}
+use Rattle.table.specs.Language.{targets}
+use Rattle.table.specs.Maps.{joins}
+use Rattle.maps.specs.Check.{moveMatched, returnMatched}
+
+-- ---- a test that only counts where another holds
+
+pub spared : {a : Bool} (b : Bool) → a ≡ false → (not a || b) ≡ true
+spared b p = rw p
+
+pub met : {a b : Bool} → a ≡ true → b ≡ true → (not a || b) ≡ true
+met p q = rw (p, q)
+
+pub broken : {a b : Bool} → a ≡ true → b ≡ false → (not a || b) ≡ false
+broken p q = rw (p, q)
+
+-- ---- a record and a state
+
+module _ (rs : List (List ℕ)) (m : List ℕ) (p a p' q : ℕ) {x : ℕ} (d : x ≡ p) where
+  pub move-apart : joins m x q ≡ false → true ≡ moveMatched rs m p a p' q
+  unfolding moveMatched
+  move-apart j = sym (spared _ (ap (λ z. joins m z q) (sym d) ∙ j))
+
+  pub move-by : {y : ℕ} → y ≡ p' → joins m x q ≡ true → any (joins m y) (targets rs (q ∷ a ∷ [])) ≡ moveMatched rs m p a p' q
+  unfolding moveMatched
+  move-by e j = ap (λ z. any (joins m z) (targets rs (q ∷ a ∷ []))) e ∙ rw (ap (λ z. joins m z q) (sym d) ∙ j)
+
+module _ (f : List ℕ) (rs : List (List ℕ)) (m : List ℕ) (p a s p' q u : ℕ) {x y : ℕ} (d : x ≡ p) (e : y ≡ s) where
+  parts : returnMatched f rs m p a s p' q u ≡ (not (joins m x q && joins m y u && has f x y && has f q u) || any (joins m p') (targets rs (q ∷ a ∷ u ∷ [])))
+  unfolding returnMatched
+  parts = λ i. not (joins m (sym d i) q && joins m (sym e i) u && has f (sym d i) (sym e i) && has f q u) || any (joins m p') (targets rs (q ∷ a ∷ u ∷ []))
+
+  pub return-apart : joins m x q ≡ false → true ≡ returnMatched f rs m p a s p' q u
+  return-apart j = sym (parts ∙ rw j)
+
+  module _ (j : joins m x q ≡ true) where
+    pub stack-apart : joins m y u ≡ false → true ≡ returnMatched f rs m p a s p' q u
+    stack-apart k = sym (parts ∙ rw (j, k))
+
+    module _ (k : joins m y u ≡ true) where
+      pub return-dead : has f x y ≡ false → true ≡ returnMatched f rs m p a s p' q u
+      return-dead h = sym (parts ∙ rw (j, k, h))
+
+      module _ (h : has f x y ≡ true) where
+        pub not-under : has f q u ≡ false → true ≡ returnMatched f rs m p a s p' q u
+        not-under t = sym (parts ∙ rw (j, k, h, t))
+
+        pub return-by : {z : ℕ} → has f q u ≡ true → z ≡ p' → any (joins m z) (targets rs (q ∷ a ∷ u ∷ [])) ≡ returnMatched f rs m p a s p' q u
+        return-by t g = ap (λ z. any (joins m z) (targets rs (q ∷ a ∷ u ∷ []))) g ∙ sym (parts ∙ rw (j, k, h, t))

@@ -1,0 +1,38 @@
+-- `quotient::check` meets its contract: refused by reading, refused by a test, or accepted. Assumes nothing.
+use Rattle.quotient.proofs.Checking.{examined-known, refused-reading, number-tested, check-refused, check-accepted, checked}
+use borrow.Author.Needs.{needs}
+use Rattle.quotient.proofs.check.Statement.{statement}
+use Rattle.quotient.proofs.check.Tie as tie
+
+examine-requires : tie.Need-examine-requires
+examine-requires c κs = search needs
+
+returns : tie.Need-returns
+returns c = checked _ _ (check-refused _ _ (refused-reading _ _ (c .before .before .examine .ensures) (c .if1 .taken)) (c .if1 .taken))
+
+slice-aggregate-map-number : tie.Need-slice-aggregate-map-number
+slice-aggregate-map-number c = search needs
+
+map-number-requires : tie.Need-map-number-requires
+map-number-requires c κs = examined-known _ (c .before .before .before .before .before .examine .ensures) (c .before .before .before .if1 .left)
+
+returns-2 : tie.Need-returns-2
+returns-2 c = checked _ _ (check-refused _ _ (number-tested _ _ (examined-known _ (c .before .before .before .before .before .before .before .examine .ensures) (c .before .before .before .before .before .if1 .left)) (c .before .map-number .ensures)) (c .if2 .taken))
+
+class-count-requires : tie.Need-class-count-requires
+class-count-requires c κs = search needs
+
+returns-3 : tie.Need-returns-3
+returns-3 c = checked _ _ (check-accepted _ _ (number-tested _ _ (examined-known _ (c .before .before .before .before .before .before .before .before .examine .ensures) (c .before .before .before .before .before .before .if1 .left)) (c .before .before .map-number .ensures)) (c .before .if2 .left) (c .class-count .ensures))
+
+pub check-spec : {M : Type 1} → statement M
+check-spec =
+    tie.close
+    (tie.spec
+    examine-requires
+    returns
+    slice-aggregate-map-number
+    map-number-requires
+    returns-2
+    class-count-requires
+    returns-3)

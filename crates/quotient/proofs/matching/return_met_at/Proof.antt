@@ -1,0 +1,54 @@
+-- `quotient::matching::return_met_at` meets its contract: the stack states before this one match the return. Assumes nothing.
+use Rattle.maps.specs.Check.{returnMatched}
+use lib.ListN.{getD}
+use Rattle.table.specs.File.{records}
+use Rattle.lists.proofs.Upto.{Counting, counting, all-passed, all-failed, all-done}
+use Rattle.lists.specs.Lists.{all}
+use borrow.Author.Tests.{not-true, not-false}
+use native.Mathlib.Omega.{arith}
+use Prim.Native.Nat.{_-_}
+use mathlib.Core.Path.{sym, _∙_}
+use borrow.Author.Needs.{needs}
+use Rattle.quotient.proofs.matching.return_met_at.Statement.{statement}
+use Rattle.quotient.proofs.matching.return_met_at.Tie as tie
+
+abbrev Inv-states : tie.InvT-states
+Inv-states section words map fields n q u₀ u = Counting (all (λ r. returnMatched words (records 4 section) map (getD fields 0 0) (getD fields 1 0) (getD fields 2 0) (getD fields 3 0) q r)) n u
+
+abbrev μ-states : tie.MeasureT-states
+μ-states section words map fields n q u₀ u = n - u
+
+states-holds : tie.Need-states-holds Inv-states μ-states
+states-holds c = counting _ _
+
+return-matched-requires : tie.Need-return-matched-requires Inv-states μ-states
+return-matched-requires c κs = let a = c .before .before .before .before .before .before in (a .pre .0, a .pre .1, a .pre .3, omega (arith, a .pre .2, c .states-test .taken))
+
+returns : tie.Need-returns Inv-states μ-states
+returns c = all-failed _ (c .before .before .before .states .inv) (c .before .before .states-test .taken) (sym (c .before .return-matched .ensures) ∙ not-true _ (c .if1 .taken))
+
+add-u : tie.Need-add-u Inv-states μ-states
+add-u c = search needs
+
+states-less : tie.Need-states-less Inv-states μ-states
+states-less c = search needs
+
+states-again : tie.Need-states-again Inv-states μ-states
+states-again c = all-passed _ (c .before .before .before .states .inv) (c .before .before .states-test .taken) (sym (c .before .return-matched .ensures) ∙ not-false _ (c .if1 .left))
+
+returns-2 : tie.Need-returns-2 Inv-states μ-states
+returns-2 c = all-done _ (c .before .states .inv) (c .states-test .left)
+
+pub return-met-at-spec : {M : Type 1} → statement M
+return-met-at-spec =
+    tie.close
+    (tie.spec
+    Inv-states
+    μ-states
+    states-holds
+    return-matched-requires
+    returns
+    add-u
+    states-less
+    states-again
+    returns-2)

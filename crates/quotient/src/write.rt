@@ -1,0 +1,180 @@
+// Writing a table, section by section: each writer is lent the remaining output.
+ghost use mathlib.Core.Path.{_≡_};
+ghost use Prim.Native.Nat.{_+_, _*_, _^_, _<_, _≤_};
+ghost use lib.ListN.{length};
+ghost use Rattle.lists.specs.Lists.{gather, over};
+ghost use Rattle.table.specs.File.{bytes16, bytesOf};
+ghost use Rattle.quotient.specs.Quotient.{memberHas, bitOf, classByte};
+ghost use Rattle.quotient.specs.Keys.{lastBytes};
+ghost use Rattle.quotient.specs.Sections.{ofStates, flagged, classBytes, keyedTable, trailerFrom};
+use super::images::class_of;
+
+// Bytes to the front of the remaining output.
+pub(crate) fn put_bytes(bytes: &[u8], out: &mut [u8])
+    requires { ⌜ length (now bytes) ≤ length (now out) ⌝ }
+    ensures { λ _. ⌜ now (out .exit) ≡ over (now (bytes .entry)) (now (out .entry)) ⌝ }
+{
+    let mut i: usize = 0;
+    'bytes: while i < bytes.len() {
+        out[i] = bytes[i];
+        i += 1;
+    }
+}
+
+// A record by its key.
+fn put_key(width: usize, key: u32, out: &mut [u8])
+    requires { ⌜ (width ≤ 4) × (width ≤ length (now out)) ⌝ }
+    ensures { λ _. ⌜ now (out .exit) ≡ over (lastBytes width key) (now (out .entry)) ⌝ }
+{
+    let bytes = [
+        (key / 16777216) as u8,
+        (key / 65536 % 256) as u8,
+        (key / 256 % 256) as u8,
+        (key % 256) as u8,
+    ];
+    let from = 4 - width;
+    put_bytes(&bytes[from..], out);
+}
+
+// The records of keys.
+pub(crate) fn put_keys(width: usize, keys: &[u32], out: &mut [u8])
+    requires { ⌜ (width ≤ 4) × (length (gather (lastBytes width) (now keys)) ≤ length (now out)) ⌝ }
+    ensures { λ _. ⌜ now (out .exit) ≡ over (gather (lastBytes width) (now (keys .entry))) (now (out .entry)) ⌝ }
+{
+    let mut at: usize = 0;
+    let mut i: usize = 0;
+    'keys: while i < keys.len() {
+        put_key(width, keys[i], &mut out[at..]);
+        at += width;
+        i += 1;
+    }
+}
+
+// A 16-bit number, the lower byte first.
+fn put_word(word: usize, out: &mut [u8])
+    requires { ⌜ 2 ≤ length (now out) ⌝ }
+    ensures { λ _. ⌜ now (out .exit) ≡ over (bytes16 word) (now (out .entry)) ⌝ }
+{
+    let bytes = [(word % 256) as u8, (word / 256 % 256) as u8];
+    put_bytes(&bytes, out);
+}
+
+// 16-bit numbers.
+fn put_words(words: &[usize], out: &mut [u8])
+    requires { ⌜ length (gather bytes16 (now words)) ≤ length (now out) ⌝ }
+    ensures { λ _. ⌜ now (out .exit) ≡ over (gather bytes16 (now (words .entry))) (now (out .entry)) ⌝ }
+{
+    let mut at: usize = 0;
+    let mut i: usize = 0;
+    'words: while i < words.len() {
+        put_word(words[i], &mut out[at..]);
+        at += 2;
+        i += 1;
+    }
+}
+
+// The trailer behind so many symbols, states and records: "the distances back from its first byte to each section's start, then version 1".
+fn put_trailer(
+    symbols: usize,
+    states: usize,
+    internals: usize,
+    calls: usize,
+    returns: usize,
+    out: &mut [u8],
+)
+    requires { ⌜ (symbols + states + 3 * internals + 3 * calls + 4 * returns < 2 ^ 64) × (12 ≤ length (now out)) ⌝ }
+    ensures { λ _. ⌜ now (out .exit) ≡ over (trailerFrom symbols states internals calls returns) (now (out .entry)) ⌝ }
+{
+    let from_returns = 4 * returns;
+    let from_calls = 3 * calls + from_returns;
+    let from_internals = 3 * internals + from_calls;
+    let from_states = states + from_internals;
+    let from_symbols = symbols + from_states;
+    let words = [
+        from_symbols,
+        from_states,
+        from_internals,
+        from_calls,
+        from_returns,
+        1,
+    ];
+    put_words(&words, out);
+}
+
+// Some member of a class has a flag in its state byte: 1 "for initial", 2 "for accepting".
+fn member_has(states: &[u8], map: &[u8], class: u8, flag: u8) -> bool
+    requires { ⌜ 0 < flag ⌝ }
+    ensures { λ r. ⌜ r ≡ memberHas (flagged flag) (ofStates (now (states .entry))) (now (map .entry)) class ⌝ }
+{
+    let mut q: usize = 0;
+    'states: while q < states.len() {
+        if class_of(map, q) == class {
+            if states[q] / flag % 2 == 1 {
+                return true;
+            }
+        }
+        q += 1;
+    }
+    false
+}
+
+fn bit_of(b: bool) -> u8
+    ensures { λ r. ⌜ r ≡ bitOf b ⌝ }
+{
+    if b { 1 } else { 0 }
+}
+
+// "initial or accepting if a member is"
+fn class_byte(states: &[u8], map: &[u8], class: u8) -> u8
+    ensures { λ r. ⌜ r ≡ classByte (ofStates (now (states .entry))) (now (map .entry)) class ⌝ }
+{
+    let initial = bit_of(member_has(states, map, class, 1));
+    let accepting = bit_of(member_has(states, map, class, 2));
+    initial + 2 * accepting
+}
+
+// "one state a class"
+pub(crate) fn put_states(states: &[u8], map: &[u8], classes: usize, out: &mut [u8])
+    requires { ⌜ (classes ≤ 256) × (classes ≤ length (now out)) ⌝ }
+    ensures { λ _. ⌜ now (out .exit) ≡ over (classBytes (ofStates (now (states .entry))) (now (map .entry)) classes) (now (out .entry)) ⌝ }
+{
+    let mut c: usize = 0;
+    'classes: while c < classes {
+        out[c] = class_byte(states, map, c as u8);
+        c += 1;
+    }
+}
+
+// "Each section is written behind the one before it, then the trailer."
+pub(crate) fn put_table(
+    symbols: &[u8],
+    states: &[u8],
+    map: &[u8],
+    classes: usize,
+    internals: &[u32],
+    calls: &[u32],
+    returns: &[u32],
+    out: &mut [u8],
+)
+    requires { ⌜ (classes ≤ 256) × (length (bytesOf (keyedTable (now symbols) (classBytes (ofStates (now states)) (now map) classes) (now internals) (now calls) (now returns))) ≤ length (now out)) ⌝ }
+    ensures { λ _. ⌜ now (out .exit) ≡ over (bytesOf (keyedTable (now (symbols .entry)) (classBytes (ofStates (now (states .entry))) (now (map .entry)) classes) (now (internals .entry)) (now (calls .entry)) (now (returns .entry)))) (now (out .entry)) ⌝ }
+{
+    put_bytes(symbols, out);
+    let mut at = symbols.len();
+    put_states(states, map, classes, &mut out[at..]);
+    at += classes;
+    put_keys(3, internals, &mut out[at..]);
+    at += 3 * internals.len();
+    put_keys(3, calls, &mut out[at..]);
+    at += 3 * calls.len();
+    put_keys(4, returns, &mut out[at..]);
+    at += 4 * returns.len();
+    put_trailer(
+        symbols.len(),
+        classes,
+        internals.len(),
+        calls.len(),
+        returns.len(),
+        &mut out[at..],
+    );
+}
