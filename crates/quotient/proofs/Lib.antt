@@ -15,3 +15,4 @@ pub mod Found
 pub mod Writing
 pub mod Whole
 pub mod Checking
+pub mod Quotienting

@@ -75,6 +75,13 @@ pub record Parted (states internals calls returns : List ℕ) : Type 0 where
   pub calls-ascend : ascend (records 3 calls) ≡ true
   pub returns-ascend : ascend (records 4 returns) ≡ true
 
+-- no more than the limits
+pub record Sized (symbols internals calls returns : List ℕ) : Type 0 where
+  pub symbols-few : length symbols ≤ 32
+  pub internals-few : length (records 3 internals) ≤ 1024
+  pub calls-few : length (records 3 calls) ≤ 1024
+  pub returns-few : length (records 4 returns) ≤ 4096
+
 -- 15 to 20, over the parts
 unfoldable pub partTests : List ℕ → List ℕ → List ℕ → List ℕ → List ℕ → List ℕ → List (ℕ × Bool)
 partTests states internals calls returns f m =

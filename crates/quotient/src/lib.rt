@@ -2,10 +2,12 @@
 ghost use mathlib.Core.Path.{_≡_};
 ghost use Rattle.lists.specs.Lists.{firstFailed};
 ghost use Rattle.table.specs.Limits.{standard};
-ghost use Rattle.table.specs.File.{tableOf};
+ghost use Rattle.table.specs.File.{tableOf, bytesOf};
 ghost use Rattle.maps.specs.Check.{mapTests, checkOf};
+ghost use Rattle.quotient.specs.Quotient.{quotientBytes, quotientOf};
+ghost use Rattle.quotient.specs.Demands.{WritesQuotient, WritesSameWords};
 ghost use Rattle.quotient.specs.Accepting.{AcceptsExactly};
-ghost use Rattle.quotient.specs.Sections.{Known, Parted, partTests};
+ghost use Rattle.quotient.specs.Sections.{Known, Parted, Sized, partTests, partedQuotient, writtenFor};
 
 mod finding;
 mod images;
@@ -13,6 +15,7 @@ mod matching;
 mod numbering;
 mod write;
 
+use images::collect;
 use maps::Checked;
 use matching::looks_agree;
 use matching::moves_matched;
@@ -20,6 +23,7 @@ use matching::returns_matched;
 use numbering::class_count;
 use numbering::numbered;
 use table::Starts;
+use write::put_table;
 
 // What writing the quotient answers.
 pub enum Written {
@@ -99,4 +103,84 @@ pub fn check(table: &[u8], map: &[u8]) -> Checked
         return Checked::Refused(number);
     }
     Checked::Accepted(class_count(map))
+}
+
+// The quotient over the parts of a table: its length is known before anything is written.
+fn write_parts(
+    symbols: &[u8],
+    states: &[u8],
+    internals: &[u8],
+    calls: &[u8],
+    returns: &[u8],
+    words: &[u32],
+    map: &[u8],
+    out: &mut [u8],
+) -> Written
+    requires { ⌜ Sized (now symbols) (now internals) (now calls) (now returns) ⌝ }
+    ensures { λ r. ⌜ record { answer = r; out = now (out .exit) } ≡ writtenFor (bytesOf (partedQuotient (now (symbols .entry)) (now (states .entry)) (now (internals .entry)) (now (calls .entry)) (now (returns .entry)) (now (words .entry)) (now (map .entry)))) (now (out .entry)) ⌝ }
+{
+    let classes = class_count(map);
+    let mut internal_keys = [0u32; 1024];
+    let i = collect(3, internals, words, map, &mut internal_keys);
+    let mut call_keys = [0u32; 1024];
+    let c = collect(3, calls, words, map, &mut call_keys);
+    let mut return_keys = [0u32; 4096];
+    let r = collect(4, returns, words, map, &mut return_keys);
+    let length = symbols.len() + classes + 3 * i + 3 * c + 4 * r + 12;
+    if out.len() < length {
+        return Written::Refused(21);
+    }
+    put_table(
+        symbols,
+        states,
+        map,
+        classes,
+        &internal_keys[..i],
+        &call_keys[..c],
+        &return_keys[..r],
+        out,
+    );
+    Written::Length(length)
+}
+
+// The quotient of a read table under a properly numbered map.
+fn write_read(table: &[u8], starts: Starts, words: &[u32], map: &[u8], out: &mut [u8]) -> Written
+    requires { ⌜ Known (now table) starts (now words) ⌝ }
+    ensures { λ r. ⌜ record { answer = r; out = now (out .exit) } ≡ writtenFor (quotientBytes standard (now (table .entry)) (now (map .entry))) (now (out .entry)) ⌝ }
+{
+    let end = table.len() - 12;
+    let symbols = starts.symbols;
+    let states = starts.states;
+    let internals = starts.internals;
+    let calls = starts.calls;
+    let returns = starts.returns;
+    write_parts(
+        &table[symbols..states],
+        &table[states..internals],
+        &table[internals..calls],
+        &table[calls..returns],
+        &table[returns..end],
+        words,
+        map,
+        out,
+    )
+}
+
+// Writes the quotient of a table under a map: its length, or the first refusal that applies, the output then unchanged.
+pub fn quotient(table: &[u8], map: &[u8], out: &mut [u8]) -> Written
+    ensures { λ r. ⌜ record { answer = r; out = now (out .exit) } ≡ quotientOf standard (now (table .entry)) (now (map .entry)) (now (out .entry)) ⌝ }
+    ensures exact { λ r. ⌜ WritesQuotient standard r (now (table .entry)) (now (map .entry)) (now (out .exit)) ⌝ }
+    ensures words { λ r. ⌜ WritesSameWords r (now (table .entry)) (now (out .exit)) ⌝ }
+{
+    let examined = tops::examine(table);
+    if examined.number != 0 {
+        return Written::Refused(examined.number);
+    }
+    let starts = examined.starts;
+    let words = examined.words;
+    let number = map_number(table, starts, &words, map);
+    if number != 0 {
+        return Written::Refused(number);
+    }
+    write_read(table, starts, &words, map, out)
 }

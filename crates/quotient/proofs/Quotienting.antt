@@ -1,0 +1,233 @@
+-- The quotient written over the parts of a table, and over a table that was read: one law for each way to a return of src/. Assumes nothing.
+use mathlib.Core.Path.{_≡_, refl, sym, ap, _∙_, subst}
+use mathlib.Core.Logic.{_⊎_, inl, inr}
+use mathlib.Core.Bool.{Bool, true, false}
+use mathlib.Core.List.{List, [], _∷_, map, List·Memᴰ, List·Memᴰ·head, List·Memᴰ·tail, List·Memᴰ·not-nil as not-nil, List·Memᴰ·cases-cons as cases-cons}
+use Prim.Native.Nat.{ℕ, zero, suc, _+_, _-_, _*_, _/_, _<_, _≤_}
+use native.Mathlib.Omega.{arith}
+use lib.ListN.{length, take, drop, length-map}
+use lib.Seq.{getD-drop}
+use lib.Dec.{eqb, leb}
+use borrow.Author.Tests.{le-leb, lt-leb, eq-eqb, ne-eqb}
+use Rattle.lists.specs.Lists.{keep, upto, parts, over}
+use Rattle.lists.proofs.Members.{keep-mem}
+use Rattle.lists.proofs.Counts.{keep-le}
+use Rattle.table.specs.Limits.{standard}
+use Rattle.table.specs.File.{Table, records, tableOf, bytesOf}
+use Rattle.table.specs.Maps.{classes}
+use Rattle.table.specs.declared.Starts.{Starts}
+use Rattle.table.proofs.Passed.{formed-tested}
+use Rattle.table.proofs.Bytes.{Bytes, Small, records-wide, read-well-formed}
+use Rattle.table.proofs.Handed.{symbols-part, states-part, internals-part, calls-part, returns-part}
+use Rattle.tops.specs.Tops.{live, liveReturns}
+use Rattle.maps.specs.Check.{checkNumber}
+use Rattle.quotient.specs.Quotient.{image, images, memberHas, classByte, quotientTable, quotientBytes, quotientNumber, QuotientDone, quotientOf}
+use Rattle.quotient.specs.Demands.{WritesQuotient, WritesSameWords}
+use Rattle.quotient.specs.Keys.{key, lastBytes, Holds, kept}
+use Rattle.quotient.specs.Sections.{ofStates, classBytes, keyedTable, Known, Sized, imageKeys, partedQuotient, writtenFor}
+use Rattle.quotient.specs.declared.Written.{Written}
+use Rattle.quotient.specs.declared.Written.the-variants.{Length, Refused}
+use Rattle.quotient.proofs.Image.{images-mem, images-length, image-length}
+use Rattle.quotient.proofs.Theorems.{writes-quotient, writes-same-words}
+use Rattle.quotient.proofs.ClassBytes.{length-bytes}
+use Rattle.quotient.proofs.Keys.{Same, last-key}
+use Rattle.quotient.proofs.Collecting.{part-bytes, image-bytes, move-kept, return-kept}
+use Rattle.quotient.proofs.Whole.{bytes-long}
+
+-- ---- counts
+
+pub classes-small : (m : List ℕ) → Bytes m → classes m ≤ 256
+unfolding classes
+classes-small [] b = omega arith
+classes-small (c ∷ m) b = let h : c < 256 = b 0 in omega (arith, classes-small m (λ i. b (suc i)))
+
+image-keys-few : (w : ℕ) (s f m : List ℕ) → length (imageKeys w s f m) ≤ length (records w s)
+image-keys-few w s f m =
+    omega (arith, length-map (images m (keep (kept f) (records w s))) key, images-length m (keep (kept f) (records w s)), keep-le (kept f) (records w s))
+
+-- as many numbers of the buffer as there are
+pub holds-long : {buffer ks : List ℕ} {n : ℕ} → Holds buffer n ks → n ≡ length (take n buffer)
+holds-long h = h .count ∙ ap length (sym (h .same))
+
+-- ---- over the parts of a table
+
+-- how many symbols, classes and images there are
+pub record Few (y : List ℕ) (k a b d : ℕ) : Type 0 where
+  pub symbols : length y ≤ 32
+  pub classes : k ≤ 256
+  pub internals : a ≤ 1024
+  pub calls : b ≤ 1024
+  pub returns : d ≤ 4096
+
+module _ (y s i c r f m : List ℕ) {k a b d : ℕ} {ks ls ms : List ℕ} (e : k ≡ classes m) (h : Holds ks a (imageKeys 3 i f m)) (l : Holds ls b (imageKeys 3 c f m)) (g : Holds ms d (imageKeys 4 r f m)) where
+  pub counts-few : Sized y i c r → Bytes m → Few y k a b d
+  counts-few z q = record {
+    symbols = z .symbols-few;
+    classes = omega (arith, e, classes-small m q);
+    internals = omega (arith, h .count, image-keys-few 3 i f m, z .internals-few);
+    calls = omega (arith, l .count, image-keys-few 3 c f m, z .calls-few);
+    returns = omega (arith, g .count, image-keys-few 4 r f m, z .returns-few);
+  }
+
+  -- the table that is written
+  same-bytes : bytesOf (keyedTable y (classBytes (ofStates s) m k) (take a ks) (take b ls) (take d ms)) ≡ bytesOf (partedQuotient y s i c r f m)
+  same-bytes = λ j. bytesOf (keyedTable y (classBytes (ofStates s) m (e j)) (h .same j) (l .same j) (g .same j))
+
+  whole : length (bytesOf (partedQuotient y s i c r f m)) ≡ length y + k + 3 * a + 3 * b + 4 * d + 12
+  whole = omega (arith, bytes-long y (classBytes (ofStates s) m (classes m)) (imageKeys 3 i f m) (imageKeys 3 c f m) (imageKeys 4 r f m), length-bytes (ofStates s) m (classes m), e, h .count, l .count, g .count)
+
+  module _ (out : List ℕ) where
+    pub fits : length y + k + 3 * a + 3 * b + 4 * d + 12 ≤ length out → length (bytesOf (keyedTable y (classBytes (ofStates s) m k) (take a ks) (take b ls) (take d ms))) ≤ length out
+    fits n = omega (arith, ap length same-bytes, whole)
+
+    pub short : length out < length y + k + 3 * a + 3 * b + 4 * d + 12 → record { answer = Refused 21; out = out } ≡ writtenFor (bytesOf (partedQuotient y s i c r f m)) out
+    unfolding writtenFor
+    short n = sym (rw (lt-leb (length (bytesOf (partedQuotient y s i c r f m))) (length out) (omega (arith, whole)), writtenFor))
+
+    pub put : {out' : List ℕ} → length y + k + 3 * a + 3 * b + 4 * d + 12 ≤ length out → out' ≡ over (bytesOf (keyedTable y (classBytes (ofStates s) m k) (take a ks) (take b ls) (take d ms))) out
+        → record { answer = Length (length y + k + 3 * a + 3 * b + 4 * d + 12); out = out' } ≡ writtenFor (bytesOf (partedQuotient y s i c r f m)) out
+    unfolding writtenFor
+    put {out'} n p = sym (rw (le-leb (length (bytesOf (partedQuotient y s i c r f m))) (length out) (omega (arith, whole)), writtenFor) (λ j. record { answer = Length (whole j); out = sym (p ∙ ap (λ x. over x out) same-bytes) j }))
+
+-- ---- the keys of images give the images back
+
+rest-bytes : (n : ℕ) (xs : List ℕ) → Bytes xs → Bytes (drop n xs)
+rest-bytes n xs b i = rw (getD-drop n xs i 0) (b (n + i))
+
+parts-bytes : (k w : ℕ) (xs : List ℕ) → Bytes xs → (r : List ℕ) → List·Memᴰ r (parts k w xs) → Bytes r
+unfolding parts
+parts-bytes zero w xs b r d = absurd (not-nil d)
+parts-bytes (suc k) w xs b r d = go (cases-cons d) (parts-bytes k w (drop w xs) (rest-bytes w xs b) r)
+  where
+    go : (r ≡ take w xs) ⊎ List·Memᴰ r (parts k w (drop w xs)) → (List·Memᴰ r (parts k w (drop w xs)) → Bytes r) → Bytes r
+    go (inl e) ih = subst Bytes (sym e) (part-bytes xs b 0 w)
+    go (inr q) ih = ih q
+
+keys-back : (w : ℕ) → w ≤ 4 → (rs : List (List ℕ)) → ((r : List ℕ) → List·Memᴰ r rs → Same w r) → map (lastBytes w) (map key rs) ≡ rs
+keys-back w l [] h = refl
+keys-back w l (r ∷ rs) h =
+    let d = h r (List·Memᴰ·head refl) in
+    λ i. (ap (λ n. lastBytes n (key r)) (sym (d .0)) ∙ last-key r (omega (arith, d .0)) (d .1)) i ∷ keys-back w l rs (λ s q. h s (List·Memᴰ·tail q)) i
+
+module _ (w : ℕ) (l : w ≤ 4) (s f m : List ℕ) (bs : Bytes s) (bm : Bytes m) where
+  images-same : (r : List ℕ) → List·Memᴰ r (images m (keep (kept f) (records w s))) → Same w r
+  unfolding records
+  images-same r d = go (images-mem m (keep (kept f) (records w s)) r .0 d)
+    where
+      go : (x : List ℕ) × List·Memᴰ x (keep (kept f) (records w s)) × (image m x ≡ r) → Same w r
+      go (x, q, e) =
+          let k = keep-mem (kept f) (records w s) x q .0 in
+          subst (Same w) e (image-length m x ∙ records-wide w s x k, image-bytes m x bm (parts-bytes (length s / w) w s bs x k))
+
+  pub images-back : map (lastBytes w) (imageKeys w s f m) ≡ images m (keep (kept f) (records w s))
+  images-back = keys-back w l (images m (keep (kept f) (records w s))) images-same
+
+-- moves are kept, and returns where they are live
+keep-yes : (g : List ℕ → Bool) (r : List ℕ) (rs : List (List ℕ)) → g r ≡ true → keep g (r ∷ rs) ≡ r ∷ keep g rs
+unfolding keep
+keep-yes g r rs e = rw (e, keep)
+
+keep-no : (g : List ℕ → Bool) (r : List ℕ) (rs : List (List ℕ)) → g r ≡ false → keep g (r ∷ rs) ≡ keep g rs
+unfolding keep
+keep-no g r rs e = rw (e, keep)
+
+keep-same : (g h : List ℕ → Bool) (rs : List (List ℕ)) → ((r : List ℕ) → List·Memᴰ r rs → g r ≡ h r) → keep g rs ≡ keep h rs
+unfolding keep
+keep-same g h [] e = refl
+keep-same g h (r ∷ rs) e = go (h r) (e r (List·Memᴰ·head refl)) refl (keep-same g h rs (λ s q. e s (List·Memᴰ·tail q)))
+  where
+    go : (t : Bool) → g r ≡ h r → h r ≡ t → keep g rs ≡ keep h rs → keep g (r ∷ rs) ≡ keep h (r ∷ rs)
+    go true p q ih = keep-yes g r rs (p ∙ q) ∙ ap (λ xs. r ∷ xs) ih ∙ sym (keep-yes h r rs q)
+    go false p q ih = keep-no g r rs (p ∙ q) ∙ ih ∙ sym (keep-no h r rs q)
+
+keep-every : (rs : List (List ℕ)) → keep (λ r. true) rs ≡ rs
+unfolding keep
+keep-every [] = refl
+keep-every (r ∷ rs) = ap (λ xs. r ∷ xs) (keep-every rs)
+
+moves-kept : (s f : List ℕ) → keep (kept f) (records 3 s) ≡ records 3 s
+moves-kept s f = keep-same (kept f) (λ r. true) (records 3 s) (λ r d. sym (move-kept f r (omega (arith, records-wide 3 s r d)))) ∙ keep-every (records 3 s)
+
+returns-kept : (s f : List ℕ) → keep (kept f) (records 4 s) ≡ keep (live f) (records 4 s)
+unfolding live
+returns-kept s f = keep-same (kept f) (live f) (records 4 s) (λ r d. sym (return-kept f r (omega (arith, records-wide 4 s r d)) refl refl))
+
+-- ---- over a table that was read
+
+module _ {b f : List ℕ} {s : Starts} (k : Known b s f) (end : ℕ) (e : end + 12 ≡ length b) where
+  abbrev part : ℕ → ℕ → List ℕ
+  part from to = take (to - from) (drop from b)
+
+  pub known-sized : Sized (part (s .symbols) (s .states)) (part (s .internals) (s .calls)) (part (s .calls) (s .returns)) (part (s .returns) end)
+  known-sized =
+      let t = formed-tested (read-well-formed standard b (k .read .readable)) in
+      record {
+        symbols-few = omega (arith, ap length (symbols-part (k .read) end e), t .symbols-few);
+        internals-few = omega (arith, ap length (internals-part (k .read) end e), t .internals-few);
+        calls-few = omega (arith, ap length (calls-part (k .read) end e), t .calls-few);
+        returns-few = omega (arith, ap length (returns-part (k .read) end e), t .returns-few);
+      }
+
+  module _ (m : List ℕ) (bb : Bytes b) (bm : Bytes m) where
+    moves-again : (from to : ℕ) → map (lastBytes 3) (imageKeys 3 (part from to) f m) ≡ images m (records 3 (part from to))
+    moves-again from to = images-back 3 (omega arith) (part from to) f m (part-bytes b bb from (to - from)) bm ∙ ap (images m) (moves-kept (part from to) f)
+
+    returns-again : map (lastBytes 4) (imageKeys 4 (part (s .returns) end) f m) ≡ images m (liveReturns standard (tableOf b))
+    unfolding liveReturns
+    returns-again =
+        images-back 4 (omega arith) (part (s .returns) end) f m (part-bytes b bb (s .returns) (end - s .returns)) bm
+        ∙ ap (images m) (returns-kept (part (s .returns) end) f ∙ λ j. keep (live (k .words j)) (returns-part (k .read) end e j))
+
+    states-again : classBytes (ofStates (part (s .states) (s .internals))) m (classes m) ≡ map (classByte (tableOf b) m) (upto (classes m))
+    unfolding classByte memberHas
+    states-again = ap (λ x. classBytes (ofStates x) m (classes m)) (states-part (k .read) end e)
+
+    pub parted-quotient : partedQuotient (part (s .symbols) (s .states)) (part (s .states) (s .internals)) (part (s .internals) (s .calls)) (part (s .calls) (s .returns)) (part (s .returns) end) f m ≡ quotientTable standard (tableOf b) m
+    unfolding quotientTable
+    parted-quotient = λ j. record {
+      symbols = symbols-part (k .read) end e j;
+      states = states-again j;
+      internals = (moves-again (s .internals) (s .calls) ∙ ap (images m) (internals-part (k .read) end e)) j;
+      calls = (moves-again (s .calls) (s .returns) ∙ ap (images m) (calls-part (k .read) end e)) j;
+      returns = returns-again j;
+    }
+
+    pub written-read : (out : List ℕ) → writtenFor (bytesOf (partedQuotient (part (s .symbols) (s .states)) (part (s .states) (s .internals)) (part (s .internals) (s .calls)) (part (s .calls) (s .returns)) (part (s .returns) end) f m)) out ≡ writtenFor (quotientBytes standard b m) out
+    unfolding quotientBytes
+    written-read out = ap (λ (t : Table). writtenFor (bytesOf t) out) parted-quotient
+
+-- ---- the answer
+
+small : Small standard
+small = record { states = omega arith; symbols = omega arith }
+
+module _ (b m out : List ℕ) where
+  pub quotient-refused : {k : ℕ} → checkNumber standard b m ≡ k → (k ≡ 0 → ⊥) → record { answer = Refused k; out = out } ≡ quotientOf standard b m out
+  unfolding quotientOf quotientNumber
+  quotient-refused {k} e n =
+      let c : eqb (checkNumber standard b m) 0 ≡ false = ne-eqb (checkNumber standard b m) 0 (λ q. n (sym e ∙ q)) in
+      let p : quotientNumber standard b m out ≡ k = rw (c, quotientNumber) e in
+      sym (rw (ne-eqb (quotientNumber standard b m out) 0 (λ q. n (sym p ∙ q)), quotientOf) (λ j. record { answer = Refused (p j); out = out }))
+
+  pub quotient-written : checkNumber standard b m ≡ 0 → writtenFor (quotientBytes standard b m) out ≡ quotientOf standard b m out
+  unfolding quotientOf quotientNumber writtenFor
+  quotient-written e = go (leb (length (quotientBytes standard b m)) (length out)) refl
+    where
+      go : (t : Bool) → leb (length (quotientBytes standard b m)) (length out) ≡ t → writtenFor (quotientBytes standard b m) out ≡ quotientOf standard b m out
+      go true p =
+          let n : quotientNumber standard b m out ≡ 0 = rw (eq-eqb _ _ e, quotientNumber) (rw p) in
+          rw (p, writtenFor) (sym (rw (eq-eqb (quotientNumber standard b m out) 0 n, quotientOf)))
+      go false p =
+          let n : quotientNumber standard b m out ≡ 21 = rw (eq-eqb _ _ e, quotientNumber) (rw p) in
+          rw (p, writtenFor) (sym (rw (ne-eqb (quotientNumber standard b m out) 0 (λ q. omega (arith, n, q)), quotientOf) (λ j. record { answer = Refused (n j); out = out })))
+
+  -- demands 2 and 3
+  pub quotiented : {r : Written} {now : List ℕ} → record { answer = r; out = now } ≡ quotientOf standard b m out
+      → (record { answer = r; out = now } ≡ quotientOf standard b m out) × (WritesQuotient standard r b m now × WritesSameWords r b now)
+  quotiented e = (
+    e,
+    (
+      subst (λ (d : QuotientDone). WritesQuotient standard (d .answer) b m (d .out)) (sym e) (writes-quotient standard small b m out),
+      subst (λ (d : QuotientDone). WritesSameWords (d .answer) b (d .out)) (sym e) (writes-same-words standard small b m out),
+    ),
+  )

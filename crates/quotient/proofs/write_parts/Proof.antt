@@ -1,0 +1,120 @@
+-- `quotient::write_parts` meets its contract: too short, or written. Assumes nothing.
+use Rattle.quotient.proofs.Quotienting.{Few, counts-few, fits, short, put, holds-long}
+use native.Mathlib.Omega.{arith}
+use borrow.Author.Needs.{needs}
+use Rattle.quotient.proofs.write_parts.Statement.{statement}
+use Rattle.quotient.proofs.write_parts.Tie as tie
+
+-- what is known once all images are collected
+abbrev start : tie.After-return-keys2 → tie.Start
+start c = c .before .before .before .before .before .before .before .before .before .before .before .before .before .before .before .before .before .before
+
+few : (c : tie.After-return-keys2) → Few (start c .args .symbols .now) (c .before .before .before .before .before .before .before .before .before .class-count .result) (c .before .before .before .before .before .before .before .collect .result) (c .before .before .before .before .collect2 .result) (c .before .collect3 .result)
+few c =
+    let a = start c in
+    counts-few (a .args .symbols .now) (a .args .states .now) (a .args .internals .now) (a .args .calls .now) (a .args .returns .now) (a .args .words .now) (a .args .map .now) (c .before .before .before .before .before .before .before .before .before .class-count .ensures) (c .before .before .before .before .before .before .before .collect .ensures) (c .before .before .before .before .collect2 .ensures) (c .before .collect3 .ensures) (a .pre) (λ k. c .before .before .before .before .before .before .before .before .before .before .before .shared-slice-known7 .given k .fits)
+
+class-count-requires : tie.Need-class-count-requires
+class-count-requires c κs = search needs
+
+slice-aggregate-collect : tie.Need-slice-aggregate-collect
+slice-aggregate-collect c = search needs
+
+collect-requires : tie.Need-collect-requires
+collect-requires c κs = let a = c .before .before .before .before .before .before .before .before .before .before in (omega arith, omega arith, a .pre .internals-few)
+
+slice-aggregate-collect-2 : tie.Need-slice-aggregate-collect-2
+slice-aggregate-collect-2 c = search needs
+
+collect-requires-2 : tie.Need-collect-requires-2
+collect-requires-2 c κs = let a = c .before .before .before .before .before .before .before .before .before .before .before .before .before in (omega arith, omega arith, a .pre .calls-few)
+
+slice-aggregate-collect-3 : tie.Need-slice-aggregate-collect-3
+slice-aggregate-collect-3 c = search needs
+
+collect-requires-3 : tie.Need-collect-requires-3
+collect-requires-3 c κs = let a = c .before .before .before .before .before .before .before .before .before .before .before .before .before .before .before .before in (omega arith, omega arith, a .pre .returns-few)
+
+add-length : tie.Need-add-length
+add-length c = omega (arith, few c)
+
+mul-length : tie.Need-mul-length
+mul-length c = omega (arith, few c)
+
+add-length-2 : tie.Need-add-length-2
+add-length-2 c = omega (arith, few c)
+
+mul-length-2 : tie.Need-mul-length-2
+mul-length-2 c = omega (arith, few c)
+
+add-length-3 : tie.Need-add-length-3
+add-length-3 c = omega (arith, few c)
+
+mul-length-3 : tie.Need-mul-length-3
+mul-length-3 c = omega (arith, few c)
+
+add-length-4 : tie.Need-add-length-4
+add-length-4 c = omega (arith, few c)
+
+add-length-5 : tie.Need-add-length-5
+add-length-5 c = omega (arith, few c)
+
+returns : tie.Need-returns
+returns c = let a = c .before .before .before .before .before .before .before .before .before .before .before .before .before .before .before .before .before .before .before in short (a .args .symbols .now) (a .args .states .now) (a .args .internals .now) (a .args .calls .now) (a .args .returns .now) (a .args .words .now) (a .args .map .now) (c .before .before .before .before .before .before .before .before .before .before .class-count .ensures) (c .before .before .before .before .before .before .before .before .collect .ensures) (c .before .before .before .before .before .collect2 .ensures) (c .before .before .collect3 .ensures) (a .args .out .now) (c .if1 .taken)
+
+array-share-prefix-internal-keys : tie.Need-array-share-prefix-internal-keys
+array-share-prefix-internal-keys c = omega (arith, few (c .before) .internals)
+
+slice-aggregate-put-table : tie.Need-slice-aggregate-put-table
+slice-aggregate-put-table c = holds-long (c .before .before .before .before .before .before .before .before .before .collect .ensures)
+
+array-share-prefix-call-keys : tie.Need-array-share-prefix-call-keys
+array-share-prefix-call-keys c = omega (arith, few (c .before .before) .calls)
+
+slice-aggregate-put-table-2 : tie.Need-slice-aggregate-put-table-2
+slice-aggregate-put-table-2 c = holds-long (c .before .before .before .before .before .before .before .collect2 .ensures)
+
+array-share-prefix-return-keys : tie.Need-array-share-prefix-return-keys
+array-share-prefix-return-keys c = omega (arith, few (c .before .before .before) .returns)
+
+slice-aggregate-put-table-3 : tie.Need-slice-aggregate-put-table-3
+slice-aggregate-put-table-3 c = holds-long (c .before .before .before .before .before .collect3 .ensures)
+
+put-table-requires : tie.Need-put-table-requires
+put-table-requires c κs = let a = c .before .before .before .before .before .before .before .before .before .before .before .before .before .before .before .before .before .before .before .before .before .before .before in (few (c .before .before .before .before .before) .classes, fits (a .args .symbols .now) (a .args .states .now) (a .args .internals .now) (a .args .calls .now) (a .args .returns .now) (a .args .words .now) (a .args .map .now) (c .before .before .before .before .before .before .before .before .before .before .before .before .before .before .class-count .ensures) (c .before .before .before .before .before .before .before .before .before .before .before .before .collect .ensures) (c .before .before .before .before .before .before .before .before .before .collect2 .ensures) (c .before .before .before .before .before .before .collect3 .ensures) (a .args .out .now) (c .before .before .before .before .if1 .left))
+
+same-length : tie.Need-same-length
+same-length c = search needs
+
+returns-2 : tie.Need-returns-2
+returns-2 c = let a = c .before .before .before .before .before .before .before .before .before .before .before .before .before .before .before .before .before .before .before .before .before .before .before .before .before .before in put (a .args .symbols .now) (a .args .states .now) (a .args .internals .now) (a .args .calls .now) (a .args .returns .now) (a .args .words .now) (a .args .map .now) (c .before .before .before .before .before .before .before .before .before .before .before .before .before .before .before .before .before .class-count .ensures) (c .before .before .before .before .before .before .before .before .before .before .before .before .before .before .before .collect .ensures) (c .before .before .before .before .before .before .before .before .before .before .before .before .collect2 .ensures) (c .before .before .before .before .before .before .before .before .before .collect3 .ensures) (a .args .out .now) (c .before .before .before .before .before .before .before .if1 .left) (c .before .before .put-table .ensures)
+
+pub write-parts-spec : {M : Type 1} → statement M
+write-parts-spec =
+    tie.close
+    (tie.spec
+    class-count-requires
+    slice-aggregate-collect
+    collect-requires
+    slice-aggregate-collect-2
+    collect-requires-2
+    slice-aggregate-collect-3
+    collect-requires-3
+    add-length
+    mul-length
+    add-length-2
+    mul-length-2
+    add-length-3
+    mul-length-3
+    add-length-4
+    add-length-5
+    returns
+    array-share-prefix-internal-keys
+    slice-aggregate-put-table
+    array-share-prefix-call-keys
+    slice-aggregate-put-table-2
+    array-share-prefix-return-keys
+    slice-aggregate-put-table-3
+    put-table-requires
+    same-length
+    returns-2)
