@@ -3,8 +3,8 @@
 use mathlib.Core.Path.{_≡_, refl, sym, ap, _∙_, subst}
 use mathlib.Core.Logic.{_≢_}
 use mathlib.Core.Bool.{Bool, true, false}
-use mathlib.Core.List.{List, [], _∷_, _++_}
-use Prim.Native.Nat.{ℕ, _-_, _≤_}
+use mathlib.Core.List.{List, _++_}
+use Prim.Native.Nat.{ℕ, _-_}
 use native.Mathlib.Omega.{arith}
 use lib.ListN.{length, take, drop, replicate}
 use lib.Seq.{slice, take-append-seam}
@@ -26,11 +26,9 @@ use Rattle.tops.specs.Demands.{examinedOf}
 use Rattle.tops.specs.declared.Examined.{Examined}
 use Rattle.tops.proofs.Loops.{section-within}
 use Rattle.tops.proofs.Read.{ordered, sections-read}
-use Rattle.maps.specs.Check.{checkNumber}
 use Rattle.clauses.specs.declared.Listed.{Listed}
-use Rattle.clauses.specs.declared.Listed.the-variants.{List as Words, Refused}
+use Rattle.clauses.specs.declared.Listed.the-variants.{Refused}
 use Rattle.clauses.specs.Pairs.{pairs}
-use Rattle.clauses.specs.Maps.{mapOf}
 use Rattle.clauses.specs.Clauses.{lookClauses, transitivity, moveClauses, returnClauses, clauseList, clauseWords, clausesNumber, ClausesDone, clausesOf}
 use Rattle.clauses.specs.Emit.{State, emit, statesOnly, returnClausesBy, Ready, listBy, listedBy}
 use Rattle.clauses.specs.Demands.{Sound}
