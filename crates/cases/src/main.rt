@@ -1,12 +1,13 @@
 // Runs the operations on the cases of its standard input, and prints each answer and every buffer.
 //
-// A case is the operation's number (1 read, 2 tops, 4 search), the length of the rest, and the rest. For a search the rest begins with the
-// variables, the budget and the length of the answer. Then comes the table, or the clause words. Lengths and words are 16-bit little-endian
+// A case is the operation's number (1 read, 2 tops, 3 clauses, 4 search), the length of the rest, and the rest. For clauses the rest begins
+// with the length of the list, for a search with the variables, the budget and the length of the answer. Then comes the table, or the clause words. Lengths and words are 16-bit little-endian
 // numbers. A line is the operation's name, the refusal's number or 0, the answer's values and, behind a bar, the buffer, which is filled with
 // 7 beforehand.
 ghost use mathlib.Core.Path.{_≡_};
 ghost use Prim.Native.Nat.{_≤_, _<_};
 ghost use lib.ListN.{length};
+use clauses::Listed;
 use libc::STDOUT_FILENO;
 use search::Solution;
 use table::Reading;
@@ -24,6 +25,12 @@ fn wide(x: u8) -> usize
     ensures { λ r. ⌜ r < 256 ⌝ }
 {
     x as usize
+}
+
+fn long(x: u16) -> u64
+    ensures { λ r. ⌜ r ≡ x ⌝ }
+{
+    x as u64
 }
 
 // The 16-bit number at a place, 0 past the end.
@@ -79,6 +86,46 @@ fn say_tops(table: &[u8]) -> bool {
         q += 1;
     }
     say(b"\n")
+}
+
+fn say_words(words: &[u16]) -> bool {
+    say(b" |");
+    let mut i: usize = 0;
+    'words: while i < words.len() {
+        number(long(words[i]));
+        i += 1;
+    }
+    say(b"\n")
+}
+
+// Writes the clauses into the first words of a buffer.
+fn say_listed(table: &[u8], space: &mut [u16], length: usize) -> bool {
+    if space.len() < length {
+        return say(b" ?\n");
+    }
+    let list = &mut space[..length];
+    let listed = clauses::clauses(table, list);
+    match listed {
+        Listed::List { clauses, words } => {
+            number(0);
+            number(clauses as u64);
+            number(words as u64);
+        }
+        Listed::Refused(k) => {
+            number(wide(k) as u64);
+        }
+    }
+    say_words(list)
+}
+
+fn say_clauses(rest: &[u8]) -> bool {
+    say(b"clauses");
+    if rest.len() < 2 {
+        return say(b" ?\n");
+    }
+    let length = word_at(rest, 0);
+    let mut list = [7u16; 8192];
+    say_listed(&rest[2..], &mut list, length)
 }
 
 // The clause words of a search, from their bytes.
@@ -143,6 +190,7 @@ fn say_case(operation: u8, rest: &[u8]) -> bool {
     match operation {
         1 => say_read(rest),
         2 => say_tops(rest),
+        3 => say_clauses(rest),
         4 => say_search(rest),
         _ => say(b"?\n"),
     }
