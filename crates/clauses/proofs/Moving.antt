@@ -1,12 +1,12 @@
 -- The clauses of one record and one state, and of a whole record, by the bytes that the code reads. Assumes nothing.
-use mathlib.Core.Path.{_≡_, refl, sym, ap, _∙_}
+use mathlib.Core.Path.{_≡_, sym, ap, _∙_}
 use mathlib.Core.Logic.{_≢_}
-use mathlib.Core.Bool.{Bool, true, false, _&&_}
-use mathlib.Core.List.{List, [], _∷_, _++_, map}
-use Prim.Native.Nat.{ℕ, suc, _+_, _-_, _≤_, _<_}
+use mathlib.Core.Bool.{Bool, true, false}
+use mathlib.Core.List.{List, [], _∷_, map}
+use Prim.Native.Nat.{ℕ, _+_, _-_, _≤_}
 use native.Mathlib.Omega.{arith}
 use native.Mathlib.Nat.{add-zero}
-use lib.ListN.{length, getD, take, drop, length-append, length-take}
+use lib.ListN.{length, getD, take, drop, length-take}
 use lib.Dec.{eqb}
 use borrow.Author.Tests.{eq-eqb, ne-eqb}
 use Rattle.lists.specs.Lists.{gather, upto, keep, same}
@@ -16,8 +16,8 @@ use Rattle.table.specs.Spans.{startsWith}
 use Rattle.tops.proofs.Loops.{record-byte}
 use Rattle.clauses.specs.declared.literals.Literals.{Literals}
 use Rattle.clauses.specs.Clauses.{apart, premise, moveClause}
-use Rattle.clauses.specs.Emit.{literalsOf, withLiteral, withAll, Holds, matchingFrom, lastBytes, Sorted, State, emit}
-use Rattle.clauses.proofs.Tidying.{matching-one, matching-two}
+use Rattle.clauses.specs.Emit.{literalsOf, withAll, Holds, matchingFrom, lastBytes, Sorted, State, emit}
+use Rattle.clauses.proofs.Tidying.{matching-one}
 use Rattle.clauses.proofs.Targeting.{with-length}
 use Rattle.clauses.proofs.Stepping.{Along, along-on}
 use Rattle.clauses.proofs.Few.{few-targets}

@@ -2,19 +2,19 @@
 -- that they are. One law for every width. Assumes nothing.
 use mathlib.Core.Path.{_≡_, refl, sym, ap, _∙_}
 use mathlib.Core.Logic.{_≢_}
-use mathlib.Core.Bool.{Bool, true, false, _&&_, _||_}
-use mathlib.Core.List.{List, [], _∷_, _++_}
+use mathlib.Core.Bool.{Bool, true, false}
+use mathlib.Core.List.{List, [], _∷_}
 use Prim.Native.Nat.{ℕ, zero, suc, _+_, _-_, _*_, _/_, _≤_, _<_, suc-le-suc, zero-le}
 use native.Mathlib.Omega.{arith}
 use native.Mathlib.Numerals.{add-one}
 use native.Mathlib.Nat.{zero-add, suc-add, suc-mul, zero-mul, mul-le-mul-right, div-mul-le-self, div-zero, mul-div-cancel, add-mul}
 use lib.ListN.{length, getD, take, drop, length-take, length-drop, drop-of-length-le}
-use lib.Seq.{take-nil, drop-cons, drop-drop, getD-take, length-take-le, take-all, take-take}
+use lib.Seq.{take-nil, drop-cons, drop-drop, getD-take, length-take-le, take-take}
 use borrow.Author.Tests.{eq-eqb, ne-eqb}
 use Rattle.lists.specs.Lists.{keep, parts, same}
 use Rattle.lists.proofs.Parts.{length-parts, getD-parts}
 use Rattle.table.specs.File.{records}
-use Rattle.table.specs.Reading.{before, ascendFrom, ascend}
+use Rattle.table.specs.Reading.{before, ascend}
 use Rattle.table.specs.Sections.{firstAt}
 use Rattle.table.specs.Spans.{startsWith, leading}
 use Rattle.table.proofs.Order.{before-transitive, ascend-behind, ascend-rest, getD-mem}

@@ -1,14 +1,13 @@
 -- Loops over the states, over the variables and over the records: the clauses of each in turn. Assumes nothing.
 use mathlib.Core.Path.{_≡_, refl, sym, ap, _∙_}
-use mathlib.Core.Bool.{Bool, true, false}
 use mathlib.Core.List.{List, [], _∷_, _++_, append-nil, append-assoc, List·Memᴰ, List·Memᴰ·head, List·Memᴰ·tail}
 use Prim.Native.Nat.{ℕ, zero, suc, _+_, _-_, _≤_, _<_}
 use native.Mathlib.Numerals.{add-one}
 use native.Mathlib.Omega.{arith}
 use native.Mathlib.Nat.{add-zero, add-suc, div-eq-of-lt}
 use native.Mathlib.Decide.{decLt}
-use lib.ListN.{length, getD, take, drop, length-drop, drop-of-length-le}
-use lib.Seq.{drop-cons, drop-append-le, drop-length}
+use lib.ListN.{length, take, drop, length-drop, drop-of-length-le}
+use lib.Seq.{drop-cons, drop-append-le}
 use lib.Dec.{ltb}
 use borrow.Author.Tests.{lt-ltb, le-ltb}
 use Rattle.lists.specs.Lists.{keep, gather, upto, parts}
@@ -16,7 +15,7 @@ use Rattle.lists.proofs.Members.{upto-mem, length-upto, getD-upto}
 use Rattle.lists.proofs.Counts.{keep-append, gather-append}
 use Rattle.table.specs.File.{records}
 use Rattle.tops.proofs.Loops.{records-cons}
-use Rattle.clauses.specs.Pairs.{pairs, variableOf, pairOf}
+use Rattle.clauses.specs.Pairs.{pairs, pairOf}
 use Rattle.clauses.specs.Clauses.{past}
 use Rattle.clauses.specs.Emit.{State, Ordered, emit}
 use Rattle.clauses.proofs.Pairs.{pairs-suc, variable-lt, pair-variable}

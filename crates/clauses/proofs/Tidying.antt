@@ -1,16 +1,14 @@
 -- A clause tidied literal by literal is the tidy clause, and a clause with its premises first. Assumes nothing.
 use mathlib.Core.Path.{_≡_, refl, sym, ap, _∙_, subst}
 use mathlib.Core.Logic.{_⊎_, inl, inr, _≢_}
-use mathlib.Core.Bool.{Bool, true, false, _||_, true≢false}
+use mathlib.Core.Bool.{Bool, true, false, _||_}
 use mathlib.Core.List.{List, [], _∷_, _++_, append-assoc, append-nil, map, List·Memᴰ, List·Memᴰ·head, List·Memᴰ·tail, Memᴰ·append-left, Memᴰ·append-right, List·Memᴰ·append-cases as append-cases, List·Memᴰ·not-nil as not-nil, List·Memᴰ·eq-of-singleton as eq-of-singleton, List·Memᴰ·cases-cons as cases-cons}
-use Prim.Native.Nat.{ℕ, zero, suc, _+_, _-_, _*_, _/_, _%_, _≤_, _<_}
+use Prim.Native.Nat.{ℕ, _%_}
 use native.Mathlib.Omega.{arith}
-use lib.Seq.{append-snoc}
 use lib.Dec.{eqb}
-use borrow.Author.Tests.{eqb-true, eqb-false, eq-eqb, ne-eqb}
+use borrow.Author.Tests.{eq-eqb, ne-eqb}
 use Rattle.lists.specs.Lists.{any, mem}
-use Rattle.lists.proofs.Members.{any-true, any-false, mem-true, mem-of, mem-false}
-use Rattle.clauses.specs.Pairs.{variableOf}
+use Rattle.lists.proofs.Members.{any-true, any-false, mem-true, mem-false}
 use Rattle.clauses.specs.Clauses.{together, apart, opposite, once, tidy, premise, matching}
 use Rattle.clauses.specs.Emit.{withLiteral, withAll, tidyFrom, matchingFrom}
 use Rattle.clauses.proofs.Tidy.{opposite-half, opposite-sign}

@@ -3,8 +3,8 @@
 use mathlib.Core.Path.{_≡_, refl, sym, ap, _∙_, subst}
 use mathlib.Core.Logic.{_≢_}
 use mathlib.Core.Bool.{Bool, true, false}
-use mathlib.Core.List.{List, [], _∷_, _++_}
-use Prim.Native.Nat.{ℕ, _-_, _≤_}
+use mathlib.Core.List.{List, _++_}
+use Prim.Native.Nat.{ℕ, _-_}
 use native.Mathlib.Omega.{arith}
 use lib.ListN.{length, take, drop, replicate}
 use lib.Seq.{slice, take-append-seam}
@@ -26,14 +26,12 @@ use Rattle.tops.specs.Demands.{examinedOf}
 use Rattle.tops.specs.declared.Examined.{Examined}
 use Rattle.tops.proofs.Loops.{section-within}
 use Rattle.tops.proofs.Read.{ordered, sections-read}
-use Rattle.maps.specs.Check.{checkNumber}
 use Rattle.clauses.specs.declared.Listed.{Listed}
-use Rattle.clauses.specs.declared.Listed.the-variants.{List as Words, Refused}
+use Rattle.clauses.specs.declared.Listed.the-variants.{Refused}
 use Rattle.clauses.specs.Pairs.{pairs}
-use Rattle.clauses.specs.Maps.{mapOf}
 use Rattle.clauses.specs.Clauses.{lookClauses, transitivity, moveClauses, returnClauses, clauseList, clauseWords, clausesNumber, ClausesDone, clausesOf}
 use Rattle.clauses.specs.Emit.{State, emit, statesOnly, returnClausesBy, Ready, listBy, listedBy}
-use Rattle.clauses.specs.Demands.{Sound}
+use Rattle.clauses.specs.Demands.{ListSound}
 use Rattle.clauses.proofs.Emitting.{emit-append}
 use Rattle.clauses.proofs.Theorems.{model-accepted}
 
@@ -168,7 +166,7 @@ fit b list e = go (eqb (readNumber standard b) 0) refl e
     go true p f = eqb-true _ _ p
     go false p f = f
 
-sound : (b list : List ℕ) → Sound standard b (clausesOf standard b list .list) (clausesOf standard b list .answer)
+sound : (b list : List ℕ) → ListSound standard b (clausesOf standard b list .list) (clausesOf standard b list .answer)
 unfolding clausesOf clauseWords over
 sound b list = go (eqb (clausesNumber standard b list) 0) refl
   where
@@ -178,9 +176,9 @@ sound b list = go (eqb (clausesNumber standard b list) 0) refl
     there : clausesIn (take (length (wordsOf cs)) (wordsOf cs ++ drop (length (wordsOf cs)) list)) ≡ cs
     there = ap clausesIn (take-append-seam (wordsOf cs) (drop (length (wordsOf cs)) list)) ∙ clauses-words cs
 
-    go : (t : Bool) → eqb (clausesNumber standard b list) 0 ≡ t → Sound standard b (clausesOf standard b list .list) (clausesOf standard b list .answer)
+    go : (t : Bool) → eqb (clausesNumber standard b list) 0 ≡ t → ListSound standard b (clausesOf standard b list .list) (clausesOf standard b list .answer)
     go true p = rw (p, clausesOf) (λ v m. model-accepted standard b (fit b list (eqb-true _ _ p)) v (subst (λ (ds : List (List ℕ)). Model ds (pairs (count (tableOf b))) v) there m))
     go false p = rw (p, clausesOf) tt
 
-pub sound-of : (b list : List ℕ) {r : Listed} {list' : List ℕ} → record { answer = r; list = list' } ≡ clausesOf standard b list → Sound standard b list' r
-sound-of b list {r} {list'} e = subst (λ (d : ClausesDone). Sound standard b (d .list) (d .answer)) (sym e) (sound b list)
+pub sound-of : (b list : List ℕ) {r : Listed} {list' : List ℕ} → record { answer = r; list = list' } ≡ clausesOf standard b list → ListSound standard b list' r
+sound-of b list {r} {list'} e = subst (λ (d : ClausesDone). ListSound standard b (d .list) (d .answer)) (sym e) (sound b list)

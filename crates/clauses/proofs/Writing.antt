@@ -1,23 +1,20 @@
 -- What has come out in the end: a list measured, a list written, and the list of a table that was read. Assumes nothing.
-use mathlib.Core.Path.{_≡_, refl, sym, ap, _∙_, subst}
-use mathlib.Core.Logic.{_≢_}
-use mathlib.Core.Bool.{Bool, true, false, _&&_}
-use mathlib.Core.List.{List, [], _∷_, _++_, append-assoc, append-nil}
-use Prim.Native.Nat.{ℕ, zero, suc, _+_, _-_, _≤_, _<_}
+use mathlib.Core.Path.{_≡_, refl, sym, ap, _∙_}
+use mathlib.Core.Bool.{Bool, true, false}
+use mathlib.Core.List.{List, [], _∷_, _++_, append-assoc}
+use Prim.Native.Nat.{ℕ, suc, _+_, _≤_, _<_}
 use native.Mathlib.Omega.{arith}
 use native.Mathlib.Nat.{add-zero, zero-add}
 use native.Mathlib.Decide.{decLt}
-use lib.ListN.{length, take, drop, length-append, length-drop, length-take, take-append-drop}
-use lib.Seq.{slice, take-append-seam, drop-append-seam, length-take-le, drop-drop, take-at, drop-at, take-append-le, drop-append-add, take-append-add}
-use lib.Dec.{eqb, ltb, leb}
-use borrow.Author.Tests.{lt-ltb, le-ltb, le-leb, lt-leb, eq-eqb, ne-eqb, eqb-true, leb-true, ltb-true, ltb-false}
+use lib.ListN.{length, take, drop, length-append, take-append-drop}
+use lib.Seq.{length-take-le, drop-drop, take-at, drop-at}
+use lib.Dec.{ltb}
+use borrow.Author.Tests.{lt-ltb, le-ltb, le-leb, lt-leb}
 use Rattle.lists.specs.Lists.{gather, over}
 use Rattle.cnf.specs.Clauses.{wordsOf}
 use Rattle.clauses.specs.declared.emit.Tally.{Tally}
-use Rattle.clauses.specs.declared.Listed.{Listed}
 use Rattle.clauses.specs.declared.Listed.the-variants.{List as Words, Refused}
-use Rattle.clauses.specs.Clauses.{ClausesDone}
-use Rattle.clauses.specs.Emit.{State, state, Ordered, place, written, emitOne, emit, listedBy}
+use Rattle.clauses.specs.Emit.{State, state, place, written, emitOne, emit, listedBy}
 use Rattle.clauses.proofs.Emitting.{emit-full, length-place, length-written}
 
 -- ---- the words of clauses

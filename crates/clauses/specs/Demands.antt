@@ -14,6 +14,6 @@ use Rattle.clauses.specs.declared.Listed.{Listed}
 use Rattle.clauses.specs.declared.Listed.the-variants.{List as Words, Refused}
 
 -- where a list was written, every assignment that satisfies its words has a map that the check accepts
-abbrev pub Sound : Limits → List ℕ → List ℕ → Listed → Type 0
-Sound L b list (Words c w) = (v : List ℕ) → Model (clausesIn (take w list)) (pairs (count (tableOf b))) v → checkNumber L b (mapOf v (count (tableOf b))) ≡ 0
-Sound L b list (Refused k) = Unit {0}
+abbrev pub ListSound : Limits → List ℕ → List ℕ → Listed → Type 0
+ListSound L b list (Words c w) = (v : List ℕ) → Model (clausesIn (take w list)) (pairs (count (tableOf b))) v → checkNumber L b (mapOf v (count (tableOf b))) ≡ 0
+ListSound L b list (Refused k) = Unit {0}

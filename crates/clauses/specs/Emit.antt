@@ -1,9 +1,9 @@
 -- What the code that writes the clause list is stated with: the pair of a variable, the literals of one clause, and clauses counted and
--- written one behind the other. Assumes nothing.
+-- written one behind the other. Only contracts of functions within the crate cite it. Assumes nothing.
 use mathlib.Core.Path.{_≡_}
-use mathlib.Core.Bool.{Bool, true, false, _&&_}
+use mathlib.Core.Bool.{true, false, _&&_}
 use mathlib.Core.List.{List, [], _∷_, _++_, map}
-use Prim.Native.Nat.{ℕ, _+_, _-_, _≤_, _<_}
+use Prim.Native.Nat.{ℕ, _+_, _-_, _≤_}
 use lib.ListN.{length, getD, take, drop}
 use lib.Dec.{ltb, leb, eqb}
 use Rattle.lists.specs.Lists.{mem, over, gather, keep, upto}
@@ -14,7 +14,6 @@ use Rattle.table.specs.Language.{byteOf, look}
 use Rattle.tops.specs.Tops.{live}
 use Rattle.tops.specs.Sections.{Section}
 use Rattle.cnf.specs.Clauses.{wordsOf}
-use Rattle.clauses.specs.declared.Listed.{Listed}
 use Rattle.clauses.specs.declared.Listed.the-variants.{List as Words, Refused}
 use Rattle.clauses.specs.declared.returns.Return.{Return}
 use Rattle.clauses.specs.declared.variables.Found.{Found}

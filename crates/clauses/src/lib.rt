@@ -6,7 +6,7 @@ ghost use Rattle.table.specs.Reading.{Readable, startsOf};
 ghost use Rattle.tops.specs.Tops.{topWords};
 ghost use Rattle.clauses.specs.Clauses.{clausesOf};
 ghost use Rattle.clauses.specs.Emit.{state, Ordered, emit, Ready, listBy, listedBy};
-ghost use Rattle.clauses.specs.Demands.{Sound};
+ghost use Rattle.clauses.specs.Demands.{ListSound};
 use emit::Tally;
 use moves::moves;
 use returns::live_returns;
@@ -111,7 +111,7 @@ fn list_read(table: &[u8], starts: Starts, tops: &[u32; 24], list: &mut [u16]) -
 // The clause list of a table.
 pub fn clauses(table: &[u8], list: &mut [u16]) -> Listed
     ensures { λ r. ⌜ record { answer = r; list = now (list .exit) } ≡ clausesOf standard (now (table .entry)) (now (list .entry)) ⌝ }
-    ensures sound { λ r. ⌜ Sound standard (now (table .entry)) (now (list .exit)) r ⌝ }
+    ensures sound { λ r. ⌜ ListSound standard (now (table .entry)) (now (list .exit)) r ⌝ }
 {
     let e = tops::examine(table);
     if e.number != 0 {

@@ -72,7 +72,7 @@ fn return_tops(
     let mut rest = word;
     'tops: while rest != 0 {
         let u = next_top(rest);
-        if count as u32 <= u {
+        if u >= count as u32 {
             return at;
         }
         at = return_clause(section, x, q, u as u8, at, list);

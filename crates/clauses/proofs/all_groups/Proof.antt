@@ -5,12 +5,6 @@ use Rattle.clauses.proofs.Whole.{groups}
 use borrow.Author.Needs.{needs}
 use Rattle.clauses.proofs.all_groups.Statement.{statement}
 use Rattle.clauses.proofs.all_groups.Tie as tie
-use Rattle.clauses.proofs.all_groups.Reads as reads
-use Rattle.clauses.proofs.all_groups.Lts as lts
-use Rattle.clauses.proofs.moves.moves.Reads as moves-reads
-use Rattle.clauses.proofs.returns.live_returns.Reads as live-returns-reads
-use Rattle.clauses.proofs.states.looks_apart.Reads as looks-apart-reads
-use Rattle.clauses.proofs.states.transitive.Reads as transitive-reads
 
 cast-count : tie.Need-cast-count
 cast-count c = search needs

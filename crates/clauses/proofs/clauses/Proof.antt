@@ -3,10 +3,6 @@ use Rattle.clauses.proofs.Whole.{read, unread, sound-of}
 use borrow.Author.Needs.{needs}
 use Rattle.clauses.proofs.clauses.Statement.{statement}
 use Rattle.clauses.proofs.clauses.Tie as tie
-use Rattle.clauses.proofs.clauses.Reads as reads
-use Rattle.clauses.proofs.clauses.Lts as lts
-use Rattle.clauses.proofs.list_read.Reads as list-read-reads
-use Rattle.tops.proofs.examine.Reads as examine-reads
 
 examine-requires : tie.Need-examine-requires
 examine-requires c κs = search needs

@@ -5,9 +5,6 @@ use Rattle.clauses.proofs.Whole.{parts-ready, parts-listed}
 use borrow.Author.Needs.{needs}
 use Rattle.clauses.proofs.list_read.Statement.{statement}
 use Rattle.clauses.proofs.list_read.Tie as tie
-use Rattle.clauses.proofs.list_read.Reads as reads
-use Rattle.clauses.proofs.list_read.Lts as lts
-use Rattle.clauses.proofs.list_sections.Reads as list-sections-reads
 
 sub-end : tie.Need-sub-end
 sub-end c = long _ _ (c .before .before .pre .0) (c .before .before .pre .1)

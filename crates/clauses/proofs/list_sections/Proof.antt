@@ -3,9 +3,6 @@ use Rattle.clauses.proofs.Writing.{refused, delivered}
 use borrow.Author.Needs.{needs}
 use Rattle.clauses.proofs.list_sections.Statement.{statement}
 use Rattle.clauses.proofs.list_sections.Tie as tie
-use Rattle.clauses.proofs.list_sections.Reads as reads
-use Rattle.clauses.proofs.list_sections.Lts as lts
-use Rattle.clauses.proofs.all_groups.Reads as all-groups-reads
 
 all-groups-requires : tie.Need-all-groups-requires
 all-groups-requires c κs = search needs

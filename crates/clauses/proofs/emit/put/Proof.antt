@@ -10,9 +10,6 @@ use Rattle.clauses.proofs.Collecting.{whole}
 use Rattle.clauses.proofs.Emitting.{put-full, put-counted, put-short, put-stored}
 use Rattle.clauses.proofs.emit.put.Statement.{statement}
 use Rattle.clauses.proofs.emit.put.Tie as tie
-use Rattle.clauses.proofs.emit.put.Reads as reads
-use Rattle.clauses.proofs.emit.put.Lts as lts
-use Rattle.clauses.proofs.emit.store.Reads as store-reads
 
 -- the clause has as many literals as it says
 n-literals : (c : tie.Start) → c .args .clause .n ≡ length (literalsOf (c .args .clause))

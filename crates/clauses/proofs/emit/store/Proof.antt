@@ -7,8 +7,6 @@ use borrow.Author.Needs.{needs}
 use Rattle.clauses.proofs.Collecting.{whole, Storing, storing, store-on, stored, stored-length}
 use Rattle.clauses.proofs.emit.store.Statement.{statement}
 use Rattle.clauses.proofs.emit.store.Tie as tie
-use Rattle.clauses.proofs.emit.store.Reads as reads
-use Rattle.clauses.proofs.emit.store.Lts as lts
 
 abbrev Inv-literals : tie.InvT-literals
 Inv-literals rest₀ clause n i₀ rest i = Storing n (clause .words) rest₀ rest i

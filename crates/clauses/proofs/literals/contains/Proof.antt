@@ -7,8 +7,6 @@ use borrow.Author.Needs.{needs}
 use Rattle.clauses.proofs.Collecting.{whole, Seeking, seeking, seek-on, sought, unseen}
 use Rattle.clauses.proofs.literals.contains.Statement.{statement}
 use Rattle.clauses.proofs.literals.contains.Tie as tie
-use Rattle.clauses.proofs.literals.contains.Reads as reads
-use Rattle.clauses.proofs.literals.contains.Lts as lts
 
 abbrev Inv-literals : tie.InvT-literals
 Inv-literals l c n i₀ i = Seeking l (c .words) n i

@@ -4,9 +4,6 @@ use borrow.Author.Needs.{needs}
 use Rattle.clauses.proofs.Pairs.{variable-byte}
 use Rattle.clauses.proofs.literals.parted.Statement.{statement}
 use Rattle.clauses.proofs.literals.parted.Tie as tie
-use Rattle.clauses.proofs.literals.parted.Reads as reads
-use Rattle.clauses.proofs.literals.parted.Lts as lts
-use Rattle.clauses.proofs.variables.variable_of.Reads as variable-of-reads
 
 -- src/literals.rt:27:9
 variable-of-requires : tie.Need-variable-of-requires

@@ -4,9 +4,6 @@ use borrow.Author.Needs.{needs}
 use Rattle.clauses.proofs.Collecting.{whole, kept-literal, new-literal}
 use Rattle.clauses.proofs.literals.with_literal.Statement.{statement}
 use Rattle.clauses.proofs.literals.with_literal.Tie as tie
-use Rattle.clauses.proofs.literals.with_literal.Reads as reads
-use Rattle.clauses.proofs.literals.with_literal.Lts as lts
-use Rattle.clauses.proofs.literals.contains.Reads as contains-reads
 
 -- src/literals.rt:66:8
 contains-requires : tie.Need-contains-requires

@@ -7,13 +7,6 @@ use Rattle.clauses.specs.Emit.{literalsOf, matchingFrom, lastBytes}
 use Rattle.clauses.proofs.Targeting.{Targeting, targeting, room, target-itself, target-both, target-on, targets-done}
 use Rattle.clauses.proofs.matched.matched.Statement.{statement}
 use Rattle.clauses.proofs.matched.matched.Tie as tie
-use Rattle.clauses.proofs.matched.matched.Reads as reads
-use Rattle.clauses.proofs.matched.matched.Lts as lts
-use Rattle.clauses.proofs.emit.put.Reads as put-reads
-use Rattle.clauses.proofs.literals.contains.Reads as contains-reads
-use Rattle.clauses.proofs.literals.joined.Reads as joined-reads
-use Rattle.clauses.proofs.literals.opposed.Reads as opposed-reads
-use Rattle.clauses.proofs.literals.with_literal.Reads as with-literal-reads
 
 abbrev Inv-targets : tie.InvT-targets
 Inv-targets found width target tally list clause₀ at₀ clause at = Targeting found width target (matchingFrom (literalsOf clause₀) target (lastBytes width found)) clause at

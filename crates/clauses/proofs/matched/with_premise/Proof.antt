@@ -4,10 +4,6 @@ use Rattle.clauses.proofs.Targeting.{premise-none, premise-one}
 use borrow.Author.Needs.{needs}
 use Rattle.clauses.proofs.matched.with_premise.Statement.{statement}
 use Rattle.clauses.proofs.matched.with_premise.Tie as tie
-use Rattle.clauses.proofs.matched.with_premise.Reads as reads
-use Rattle.clauses.proofs.matched.with_premise.Lts as lts
-use Rattle.clauses.proofs.literals.parted.Reads as parted-reads
-use Rattle.clauses.proofs.literals.with_literal.Reads as with-literal-reads
 
 returns : tie.Need-returns
 returns c = premise-none _ _ _ (whole (c .before .args .c .words) (c .before .good .0 .1 .1 .0 .1 .0 .1)) (c .before .pre) (c .if1 .taken)

@@ -4,12 +4,6 @@ use Rattle.clauses.proofs.Moving.{move-self, move-room, move-other}
 use borrow.Author.Needs.{needs}
 use Rattle.clauses.proofs.moves.move_clause.Statement.{statement}
 use Rattle.clauses.proofs.moves.move_clause.Tie as tie
-use Rattle.clauses.proofs.moves.move_clause.Reads as reads
-use Rattle.clauses.proofs.moves.move_clause.Lts as lts
-use Rattle.clauses.proofs.literals.no_literals.Reads as no-literals-reads
-use Rattle.clauses.proofs.matched.matched.Reads as matched-reads
-use Rattle.clauses.proofs.matched.with_premise.Reads as with-premise-reads
-use Rattle.clauses.proofs.targets.starting.Reads as starting-reads
 
 returns : tie.Need-returns
 returns c = move-self _ _ _ _ _ _ (c .if1 .taken)

@@ -1,6 +1,5 @@
 -- `clauses::moves::move_record` meets its contract: the states so far have their clauses. Assumes nothing.
 use Prim.Native.Nat.{_-_}
-use native.Mathlib.Omega.{arith}
 use borrow.Author.Needs.{needs}
 use Rattle.lists.specs.Lists.{gather, upto}
 use Rattle.table.specs.File.{records}
@@ -9,9 +8,6 @@ use Rattle.clauses.specs.Emit.{state}
 use Rattle.clauses.proofs.Stepping.{Over, over-all, over-on, over-done}
 use Rattle.clauses.proofs.moves.move_record.Statement.{statement}
 use Rattle.clauses.proofs.moves.move_record.Tie as tie
-use Rattle.clauses.proofs.moves.move_record.Reads as reads
-use Rattle.clauses.proofs.moves.move_record.Lts as lts
-use Rattle.clauses.proofs.moves.move_clause.Reads as move-clause-reads
 
 abbrev Inv-states : tie.InvT-states
 Inv-states section p a target count list₀ at₀ q₀ list at q = Over (λ q. moveClause (records 3 section) p a target q) count (gather (λ q. moveClause (records 3 section) p a target q) (upto count)) (state at₀ list₀) q (state at list)

@@ -1,6 +1,5 @@
 -- `clauses::moves::moves` meets its contract: the records so far have their clauses. Assumes nothing.
 use Prim.Native.Nat.{_-_}
-use native.Mathlib.Omega.{arith}
 use lib.ListN.{length, getD}
 use borrow.Author.Needs.{needs}
 use Rattle.lists.specs.Lists.{gather, upto}
@@ -12,9 +11,6 @@ use Rattle.clauses.proofs.Stepping.{Along, along-all, along-done}
 use Rattle.clauses.proofs.Moving.{move-turn}
 use Rattle.clauses.proofs.moves.moves.Statement.{statement}
 use Rattle.clauses.proofs.moves.moves.Tie as tie
-use Rattle.clauses.proofs.moves.moves.Reads as reads
-use Rattle.clauses.proofs.moves.moves.Lts as lts
-use Rattle.clauses.proofs.moves.move_record.Reads as move-record-reads
 
 abbrev Inv-records : tie.InvT-records
 Inv-records section count list₀ so-far₀ at₀ list so-far at = Along (λ r. gather (λ q. moveClause (records 3 section) (getD r 0 0) (getD r 1 0) (getD r 2 0) q) (upto count)) 3 section (moveClauses (records 3 section) count) (state so-far₀ list₀) at (state so-far list)

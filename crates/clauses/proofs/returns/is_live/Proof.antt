@@ -3,9 +3,6 @@ use Rattle.lists.specs.Bits.{has, hasBit}
 use borrow.Author.Needs.{needs}
 use Rattle.clauses.proofs.returns.is_live.Statement.{statement}
 use Rattle.clauses.proofs.returns.is_live.Tie as tie
-use Rattle.clauses.proofs.returns.is_live.Reads as reads
-use Rattle.clauses.proofs.returns.is_live.Lts as lts
-use Rattle.clauses.proofs.returns.wide.Reads as wide-reads
 
 wide-requires : tie.Need-wide-requires
 wide-requires c κs = search needs

@@ -4,10 +4,6 @@ use Rattle.clauses.proofs.Returning.{dead, alive}
 use borrow.Author.Needs.{needs}
 use Rattle.clauses.proofs.returns.live_record.Statement.{statement}
 use Rattle.clauses.proofs.returns.live_record.Tie as tie
-use Rattle.clauses.proofs.returns.live_record.Reads as reads
-use Rattle.clauses.proofs.returns.live_record.Lts as lts
-use Rattle.clauses.proofs.returns.is_live.Reads as is-live-reads
-use Rattle.clauses.proofs.returns.return_record.Reads as return-record-reads
 
 is-live-requires : tie.Need-is-live-requires
 is-live-requires c κs = search needs

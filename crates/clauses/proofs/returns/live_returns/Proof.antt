@@ -10,9 +10,6 @@ use Rattle.clauses.proofs.Stepping.{Along, along-done}
 use Rattle.clauses.proofs.Returning.{fieldsOf, return-all, from-few, under-few, return-turn}
 use Rattle.clauses.proofs.returns.live_returns.Statement.{statement}
 use Rattle.clauses.proofs.returns.live_returns.Tie as tie
-use Rattle.clauses.proofs.returns.live_returns.Reads as reads
-use Rattle.clauses.proofs.returns.live_returns.Lts as lts
-use Rattle.clauses.proofs.returns.live_record.Reads as live-record-reads
 
 abbrev Inv-records : tie.InvT-records
 Inv-records section tops count list₀ so-far₀ at₀ list so-far at = Along (λ r. liveRecord (records 4 section) tops count (fieldsOf r)) 4 section (returnClausesBy tops (records 4 section) count) (state so-far₀ list₀) at (state so-far list)

@@ -5,13 +5,6 @@ use Rattle.clauses.proofs.Returning.{return-self, return-room, return-o
 use borrow.Author.Needs.{needs}
 use Rattle.clauses.proofs.returns.return_clause.Statement.{statement}
 use Rattle.clauses.proofs.returns.return_clause.Tie as tie
-use Rattle.clauses.proofs.returns.return_clause.Reads as reads
-use Rattle.clauses.proofs.returns.return_clause.Lts as lts
-use Rattle.clauses.proofs.literals.no_literals.Reads as no-literals-reads
-use Rattle.clauses.proofs.matched.matched.Reads as matched-reads
-use Rattle.clauses.proofs.matched.with_premise.Reads as with-premise-reads
-use Rattle.clauses.proofs.returns.same_place.Reads as same-place-reads
-use Rattle.clauses.proofs.targets.starting.Reads as starting-reads
 
 same-place-requires : tie.Need-same-place-requires
 same-place-requires c κs = search needs

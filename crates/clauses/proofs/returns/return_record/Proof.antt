@@ -1,6 +1,5 @@
 -- `clauses::returns::return_record` meets its contract: the states so far have their clauses. Assumes nothing.
 use Prim.Native.Nat.{_-_}
-use native.Mathlib.Omega.{arith}
 use borrow.Author.Needs.{needs}
 use Rattle.lists.specs.Lists.{gather, upto}
 use Rattle.table.specs.File.{records}
@@ -10,10 +9,6 @@ use Rattle.clauses.proofs.Stepping.{Over, over-all, over-on, over-done}
 use Rattle.clauses.proofs.Returning.{of-word}
 use Rattle.clauses.proofs.returns.return_record.Statement.{statement}
 use Rattle.clauses.proofs.returns.return_record.Tie as tie
-use Rattle.clauses.proofs.returns.return_record.Reads as reads
-use Rattle.clauses.proofs.returns.return_record.Lts as lts
-use Rattle.clauses.proofs.returns.return_tops.Reads as return-tops-reads
-use Rattle.clauses.proofs.returns.wide.Reads as wide-reads
 
 abbrev Inv-states : tie.InvT-states
 Inv-states section tops x count list₀ at₀ q₀ list at q = Over (λ q. gather (λ u. returnOf (records 4 section) x q u) (topStates tops count q)) count (gather (λ q. gather (λ u. returnOf (records 4 section) x q u) (topStates tops count q)) (upto count)) (state at₀ list₀) q (state at list)

@@ -1,6 +1,5 @@
 -- `clauses::returns::return_tops` meets its contract: the tops so far have their clauses. Assumes nothing.
 use native.Mathlib.Omega.{arith}
-use mathlib.Core.Path.{sym, _∙_}
 use borrow.Author.Needs.{needs}
 use Rattle.lists.specs.Lists.{gather, keep, upto}
 use Rattle.lists.specs.Bits.{hasBit}
@@ -9,11 +8,6 @@ use Rattle.clauses.specs.Emit.{returnOf, state}
 use Rattle.clauses.proofs.Returning.{Toward, toward, toward-less, toward-on, toward-past, toward-done}
 use Rattle.clauses.proofs.returns.return_tops.Statement.{statement}
 use Rattle.clauses.proofs.returns.return_tops.Tie as tie
-use Rattle.clauses.proofs.returns.return_tops.Reads as reads
-use Rattle.clauses.proofs.returns.return_tops.Lts as lts
-use Rattle.clauses.proofs.returns.return_clause.Reads as return-clause-reads
-use Rattle.tops.proofs.later_tops.Reads as later-tops-reads
-use Rattle.tops.proofs.next_top.Reads as next-top-reads
 
 abbrev Inv-tops : tie.InvT-tops
 Inv-tops section x q word count list₀ at₀ rest₀ list at rest = Toward (λ u. returnOf (records 4 section) x q u) count (gather (λ u. returnOf (records 4 section) x q u) (keep (hasBit word) (upto count))) (state at₀ list₀) rest (state at list)

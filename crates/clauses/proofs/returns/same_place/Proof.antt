@@ -2,8 +2,6 @@
 use borrow.Author.Tests.{eq-eqb, ne-eqb}
 use Rattle.clauses.proofs.returns.same_place.Statement.{statement}
 use Rattle.clauses.proofs.returns.same_place.Tie as tie
-use Rattle.clauses.proofs.returns.same_place.Reads as reads
-use Rattle.clauses.proofs.returns.same_place.Lts as lts
 
 returns : tie.Need-returns
 returns c = rw (ne-eqb _ _ (c .if1 .taken))

@@ -5,12 +5,6 @@ use Rattle.clauses.proofs.Pairwise.{closed}
 use borrow.Author.Needs.{needs}
 use Rattle.clauses.proofs.states.close.Statement.{statement}
 use Rattle.clauses.proofs.states.close.Tie as tie
-use Rattle.clauses.proofs.states.close.Reads as reads
-use Rattle.clauses.proofs.states.close.Lts as lts
-use Rattle.clauses.proofs.emit.put.Reads as put-reads
-use Rattle.clauses.proofs.literals.joined.Reads as joined-reads
-use Rattle.clauses.proofs.literals.parted.Reads as parted-reads
-use Rattle.clauses.proofs.states.three.Reads as three-reads
 
 parted-requires : tie.Need-parted-requires
 parted-requires c κs = search needs

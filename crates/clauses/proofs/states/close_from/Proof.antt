@@ -1,6 +1,5 @@
 -- `clauses::states::close_from` meets its contract: the states so far have their clauses. Assumes nothing.
 use Prim.Native.Nat.{_-_}
-use native.Mathlib.Omega.{arith}
 use borrow.Author.Needs.{needs}
 use Rattle.lists.specs.Lists.{gather}
 use Rattle.clauses.specs.Clauses.{triangle, past}
@@ -8,9 +7,6 @@ use Rattle.clauses.specs.Emit.{state}
 use Rattle.clauses.proofs.Stepping.{Over, over-past, over-on, over-done}
 use Rattle.clauses.proofs.states.close_from.Statement.{statement}
 use Rattle.clauses.proofs.states.close_from.Tie as tie
-use Rattle.clauses.proofs.states.close_from.Reads as reads
-use Rattle.clauses.proofs.states.close_from.Lts as lts
-use Rattle.clauses.proofs.states.close_over.Reads as close-over-reads
 
 abbrev Inv-states : tie.InvT-states
 Inv-states p count list₀ at₀ q₀ list at q = Over (λ q. gather (λ s. triangle p q s) (past count q)) count (gather (λ q. gather (λ s. triangle p q s) (past count q)) (past count p)) (state at₀ list₀) q (state at list)

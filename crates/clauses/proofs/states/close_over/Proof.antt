@@ -1,6 +1,5 @@
 -- `clauses::states::close_over` meets its contract: the states so far have their clauses. Assumes nothing.
 use Prim.Native.Nat.{_-_}
-use native.Mathlib.Omega.{arith}
 use borrow.Author.Needs.{needs}
 use Rattle.lists.specs.Lists.{gather}
 use Rattle.clauses.specs.Clauses.{triangle, past}
@@ -8,9 +7,6 @@ use Rattle.clauses.specs.Emit.{state}
 use Rattle.clauses.proofs.Stepping.{Over, over-past, over-on, over-done}
 use Rattle.clauses.proofs.states.close_over.Statement.{statement}
 use Rattle.clauses.proofs.states.close_over.Tie as tie
-use Rattle.clauses.proofs.states.close_over.Reads as reads
-use Rattle.clauses.proofs.states.close_over.Lts as lts
-use Rattle.clauses.proofs.states.close.Reads as close-reads
 
 abbrev Inv-states : tie.InvT-states
 Inv-states p q count list₀ at₀ s₀ list at s = Over (λ s. triangle p q s) count (gather (λ s. triangle p q s) (past count q)) (state at₀ list₀) s (state at list)

@@ -7,13 +7,6 @@ use Rattle.clauses.proofs.Pairwise.{placed, alone, look-same, look-othe
 use borrow.Author.Needs.{needs}
 use Rattle.clauses.proofs.states.look_apart.Statement.{statement}
 use Rattle.clauses.proofs.states.look_apart.Tie as tie
-use Rattle.clauses.proofs.states.look_apart.Reads as reads
-use Rattle.clauses.proofs.states.look_apart.Lts as lts
-use Rattle.clauses.proofs.emit.put.Reads as put-reads
-use Rattle.clauses.proofs.literals.no_literals.Reads as no-literals-reads
-use Rattle.clauses.proofs.literals.with_literal.Reads as with-literal-reads
-use Rattle.clauses.proofs.states.wide.Reads as wide-reads
-use Rattle.clauses.proofs.variables.pair_of.Reads as pair-of-reads
 
 pair-of-requires : tie.Need-pair-of-requires
 pair-of-requires c κs = search needs

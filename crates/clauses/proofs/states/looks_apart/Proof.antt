@@ -9,10 +9,6 @@ use Rattle.clauses.proofs.Stepping.{Over, over-all, over-on, over-done}
 use Rattle.clauses.proofs.Pairwise.{looked}
 use Rattle.clauses.proofs.states.looks_apart.Statement.{statement}
 use Rattle.clauses.proofs.states.looks_apart.Tie as tie
-use Rattle.clauses.proofs.states.looks_apart.Reads as reads
-use Rattle.clauses.proofs.states.looks_apart.Lts as lts
-use Rattle.clauses.proofs.states.look_apart.Reads as look-apart-reads
-use Rattle.clauses.proofs.variables.pairs_of.Reads as pairs-of-reads
 
 abbrev Inv-variables : tie.InvT-variables
 Inv-variables states list₀ end at₀ v₀ list at v = Over (λ v. lookClause (statesOnly states) (pairOf v .low) (pairOf v .high)) end (gather (λ v. lookClause (statesOnly states) (pairOf v .low) (pairOf v .high)) (upto end)) (state at₀ list₀) v (state at list)

@@ -1,6 +1,5 @@
 -- `clauses::states::transitive` meets its contract: the states so far have their clauses. Assumes nothing.
 use Prim.Native.Nat.{_-_}
-use native.Mathlib.Omega.{arith}
 use borrow.Author.Needs.{needs}
 use Rattle.lists.specs.Lists.{gather, upto}
 use Rattle.clauses.specs.Clauses.{triangle, past, transitivity}
@@ -8,9 +7,6 @@ use Rattle.clauses.specs.Emit.{state}
 use Rattle.clauses.proofs.Stepping.{Over, over-all, over-on, over-done}
 use Rattle.clauses.proofs.states.transitive.Statement.{statement}
 use Rattle.clauses.proofs.states.transitive.Tie as tie
-use Rattle.clauses.proofs.states.transitive.Reads as reads
-use Rattle.clauses.proofs.states.transitive.Lts as lts
-use Rattle.clauses.proofs.states.close_from.Reads as close-from-reads
 
 abbrev Inv-states : tie.InvT-states
 Inv-states states list₀ count at₀ p₀ list at p = Over (λ p. gather (λ q. gather (λ s. triangle p q s) (past count q)) (past count p)) count (gather (λ p. gather (λ q. gather (λ s. triangle p q s) (past count q)) (past count p)) (upto count)) (state at₀ list₀) p (state at list)

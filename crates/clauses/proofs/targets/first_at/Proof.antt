@@ -8,10 +8,6 @@ use Rattle.table.specs.File.{records}
 use Rattle.clauses.proofs.Spanning.{length-records, Halving, halving, upper-half, lower-half, halved}
 use Rattle.clauses.proofs.targets.first_at.Statement.{statement}
 use Rattle.clauses.proofs.targets.first_at.Tie as tie
-use Rattle.clauses.proofs.targets.first_at.Reads as reads
-use Rattle.clauses.proofs.targets.first_at.Lts as lts
-use Rattle.clauses.proofs.targets.record_at.Reads as record-at-reads
-use Rattle.clauses.proofs.targets.stands_before.Reads as stands-before-reads
 
 abbrev Inv-halves : tie.InvT-halves
 Inv-halves section width key low₀ high₀ low high = Halving (records width section) key (length section / width) low high

@@ -9,10 +9,6 @@ use Rattle.table.specs.File.{records}
 use Rattle.clauses.proofs.Spanning.{length-records, Passing, passing, pass-on, pass-end, passed-all}
 use Rattle.clauses.proofs.targets.last_at.Statement.{statement}
 use Rattle.clauses.proofs.targets.last_at.Tie as tie
-use Rattle.clauses.proofs.targets.last_at.Reads as reads
-use Rattle.clauses.proofs.targets.last_at.Lts as lts
-use Rattle.clauses.proofs.targets.record_at.Reads as record-at-reads
-use Rattle.clauses.proofs.targets.starts_with.Reads as starts-with-reads
 
 abbrev Inv-records : tie.InvT-records
 Inv-records section width key from i₀ i = Passing (records width section) key (length section / width) from i

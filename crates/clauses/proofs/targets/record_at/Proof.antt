@@ -4,8 +4,6 @@ use Rattle.clauses.proofs.Spanning.{record-inside, record-is}
 use borrow.Author.Needs.{needs}
 use Rattle.clauses.proofs.targets.record_at.Statement.{statement}
 use Rattle.clauses.proofs.targets.record_at.Tie as tie
-use Rattle.clauses.proofs.targets.record_at.Reads as reads
-use Rattle.clauses.proofs.targets.record_at.Lts as lts
 
 mul-at : tie.Need-mul-at
 mul-at c = omega (arith, record-inside (c .args .width) (c .args .section .now) (c .args .i) (c .pre), c .good .0 .0)

@@ -5,8 +5,6 @@ use borrow.Author.Needs.{needs}
 use Rattle.table.proofs.Walks.{Abreast, abreast, longer, less, more, equal, ended}
 use Rattle.clauses.proofs.targets.stands_before.Statement.{statement}
 use Rattle.clauses.proofs.targets.stands_before.Tie as tie
-use Rattle.clauses.proofs.targets.stands_before.Reads as reads
-use Rattle.clauses.proofs.targets.stands_before.Lts as lts
 
 abbrev Inv-bytes : tie.InvT-bytes
 Inv-bytes x y i₀ i = Abreast x y i

@@ -1,15 +1,9 @@
 -- `clauses::targets::starting` meets its contract. Assumes nothing.
-use Prim.Native.Nat.{_*_}
 use native.Mathlib.Omega.{arith}
-use lib.ListN.{length}
 use Rattle.clauses.proofs.Spanning.{Span, no-width, starts-before, ends-within, found}
 use borrow.Author.Needs.{needs}
 use Rattle.clauses.proofs.targets.starting.Statement.{statement}
 use Rattle.clauses.proofs.targets.starting.Tie as tie
-use Rattle.clauses.proofs.targets.starting.Reads as reads
-use Rattle.clauses.proofs.targets.starting.Lts as lts
-use Rattle.clauses.proofs.targets.first_at.Reads as first-at-reads
-use Rattle.clauses.proofs.targets.last_at.Reads as last-at-reads
 
 slice-aggregate-result : tie.Need-slice-aggregate-result
 slice-aggregate-result c = search needs

@@ -5,8 +5,6 @@ use borrow.Author.Needs.{needs}
 use Rattle.clauses.proofs.Spanning.{Starting, begun, too-short, another, start-on, starts}
 use Rattle.clauses.proofs.targets.starts_with.Statement.{statement}
 use Rattle.clauses.proofs.targets.starts_with.Tie as tie
-use Rattle.clauses.proofs.targets.starts_with.Reads as reads
-use Rattle.clauses.proofs.targets.starts_with.Lts as lts
 
 abbrev Inv-bytes : tie.InvT-bytes
 Inv-bytes key fields i₀ i = Starting key fields i

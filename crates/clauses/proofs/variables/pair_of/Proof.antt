@@ -1,11 +1,8 @@
 -- `clauses::variables::pair_of` meets its contract: the states so far have all the pairs below. Assumes nothing.
-use native.Mathlib.Omega.{arith}
 use borrow.Author.Needs.{needs}
 use Rattle.clauses.proofs.Pairs.{Finding, finding, find-on, found}
 use Rattle.clauses.proofs.variables.pair_of.Statement.{statement}
 use Rattle.clauses.proofs.variables.pair_of.Tie as tie
-use Rattle.clauses.proofs.variables.pair_of.Reads as reads
-use Rattle.clauses.proofs.variables.pair_of.Lts as lts
 
 abbrev Inv-states : tie.InvT-states
 Inv-states v low₀ high₀ low high = Finding v low high

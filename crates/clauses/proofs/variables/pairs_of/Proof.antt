@@ -1,6 +1,4 @@
 -- `clauses::variables::pairs_of` meets its contract. Assumes nothing.
-use mathlib.Core.Path.{refl}
-use native.Mathlib.Omega.{arith}
 use borrow.Author.Needs.{needs}
 use Rattle.clauses.specs.Pairs.{pairs}
 use Rattle.clauses.proofs.Pairs.{product-byte}

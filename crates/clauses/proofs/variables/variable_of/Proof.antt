@@ -6,9 +6,6 @@ use Rattle.clauses.specs.Pairs.{variableOf}
 use Rattle.clauses.proofs.Pairs.{pairs-byte}
 use Rattle.clauses.proofs.variables.variable_of.Statement.{statement}
 use Rattle.clauses.proofs.variables.variable_of.Tie as tie
-use Rattle.clauses.proofs.variables.variable_of.Reads as reads
-use Rattle.clauses.proofs.variables.variable_of.Lts as lts
-use Rattle.clauses.proofs.variables.pairs_of.Reads as pairs-of-reads
 
 pairs-of-requires : tie.Need-pairs-of-requires
 pairs-of-requires c κs = search needs
