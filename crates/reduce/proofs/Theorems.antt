@@ -31,7 +31,7 @@ use Rattle.quotient.specs.Demands.{IsQuotient}
 use Rattle.quotient.proofs.Theorems.{is-quotient, keeps-words}
 use Rattle.quotient.proofs.Quotienting.{small}
 use Rattle.reduce.specs.Reduce.{Reduced, beforeSearch, searchOfTable, reduceOf, reductionNumber}
-use Rattle.reduce.specs.Demands.{KeepsWords, DeliversQuotient, DeliversChecked, DeliversMaximal, FewGuesses, mapWritten}
+use Rattle.reduce.specs.Demands.{OnDelivery, KeepsWords, DeliversQuotient, DeliversChecked, DeliversMaximal, FewGuesses, mapWritten}
 use Rattle.reduce.specs.declared.Reduction.{Reduction}
 use Rattle.reduce.specs.declared.Reduction.the-variants.{Delivered, Refused}
 use Rattle.reduce.proofs.Ways.{FirstNumber, of-reading, map-short, list-long, first-number, Begun, Solved, Ways, refused-first, refused-spent, refused-short, delivers, reduce-ways}
@@ -67,6 +67,16 @@ module _ (L : Limits) (b : List ℕ) (budget : ℕ) (list map out : List ℕ) wh
   -- "No map meeting Definition 1 joins all pairs of a delivered map and one more."
   pub delivers-maximal : DeliversMaximal (reduceOf L b budget list map out .answer) b (reduceOf L b budget list map out .map)
   delivers-maximal = maximal-ways (reduce-ways L b budget list map out)
+
+  fits-ways : {r : Reduced} → Ways L b budget list map out r → OnDelivery (r .answer) (λ c g w l. l ≤ length out)
+  fits-ways (refused-first k e n) = tt
+  fits-ways (refused-spent g h e) = tt
+  fits-ways (refused-short v g s l) = tt
+  fits-ways (delivers v g s l) = l
+
+  -- what is delivered fits the output
+  pub delivers-fitting : OnDelivery (reduceOf L b budget list map out .answer) (λ c g w l. l ≤ length out)
+  delivers-fitting = fits-ways (reduce-ways L b budget list map out)
 
   guesses-ways : {r : Reduced} → Ways L b budget list map out r → FewGuesses (r .answer) b
   unfolding searchOfTable pairs
@@ -165,3 +175,8 @@ module _ (b : List ℕ) (budget : ℕ) (list map out : List ℕ) {r : Reduction}
 
       few : FewGuesses r b
       few = subst (λ (d : Reduced). FewGuesses (d .answer) b) (sym e) (few-guesses standard b budget list map out)
+
+  pub delivered-fits : {c g w l : ℕ} → r ≡ Delivered c g w l → l ≤ length out
+  delivered-fits f =
+      subst (λ (x : Reduction). OnDelivery x (λ c g w l. l ≤ length out)) f
+      (subst (λ (d : Reduced). OnDelivery (d .answer) (λ c g w l. l ≤ length out)) (sym e) (delivers-fitting standard b budget list map out))
