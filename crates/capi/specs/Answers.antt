@@ -14,6 +14,7 @@ use Rattle.search.specs.Answers.{Searched, solutionNumber, solutionValues}
 use Rattle.maps.specs.declared.Checked.{Checked}
 use Rattle.maps.specs.Check.{checkedNumber, checkedValues}
 use Rattle.quotient.specs.Quotient.{QuotientDone, writtenNumber, writtenValues}
+use Rattle.reduce.specs.Reduce.{Reduced, reductionNumber, reductionValues}
 
 -- the values at the front of the buffer, where it has room for all of them
 unfoldable pub stored : List ℕ → List ℕ → List ℕ
@@ -47,3 +48,6 @@ module _ (values : List ℕ) where
 
   unfoldable pub quotientOut : QuotientDone → Out
   quotientOut r = out values (writtenNumber (r .answer)) (writtenValues (r .answer)) (r .out ∷ [])
+
+  unfoldable pub reduceOut : Reduced → Out
+  reduceOut r = out values (reductionNumber (r .answer)) (reductionValues (r .answer)) (r .list ∷ r .map ∷ r .out ∷ [])

@@ -10,10 +10,12 @@ ghost use Rattle.clauses.specs.Clauses.{clausesOf};
 ghost use Rattle.search.specs.Answers.{searchOf};
 ghost use Rattle.maps.specs.Check.{checkOf};
 ghost use Rattle.quotient.specs.Quotient.{quotientOf};
-ghost use Rattle.capi.specs.Answers.{stored, readOut, topsOut, clausesOut, searchOut, checkOut, quotientOut};
+ghost use Rattle.reduce.specs.Reduce.{reduceOf};
+ghost use Rattle.capi.specs.Answers.{stored, readOut, topsOut, clausesOut, searchOut, checkOut, quotientOut, reduceOut};
 use clauses::Listed;
 use maps::Checked;
 use quotient::Written;
+use reduce::Reduction;
 use search::Solution;
 use table::Reading;
 
@@ -166,5 +168,36 @@ pub extern "C" fn basilvault_quotient(
             0
         }
         Written::Refused(number) => number as u32,
+    }
+}
+
+// Reduces a table. Four values: classes, guesses, clause words and the quotient's length.
+#[no_mangle]
+pub extern "C" fn basilvault_reduce(
+    table: &[u8],
+    budget: u64,
+    list: &mut [u16],
+    map: &mut [u8],
+    out: &mut [u8],
+    values: &mut [u64],
+) -> u32
+    ensures { λ r. ⌜
+        record { number = r; buffers = now (list .exit) ∷ now (map .exit) ∷ now (out .exit) ∷ []; values = now (values .exit) }
+        ≡ reduceOut (now (values .entry))
+        (reduceOf standard (now (table .entry)) budget (now (list .entry)) (now (map .entry)) (now (out .entry))) ⌝ }
+{
+    let reduction = reduce::reduce(table, budget, list, map, out);
+    match reduction {
+        Reduction::Delivered {
+            classes,
+            guesses,
+            words,
+            length,
+        } => {
+            let answer = [classes as u64, guesses, words as u64, length as u64];
+            store(&answer, values);
+            0
+        }
+        Reduction::Refused(number) => number as u32,
     }
 }
