@@ -290,7 +290,11 @@ fn main() {
     compare_short_values(&random::table(&mut r, 5, false));
     for i in 0..cases {
         let most = if i % 100 == 0 { 24 } else if i % 7 == 0 { 12 } else { 7 };
-        let t = random::any_table(&mut r, most);
+        let mut t = random::any_table(&mut r, most);
+        if most < 12 && r.chance(15) {
+            let more = 1 + r.below(3);
+            t = random::with_unreachable(&mut r, &t, more);
+        }
         let valid = t.bytes();
         let b = if r.chance(25) { random::damaged(&mut r, &valid) } else { valid.clone() };
         compare_read(&b, &mut c);

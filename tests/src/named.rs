@@ -106,6 +106,18 @@ pub fn longest() -> Table {
     Table { symbols, states: vec![1; 24], internals: moves(0), calls: moves(2), returns }
 }
 
+/// A series: countries that hold places, each place named and located once, in either order, and a country closed only when it holds a place.
+/// Symbols: 0 name, 1 locate, 2 country, 3 place, 4 close. States 2 to 5 are a country's first place, 6 to 9 a later one.
+pub fn atlas() -> Table {
+    Table {
+        symbols: vec![0, 0, 1, 1, 2],
+        states: vec![3, 0, 0, 0, 0, 0, 0, 0, 0, 0, 0],
+        internals: vec![[2, 0, 3], [2, 1, 4], [3, 1, 5], [4, 0, 5], [6, 0, 7], [6, 1, 8], [7, 1, 9], [8, 0, 9]],
+        calls: vec![[0, 2, 1], [1, 3, 2], [10, 3, 6]],
+        returns: vec![[5, 4, 1, 10], [9, 4, 10, 10], [10, 4, 0, 0]],
+    }
+}
+
 /// The paper's first observation: states 1 and 2 differ on a return that 2 cannot take, since its stack is always empty.
 pub fn unreachable_stack() -> Table {
     t_with_return([2, 2, 0, 0])

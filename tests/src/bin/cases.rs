@@ -4,6 +4,7 @@
 #[path = "../frames.rs"]
 mod frames;
 #[path = "../named.rs"]
+#[allow(dead_code)]
 mod named;
 #[path = "../random.rs"]
 #[allow(dead_code)]

@@ -1,0 +1,34 @@
+//! Writes the example tables: `tables ROOT` writes the files of tables/ below ROOT.
+
+#[path = "../named.rs"]
+#[allow(dead_code)]
+mod named;
+#[path = "../random.rs"]
+#[allow(dead_code)]
+mod random;
+#[path = "../reference.rs"]
+#[allow(dead_code)]
+mod reference;
+
+use random::Random;
+
+fn main() {
+    let root = std::env::args().nth(1).expect("the repository's folder");
+    let mut r = Random::new(7);
+    let mut damaged = named::t().bytes();
+    damaged.swap(7, 10);
+    let tables = [
+        ("t", named::t().bytes()),
+        ("atlas", named::atlas().bytes()),
+        ("unreachable_stack", named::unreachable_stack().bytes()),
+        ("not_transitive", named::not_transitive().bytes()),
+        ("joined_stack_symbols", named::joined_stack_symbols().bytes()),
+        ("two_undone", named::two_undone().bytes()),
+        ("copies", random::blown_up(&mut r, 20, true).bytes()),
+        ("longest", named::longest().bytes()),
+        ("damaged", damaged),
+    ];
+    for (name, bytes) in tables {
+        std::fs::write(format!("{root}/tables/{name}.bin"), bytes).unwrap();
+    }
+}
