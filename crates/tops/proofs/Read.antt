@@ -13,9 +13,10 @@ use Rattle.lists.specs.Lists.{same}
 use Rattle.lists.specs.Bits.{onesOver}
 use Rattle.table.specs.Limits.{Limits, standard}
 use Rattle.table.specs.File.{Table, trailer, distance, start, tableOf}
-use Rattle.table.specs.Sections.{sectioned}
+use Rattle.table.specs.Sections.{sectioned, partOf}
 use Rattle.table.specs.Reading.{readNumber, Readable, startsOf, readOf}
 use Rattle.table.specs.declared.Starts.{Starts}
+use Rattle.table.specs.declared.view.Section.the-variants.{States, Internals, Calls, Returns}
 use Rattle.table.specs.declared.Reading.{Reading}
 use Rattle.table.specs.declared.Reading.the-variants.{Sections as SectionsAt, Refused as RefusedBy}
 use Rattle.table.proofs.Passed.{Passed, read-passed, framed-distances}
@@ -92,7 +93,7 @@ module _ (b : List ℕ) (readable : Readable standard b) where
       let e : topsOf standard b ≡ topsFound standard t = rw (eq-eqb (readNumber standard b) 0 readable, topsOf) in
       found-alike standard (t .states) (t .internals) (t .calls) (t .returns) [] (t .symbols) ∙ sym e
 
--- ---- as the code takes them: the parts of the file between the starts
+-- ---- as the code takes them: the parts that the starts give
 
 module _ (b : List ℕ) (s : Starts) (readable : Readable standard b) (starts : s ≡ startsOf b) where
   pub long : 12 ≤ length b
@@ -101,26 +102,28 @@ module _ (b : List ℕ) (s : Starts) (readable : Readable standard b) (starts : 
   pub ordered : Follow b s (length b - 12)
   ordered = follow b s (length b - 12) (omega (arith, long)) (framed-distances b (read-passed standard b readable .framed)) starts
 
-  states-part : take (s .internals - s .states) (drop (s .states) b) ≡ slice (start b 1) (start b 2) b
-  unfolding startsOf
-  states-part = part (s .states) (s .internals) b (ordered .states) ∙ (λ i. slice (starts i .states) (starts i .internals) b)
+module _ (b : List ℕ) (s : Starts) (readable : Readable standard b) (starts : s ≡ startsOf b) {states internals calls returns : List ℕ}
+    (e1 : states ≡ partOf b s States) (e2 : internals ≡ partOf b s Internals) (e3 : calls ≡ partOf b s Calls) (e4 : returns ≡ partOf b s Returns) where
+  states-part : states ≡ slice (start b 1) (start b 2) b
+  unfolding partOf startsOf
+  states-part = e1 ∙ ap (λ u. partOf b u States) starts
 
-  internals-part : take (s .calls - s .internals) (drop (s .internals) b) ≡ slice (start b 2) (start b 3) b
-  unfolding startsOf
-  internals-part = part (s .internals) (s .calls) b (ordered .internals) ∙ (λ i. slice (starts i .internals) (starts i .calls) b)
+  internals-part : internals ≡ slice (start b 2) (start b 3) b
+  unfolding partOf startsOf
+  internals-part = e2 ∙ ap (λ u. partOf b u Internals) starts
 
-  calls-part : take (s .returns - s .calls) (drop (s .calls) b) ≡ slice (start b 3) (start b 4) b
-  unfolding startsOf
-  calls-part = part (s .calls) (s .returns) b (ordered .calls) ∙ (λ i. slice (starts i .calls) (starts i .returns) b)
+  calls-part : calls ≡ slice (start b 3) (start b 4) b
+  unfolding partOf startsOf
+  calls-part = e3 ∙ ap (λ u. partOf b u Calls) starts
 
-  returns-part : take (length b - 12 - s .returns) (drop (s .returns) b) ≡ slice (start b 4) (trailer b) b
-  unfolding startsOf trailer
-  returns-part = part (s .returns) (length b - 12) b (ordered .returns) ∙ (λ i. slice (starts i .returns) (length b - 12) b)
+  returns-part : returns ≡ slice (start b 4) (trailer b) b
+  unfolding partOf startsOf
+  returns-part = e4 ∙ ap (λ u. partOf b u Returns) starts
 
-  pub parts-sections : Sections (take (s .internals - s .states) (drop (s .states) b)) (take (s .calls - s .internals) (drop (s .internals) b)) (take (s .returns - s .calls) (drop (s .calls) b)) (take (length b - 12 - s .returns) (drop (s .returns) b))
+  pub parts-sections : Sections states internals calls returns
   parts-sections = rw (states-part, internals-part, calls-part, returns-part) (sections-read b readable)
 
-  pub parts-tops : topsFound standard (sectioned [] (take (s .internals - s .states) (drop (s .states) b)) (take (s .calls - s .internals) (drop (s .internals) b)) (take (s .returns - s .calls) (drop (s .calls) b)) (take (length b - 12 - s .returns) (drop (s .returns) b))) ≡ topsOf standard b
+  pub parts-tops : topsFound standard (sectioned [] states internals calls returns) ≡ topsOf standard b
   parts-tops = rw (states-part, internals-part, calls-part, returns-part) (tops-read b readable)
 
 -- ---- the answer with the starts
