@@ -1,13 +1,14 @@
--- The parts of a read table that are handed on, one law for each way to a return of src/view.rt, and the table that they hold. Assumes nothing.
-use mathlib.Core.Path.{_≡_, refl, sym, ap, _∙_}
+-- The parts of a read table that are handed on: one law for each way to a return of src/view.rt, and the sections that they are. Assumes nothing.
+use mathlib.Core.Path.{_≡_, sym, ap, _∙_}
 use mathlib.Core.List.{List, [], _∷_}
 use Prim.Native.Nat.{ℕ, zero, suc, _-_, _≤_, _<_}
 use native.Mathlib.Omega.{arith}
 use lib.ListN.{length, take, drop, drop-of-length-le}
 use lib.Seq.{slice, take-nil, take-all, drop-length}
-use Rattle.table.specs.File.{trailer, tableOf}
+use Rattle.table.specs.Limits.{Limits}
+use Rattle.table.specs.File.{trailer, start, records, tableOf}
 use Rattle.table.specs.Reading.{startsOf}
-use Rattle.table.specs.Sections.{sectioned, partOf}
+use Rattle.table.specs.Sections.{ReadAs, partOf}
 use Rattle.table.specs.declared.Starts.{Starts}
 use Rattle.table.specs.declared.view.Section.{Section}
 use Rattle.table.specs.declared.view.Section.the-variants.{Symbols, States, Internals, Calls, Returns}
@@ -52,28 +53,68 @@ no-trailer b h = omega arith
 -- ---- which section
 
 module _ (b : List ℕ) (s : Starts) (w : Section) where
-  pub symbols-part : w ≡ Symbols → slice (s .symbols) (s .states) b ≡ partOf b s w
+  pub of-symbols : w ≡ Symbols → slice (s .symbols) (s .states) b ≡ partOf b s w
   unfolding partOf
-  symbols-part e = ap (partOf b s) (sym e)
+  of-symbols e = ap (partOf b s) (sym e)
 
-  pub states-part : w ≡ States → slice (s .states) (s .internals) b ≡ partOf b s w
+  pub of-states : w ≡ States → slice (s .states) (s .internals) b ≡ partOf b s w
   unfolding partOf
-  states-part e = ap (partOf b s) (sym e)
+  of-states e = ap (partOf b s) (sym e)
 
-  pub internals-part : w ≡ Internals → slice (s .internals) (s .calls) b ≡ partOf b s w
+  pub of-internals : w ≡ Internals → slice (s .internals) (s .calls) b ≡ partOf b s w
   unfolding partOf
-  internals-part e = ap (partOf b s) (sym e)
+  of-internals e = ap (partOf b s) (sym e)
 
-  pub calls-part : w ≡ Calls → slice (s .calls) (s .returns) b ≡ partOf b s w
+  pub of-calls : w ≡ Calls → slice (s .calls) (s .returns) b ≡ partOf b s w
   unfolding partOf
-  calls-part e = ap (partOf b s) (sym e)
+  of-calls e = ap (partOf b s) (sym e)
 
-  pub returns-part : {end : ℕ} → end ≡ trailer b → w ≡ Returns → slice (s .returns) end b ≡ partOf b s w
+  pub of-returns : {end : ℕ} → end ≡ trailer b → w ≡ Returns → slice (s .returns) end b ≡ partOf b s w
   unfolding partOf
-  returns-part h e = ap (λ n. slice (s .returns) n b) h ∙ ap (partOf b s) (sym e)
+  of-returns h e = ap (λ n. slice (s .returns) n b) h ∙ ap (partOf b s) (sym e)
 
--- ---- the table that the five parts hold
+-- ---- the parts at the starts that reading answers
 
-pub parts-table : (b : List ℕ) (s : Starts) → s ≡ startsOf b → sectioned (partOf b s Symbols) (partOf b s States) (partOf b s Internals) (partOf b s Calls) (partOf b s Returns) ≡ tableOf b
-unfolding sectioned partOf tableOf startsOf
-parts-table b s e = λ i. sectioned (partOf b (e i) Symbols) (partOf b (e i) States) (partOf b (e i) Internals) (partOf b (e i) Calls) (partOf b (e i) Returns)
+module _ (b : List ℕ) {s : Starts} (e : s ≡ startsOf b) where
+  pub symbols-at : partOf b s Symbols ≡ slice (start b 0) (start b 1) b
+  unfolding partOf startsOf
+  symbols-at = ap (λ u. partOf b u Symbols) e
+
+  pub states-at : partOf b s States ≡ slice (start b 1) (start b 2) b
+  unfolding partOf startsOf
+  states-at = ap (λ u. partOf b u States) e
+
+  pub internals-at : partOf b s Internals ≡ slice (start b 2) (start b 3) b
+  unfolding partOf startsOf
+  internals-at = ap (λ u. partOf b u Internals) e
+
+  pub calls-at : partOf b s Calls ≡ slice (start b 3) (start b 4) b
+  unfolding partOf startsOf
+  calls-at = ap (λ u. partOf b u Calls) e
+
+  pub returns-at : partOf b s Returns ≡ slice (start b 4) (trailer b) b
+  unfolding partOf startsOf
+  returns-at = ap (λ u. partOf b u Returns) e
+
+-- ---- the sections of a read table
+
+module _ {L : Limits} {b : List ℕ} {s : Starts} (h : ReadAs L b s) where
+  pub symbols-read : partOf b s Symbols ≡ tableOf b .symbols
+  unfolding tableOf
+  symbols-read = symbols-at b (h .starts)
+
+  pub states-read : partOf b s States ≡ tableOf b .states
+  unfolding tableOf
+  states-read = states-at b (h .starts)
+
+  pub internals-read : records 3 (partOf b s Internals) ≡ tableOf b .internals
+  unfolding tableOf
+  internals-read = ap (records 3) (internals-at b (h .starts))
+
+  pub calls-read : records 3 (partOf b s Calls) ≡ tableOf b .calls
+  unfolding tableOf
+  calls-read = ap (records 3) (calls-at b (h .starts))
+
+  pub returns-read : records 4 (partOf b s Returns) ≡ tableOf b .returns
+  unfolding tableOf
+  returns-read = ap (records 4) (returns-at b (h .starts))

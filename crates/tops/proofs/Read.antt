@@ -5,7 +5,7 @@ use mathlib.Core.Bool.{Bool, true, false}
 use mathlib.Core.List.{List, [], _++_}
 use Prim.Native.Nat.{ℕ, zero, suc, _-_, _*_, _%_, _≤_}
 use native.Mathlib.Omega.{arith}
-use lib.ListN.{length, replicate, take, drop}
+use lib.ListN.{length, replicate}
 use lib.Seq.{slice, length-slice}
 use lib.Dec.{eqb}
 use borrow.Author.Tests.{eq-eqb, ne-eqb, eqb-true, eqb-false}
@@ -20,7 +20,8 @@ use Rattle.table.specs.declared.view.Section.the-variants.{States, Internals, C
 use Rattle.table.specs.declared.Reading.{Reading}
 use Rattle.table.specs.declared.Reading.the-variants.{Sections as SectionsAt, Refused as RefusedBy}
 use Rattle.table.proofs.Passed.{Passed, read-passed, framed-distances}
-use Rattle.table.proofs.Numbers.{Follow, follow, part}
+use Rattle.table.proofs.Numbers.{Follow, follow}
+use Rattle.table.proofs.Parts.{states-at, internals-at, calls-at, returns-at}
 use Rattle.table.proofs.Bytes.{read-well-formed}
 use Rattle.table.proofs.Facts.{internals-fit, calls-fit, returns-fit, few-states}
 use Rattle.tops.specs.Tops.{round, rounds, startWords, topWords, topCount, topsOf}
@@ -102,29 +103,13 @@ module _ (b : List ℕ) (s : Starts) (readable : Readable standard b) (starts : 
   pub ordered : Follow b s (length b - 12)
   ordered = follow b s (length b - 12) (omega (arith, long)) (framed-distances b (read-passed standard b readable .framed)) starts
 
-module _ (b : List ℕ) (s : Starts) (readable : Readable standard b) (starts : s ≡ startsOf b) {states internals calls returns : List ℕ}
+module _ (b : List ℕ) {s : Starts} (readable : Readable standard b) (starts : s ≡ startsOf b) {states internals calls returns : List ℕ}
     (e1 : states ≡ partOf b s States) (e2 : internals ≡ partOf b s Internals) (e3 : calls ≡ partOf b s Calls) (e4 : returns ≡ partOf b s Returns) where
-  states-part : states ≡ slice (start b 1) (start b 2) b
-  unfolding partOf startsOf
-  states-part = e1 ∙ ap (λ u. partOf b u States) starts
-
-  internals-part : internals ≡ slice (start b 2) (start b 3) b
-  unfolding partOf startsOf
-  internals-part = e2 ∙ ap (λ u. partOf b u Internals) starts
-
-  calls-part : calls ≡ slice (start b 3) (start b 4) b
-  unfolding partOf startsOf
-  calls-part = e3 ∙ ap (λ u. partOf b u Calls) starts
-
-  returns-part : returns ≡ slice (start b 4) (trailer b) b
-  unfolding partOf startsOf
-  returns-part = e4 ∙ ap (λ u. partOf b u Returns) starts
-
   pub parts-sections : Sections states internals calls returns
-  parts-sections = rw (states-part, internals-part, calls-part, returns-part) (sections-read b readable)
+  parts-sections = rw (e1 ∙ states-at b starts, e2 ∙ internals-at b starts, e3 ∙ calls-at b starts, e4 ∙ returns-at b starts) (sections-read b readable)
 
   pub parts-tops : topsFound standard (sectioned [] states internals calls returns) ≡ topsOf standard b
-  parts-tops = rw (states-part, internals-part, calls-part, returns-part) (tops-read b readable)
+  parts-tops = rw (e1 ∙ states-at b starts, e2 ∙ internals-at b starts, e3 ∙ calls-at b starts, e4 ∙ returns-at b starts) (tops-read b readable)
 
 -- ---- the answer with the starts
 
