@@ -19,8 +19,7 @@ use Rattle.table.specs.declared.Starts.{Starts}
 use Rattle.table.specs.declared.view.Section.the-variants.{States, Internals, Calls, Returns}
 use Rattle.table.specs.declared.Reading.{Reading}
 use Rattle.table.specs.declared.Reading.the-variants.{Sections as SectionsAt, Refused as RefusedBy}
-use Rattle.table.proofs.Passed.{Passed, read-passed, framed-distances}
-use Rattle.table.proofs.Numbers.{Follow, follow}
+use Rattle.table.proofs.Passed.{Passed, read-passed}
 use Rattle.table.proofs.Parts.{states-at, internals-at, calls-at, returns-at}
 use Rattle.table.proofs.Bytes.{read-well-formed}
 use Rattle.table.proofs.Facts.{internals-fit, calls-fit, returns-fit, few-states}
@@ -95,13 +94,6 @@ module _ (b : List ℕ) (readable : Readable standard b) where
       found-alike standard (t .states) (t .internals) (t .calls) (t .returns) [] (t .symbols) ∙ sym e
 
 -- ---- as the code takes them: the parts that the starts give
-
-module _ (b : List ℕ) (s : Starts) (readable : Readable standard b) (starts : s ≡ startsOf b) where
-  pub long : 12 ≤ length b
-  long = read-passed standard b readable .long
-
-  pub ordered : Follow b s (length b - 12)
-  ordered = follow b s (length b - 12) (omega (arith, long)) (framed-distances b (read-passed standard b readable .framed)) starts
 
 module _ (b : List ℕ) {s : Starts} (readable : Readable standard b) (starts : s ≡ startsOf b) {states internals calls returns : List ℕ}
     (e1 : states ≡ partOf b s States) (e2 : internals ≡ partOf b s Internals) (e3 : calls ≡ partOf b s Calls) (e4 : returns ≡ partOf b s Returns) where
