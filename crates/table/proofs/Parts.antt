@@ -98,23 +98,23 @@ module _ (b : List ℕ) {s : Starts} (e : s ≡ startsOf b) where
 
 -- ---- the sections of a read table
 
-module _ {L : Limits} {b : List ℕ} {s : Starts} (h : ReadAs L b s) where
-  pub symbols-read : partOf b s Symbols ≡ tableOf b .symbols
+module _ {L : Limits} {b : List ℕ} {s : Starts} (h : ReadAs L b s) {x : List ℕ} where
+  pub symbols-read : x ≡ partOf b s Symbols → x ≡ tableOf b .symbols
   unfolding tableOf
-  symbols-read = symbols-at b (h .starts)
+  symbols-read e = e ∙ symbols-at b (h .starts)
 
-  pub states-read : partOf b s States ≡ tableOf b .states
+  pub states-read : x ≡ partOf b s States → x ≡ tableOf b .states
   unfolding tableOf
-  states-read = states-at b (h .starts)
+  states-read e = e ∙ states-at b (h .starts)
 
-  pub internals-read : records 3 (partOf b s Internals) ≡ tableOf b .internals
+  pub internals-read : x ≡ partOf b s Internals → records 3 x ≡ tableOf b .internals
   unfolding tableOf
-  internals-read = ap (records 3) (internals-at b (h .starts))
+  internals-read e = ap (records 3) (e ∙ internals-at b (h .starts))
 
-  pub calls-read : records 3 (partOf b s Calls) ≡ tableOf b .calls
+  pub calls-read : x ≡ partOf b s Calls → records 3 x ≡ tableOf b .calls
   unfolding tableOf
-  calls-read = ap (records 3) (calls-at b (h .starts))
+  calls-read e = ap (records 3) (e ∙ calls-at b (h .starts))
 
-  pub returns-read : records 4 (partOf b s Returns) ≡ tableOf b .returns
+  pub returns-read : x ≡ partOf b s Returns → records 4 x ≡ tableOf b .returns
   unfolding tableOf
-  returns-read = ap (records 4) (returns-at b (h .starts))
+  returns-read e = ap (records 4) (e ∙ returns-at b (h .starts))
