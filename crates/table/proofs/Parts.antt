@@ -3,12 +3,12 @@ use mathlib.Core.Path.{_≡_, sym, ap, _∙_}
 use mathlib.Core.List.{List, [], _∷_}
 use Prim.Native.Nat.{ℕ, zero, suc, _-_, _≤_, _<_}
 use native.Mathlib.Omega.{arith}
-use lib.ListN.{length, take, drop, drop-of-length-le}
+use lib.ListN.{length, getD, take, drop, drop-of-length-le, List·getD-eq-default}
 use lib.Seq.{slice, take-nil, take-all, drop-length}
 use Rattle.table.specs.Limits.{Limits}
 use Rattle.table.specs.File.{trailer, start, records, tableOf}
 use Rattle.table.specs.Reading.{startsOf}
-use Rattle.table.specs.Sections.{ReadAs, partOf}
+use Rattle.table.specs.Sections.{ReadAs, partOf, stateByte}
 use Rattle.table.specs.declared.Starts.{Starts}
 use Rattle.table.specs.declared.view.Section.{Section}
 use Rattle.table.specs.declared.view.Section.the-variants.{Symbols, States, Internals, Calls, Returns}
@@ -44,12 +44,6 @@ module _ (f t : ℕ) (b : List ℕ) where
   pub inside : f < t → take (t - f) (drop f b) ≡ slice f t b
   inside h = part f t b (omega arith)
 
--- ---- the trailer
-
-pub no-trailer : (b : List ℕ) → length b < 12 → 0 ≡ trailer b
-unfolding trailer
-no-trailer b h = omega arith
-
 -- ---- which section
 
 module _ (b : List ℕ) (s : Starts) (w : Section) where
@@ -72,6 +66,17 @@ module _ (b : List ℕ) (s : Starts) (w : Section) where
   pub of-returns : {end : ℕ} → end ≡ trailer b → w ≡ Returns → slice (s .returns) end b ≡ partOf b s w
   unfolding partOf
   of-returns h e = ap (λ n. slice (s .returns) n b) h ∙ ap (partOf b s) (sym e)
+
+-- ---- a state's byte
+
+module _ (b : List ℕ) (s : Starts) (q : ℕ) {x : List ℕ} (e : x ≡ partOf b s States) where
+  pub state-there : getD x q 0 ≡ stateByte b s q
+  unfolding stateByte
+  state-there = ap (λ y. getD y q 0) e
+
+  pub state-past : length x ≤ q → 0 ≡ stateByte b s q
+  unfolding stateByte
+  state-past h = sym (List·getD-eq-default x 0 {n = q} h) ∙ state-there
 
 -- ---- the parts at the starts that reading answers
 

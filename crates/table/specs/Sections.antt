@@ -4,6 +4,7 @@ use mathlib.Core.Path.{_≡_}
 use mathlib.Core.Bool.{true, false}
 use mathlib.Core.List.{List, [], _∷_}
 use Prim.Native.Nat.{ℕ, suc}
+use lib.ListN.{getD}
 use lib.Seq.{slice}
 use Rattle.table.specs.Limits.{Limits}
 use Rattle.table.specs.File.{Table, trailer, records}
@@ -35,6 +36,10 @@ partOf b s States = slice (s .states) (s .internals) b
 partOf b s Internals = slice (s .internals) (s .calls) b
 partOf b s Calls = slice (s .calls) (s .returns) b
 partOf b s Returns = slice (s .returns) (trailer b) b
+
+-- "States, one byte each": a state's byte; 0 past the count
+unfoldable pub stateByte : List ℕ → Starts → ℕ → ℕ
+stateByte b s q = getD (partOf b s States) q 0
 
 -- the index of the first record that does not stand before the key; their count where there is none
 unfoldable pub firstAt : List (List ℕ) → List ℕ → ℕ

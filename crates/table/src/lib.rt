@@ -14,7 +14,11 @@ ghost use Rattle.table.specs.Sections.{sectioned};
 mod view;
 
 pub use view::Section;
+pub use view::TableView;
 pub use view::part;
+pub use view::view_of;
+pub use view::view_part;
+pub use view::view_state;
 
 // "Reading answers the five section starts."
 pub struct Starts {

@@ -2,10 +2,9 @@
 // walks of their own, so each hands the bytes and the starts to a function above it in this file; `part` has plain parameters and serves every
 // caller. Nothing is asked of the starts: bytes that are not there are left out of a section.
 ghost use mathlib.Core.Path.{_≡_};
-ghost use lib.ListN.{getD};
 ghost use lib.Seq.{slice};
 ghost use Rattle.table.specs.File.{trailer};
-ghost use Rattle.table.specs.Sections.{partOf};
+ghost use Rattle.table.specs.Sections.{partOf, stateByte};
 use crate::Starts;
 
 // Which of the five sections.
@@ -67,18 +66,36 @@ fn part_at<'a>(bytes: &'a [u8], starts: Starts, which: Section) -> &'a [u8]
     }
 }
 
+// A state's byte; 0 past the count.
+fn state_at(bytes: &[u8], starts: Starts, q: usize) -> u8
+    ensures { λ r. ⌜ r ≡ stateByte (now (bytes .entry)) starts q ⌝ }
+{
+    let states = part_at(bytes, starts, Section::States);
+    if q < states.len() {
+        return states[q];
+    }
+    0
+}
+
 // The view of bytes and starts.
-fn view_of<'a>(bytes: &'a [u8], starts: Starts) -> TableView<'a>
+pub fn view_of<'a>(bytes: &'a [u8], starts: Starts) -> TableView<'a>
     ensures { λ r. ⌜ (r .bytes ≡ bytes .entry) × (r .starts ≡ starts) ⌝ }
 {
     TableView { bytes, starts }
 }
 
 // The part of a view's bytes that is a section.
-fn view_part<'a>(view: TableView<'a>, which: Section) -> &'a [u8]
+pub fn view_part<'a>(view: TableView<'a>, which: Section) -> &'a [u8]
     ensures { λ r. ⌜ now r ≡ partOf (now (view .entry .bytes)) (view .entry .starts) which ⌝ }
 {
     part_at(view.bytes, view.starts, which)
+}
+
+// The byte of a view's state.
+pub fn view_state<'a>(view: TableView<'a>, q: usize) -> u8
+    ensures { λ r. ⌜ r ≡ stateByte (now (view .entry .bytes)) (view .entry .starts) q ⌝ }
+{
+    state_at(view.bytes, view.starts, q)
 }
 
 // The part of a read table that is a section, by its bytes and starts.

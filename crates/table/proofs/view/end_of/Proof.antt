@@ -1,12 +1,13 @@
 -- `table::view::end_of` meets its contract: the trailer starts 12 bytes before the end, or at 0 where there are not so many. Assumes nothing.
 use mathlib.Core.Path.{refl}
+use native.Mathlib.Omega.{arith}
 use Rattle.table.specs.File.{trailer}
-use Rattle.table.proofs.Parts.{no-trailer}
 use Rattle.table.proofs.view.end_of.Statement.{statement}
 use Rattle.table.proofs.view.end_of.Tie as tie
 
 returns : tie.Need-returns
-returns c = no-trailer _ (c .if1 .taken)
+unfolding trailer
+returns c = omega (arith, c .if1 .taken)
 
 returns-2 : tie.Need-returns-2
 unfolding trailer
