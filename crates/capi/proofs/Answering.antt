@@ -1,47 +1,53 @@
--- An answer as a number and values. Assumes nothing.
-use mathlib.Core.Path.{_≡_, refl, sym, ap, _∙_, subst}
-use mathlib.Core.Bool.{true, false}
+-- An answer's values stored where there is room, and an answer as a number, buffers and values. Assumes nothing.
+use mathlib.Core.Path.{_≡_, sym, ap, _∙_}
+use mathlib.Core.Logic.{_≢_}
 use mathlib.Core.List.{List, [], _∷_, _++_}
-use Prim.Native.Nat.{ℕ, zero, suc, _≤_, _<_}
+use Prim.Native.Nat.{ℕ, _≤_, _<_}
 use native.Mathlib.Omega.{arith}
-use lib.ListN.{length, set}
-use lib.Dec.{leb}
-use borrow.Author.Tests.{le-leb, lt-leb}
+use lib.ListN.{length, drop, replicate}
+use borrow.Author.Tests.{le-leb, lt-leb, ne-eqb}
 use Rattle.lists.specs.Lists.{over}
-use Rattle.search.specs.Answers.{Searched, solutionNumber, solutionValues}
-use Rattle.search.specs.declared.Solution.{Solution}
-use Rattle.search.specs.declared.Solution.the-variants.{Solved, Refused}
-use Rattle.capi.specs.Answers.{stored, SearchOut, searchOut}
+use Rattle.tops.specs.declared.TopWords.{TopWords}
+use Rattle.tops.specs.Tops.{topsValues}
+use Rattle.search.proofs.Answering.{Writing, write-all}
+use Rattle.capi.specs.Answers.{stored, out}
 
-stored-none : (buffer : List ℕ) → stored [] buffer ≡ buffer
-unfolding stored over
-stored-none buffer = rw (le-leb 0 (length buffer) (omega arith), stored)
+-- ---- storing
 
-stored-one : (v : ℕ) (buffer : List ℕ) → 1 ≤ length buffer → stored (v ∷ []) buffer ≡ set buffer 0 v
-unfolding stored over
-stored-one v [] h = absurd (omega arith)
-stored-one v (x ∷ buffer) h = rw (le-leb 1 (suc (length buffer)) h, stored)
-
-stored-short : (v : ℕ) (buffer : List ℕ) → length buffer < 1 → stored (v ∷ []) buffer ≡ buffer
+pub stored-all : (vs values : List ℕ) → length vs ≤ length values → stored vs values ≡ over vs values
 unfolding stored
-stored-short v buffer h = rw (lt-leb 1 (length buffer) h, stored)
+stored-all vs values h = rw (le-leb (length vs) (length values) h, stored)
 
--- what the search answered, as the code found it
-module _ {r : Solution} {a : List ℕ} {s : Searched} (e : record { solution = r; answer = a } ≡ s) (values : List ℕ) where
-  out : {x : Solution} → r ≡ x → {vs : List ℕ} → stored (solutionValues x) values ≡ vs → record { number = solutionNumber x; answer = a; values = vs } ≡ searchOut s values
-  unfolding searchOut
-  out {x} f {vs} g =
-      let k : record { solution = x; answer = a } ≡ s = (λ i. record { solution = sym f i; answer = a }) ∙ e in
-      (λ i. record { number = solutionNumber x; answer = a; values = sym g i }) ∙ ap (λ (t : Searched). searchOut t values) k
+pub stored-short : (vs values : List ℕ) → length values < length vs → stored vs values ≡ values
+unfolding stored
+stored-short vs values h = rw (lt-leb (length vs) (length values) h, stored)
 
-  pub solved-out : {k : ℕ} → r ≡ Solved k → 1 ≤ length values → record { number = 0; answer = a; values = set values 0 k } ≡ searchOut s values
-  unfolding solutionNumber solutionValues
-  solved-out {k} f h = out f (stored-one k values h)
+pub stored-none : (values : List ℕ) → stored [] values ≡ values
+unfolding over
+stored-none values = stored-all [] values (omega arith)
 
-  pub solved-short : {k : ℕ} → r ≡ Solved k → length values < 1 → record { number = 0; answer = a; values = values } ≡ searchOut s values
-  unfolding solutionNumber solutionValues
-  solved-short {k} f h = out f (stored-short k values h)
+-- the words stand in all places but the last
+module _ {found : ℕ} {words all : List ℕ} {q : ℕ} (l : length words ≡ 24) (w : Writing words (replicate 25 found) all q) where
+  pub last-kept : 24 ≤ q → all ≡ words ++ (found ∷ [])
+  unfolding over
+  last-kept h = write-all w (omega arith) ∙ ap (λ n. words ++ drop n (replicate 25 found)) l
 
-  pub refused-out : {n : ℕ} → r ≡ Refused n → record { number = n; answer = a; values = values } ≡ searchOut s values
-  unfolding solutionNumber solutionValues
-  refused-out f = out f (stored-none values)
+-- ---- an answer whose number is m and whose values are vs, as the code found them
+
+module _ (values : List ℕ) {m n : ℕ} (e : m ≡ n) {vs : List ℕ} {buffers : List (List ℕ)} where
+  pub answered :
+      {ws new : List ℕ} → vs ≡ ws → new ≡ stored ws values →
+      record { number = n; buffers = buffers; values = new } ≡ out values m vs buffers
+  unfolding out
+  answered f g = let h = g ∙ ap (λ us. stored us values) (sym f) in λ i. record { number = sym e i; buffers = buffers; values = h i }
+
+  pub refused : vs ≡ [] → record { number = n; buffers = buffers; values = values } ≡ out values m vs buffers
+  refused f = answered f (sym (stored-none values))
+
+pub tops-found : (r : TopWords) → r .number ≡ 0 → topsValues r ≡ r .words ++ (r .found ∷ [])
+unfolding topsValues
+tops-found r e = rw (e, topsValues)
+
+pub tops-refused : (r : TopWords) → r .number ≢ 0 → topsValues r ≡ []
+unfolding topsValues
+tops-refused r h = rw (ne-eqb (r .number) 0 h, topsValues)

@@ -1,20 +1,53 @@
 -- What the C interface returns and writes, from the operations' answers. Assumes nothing.
-use mathlib.Core.Bool.{Bool, true, false}
-use mathlib.Core.List.{List}
+use mathlib.Core.Bool.{true, false}
+use mathlib.Core.List.{List, [], _∷_}
 use Prim.Native.Nat.{ℕ}
 use lib.ListN.{length}
 use lib.Dec.{leb}
 use Rattle.lists.specs.Lists.{over}
+use Rattle.table.specs.declared.Reading.{Reading}
+use Rattle.table.specs.Reading.{readingNumber, readingValues}
+use Rattle.tops.specs.declared.TopWords.{TopWords}
+use Rattle.tops.specs.Tops.{topsValues}
+use Rattle.clauses.specs.Clauses.{ClausesDone, listedNumber, listedValues}
 use Rattle.search.specs.Answers.{Searched, solutionNumber, solutionValues}
+use Rattle.maps.specs.declared.Checked.{Checked}
+use Rattle.maps.specs.Check.{checkedNumber, checkedValues}
+use Rattle.quotient.specs.Quotient.{QuotientDone, writtenNumber, writtenValues}
+use Rattle.reduce.specs.Reduce.{Reduced, reductionNumber, reductionValues}
 
 -- the values at the front of the buffer, where it has room for all of them
 unfoldable pub stored : List ℕ → List ℕ → List ℕ
 stored vs buffer = elim (leb (length vs) (length buffer)) [ true ↦ over vs buffer | false ↦ buffer ]
 
-pub record SearchOut : Type 0 where
+-- what a call returns, and at its exit the operation's buffers and `values`
+pub record Out : Type 0 where
   pub number : ℕ
-  pub answer : List ℕ
+  pub buffers : List (List ℕ)
   pub values : List ℕ
 
-unfoldable pub searchOut : Searched → List ℕ → SearchOut
-searchOut s values = record { number = solutionNumber (s .solution); answer = s .answer; values = stored (solutionValues (s .solution)) values }
+-- from `values` at entry: an answer's number, its values stored, and the operation's buffers
+unfoldable pub out : List ℕ → ℕ → List ℕ → List (List ℕ) → Out
+out values number vs buffers = record { number = number; buffers = buffers; values = stored vs values }
+
+module _ (values : List ℕ) where
+  unfoldable pub readOut : Reading → Out
+  readOut r = out values (readingNumber r) (readingValues r) []
+
+  unfoldable pub topsOut : TopWords → Out
+  topsOut r = out values (r .number) (topsValues r) []
+
+  unfoldable pub clausesOut : ClausesDone → Out
+  clausesOut r = out values (listedNumber (r .answer)) (listedValues (r .answer)) (r .list ∷ [])
+
+  unfoldable pub searchOut : Searched → Out
+  searchOut r = out values (solutionNumber (r .solution)) (solutionValues (r .solution)) (r .answer ∷ [])
+
+  unfoldable pub checkOut : Checked → Out
+  checkOut r = out values (checkedNumber r) (checkedValues r) []
+
+  unfoldable pub quotientOut : QuotientDone → Out
+  quotientOut r = out values (writtenNumber (r .answer)) (writtenValues (r .answer)) (r .out ∷ [])
+
+  unfoldable pub reduceOut : Reduced → Out
+  reduceOut r = out values (reductionNumber (r .answer)) (reductionValues (r .answer)) (r .list ∷ r .map ∷ r .out ∷ [])

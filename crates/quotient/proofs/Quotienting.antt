@@ -210,7 +210,7 @@ module _ {b f : List ℕ} {s : Starts} (k : Known b s f) {symbols states interna
 
 -- ---- the answer
 
-small : Small standard
+pub small : Small standard
 small = record { states = omega arith; symbols = omega arith }
 
 module _ (b m out : List ℕ) where

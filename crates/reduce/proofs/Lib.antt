@@ -1,5 +1,6 @@
 pub mod Marked
 pub mod Ways
+pub mod Stages
 pub mod Theorems
 pub mod Lowest
 pub mod Numbering

@@ -121,4 +121,4 @@ module _ {v : List ℕ} {n next q : ℕ} {low map : List ℕ} (fits : n ≤ 24) 
 pub numbered-all : {v : List ℕ} {n next q : ℕ} {map : List ℕ} → Numbered v n map next q → n ≤ q → MapOf v n (record { map = map; count = next })
 numbered-all {v} {n} {next} {q} {map} h l =
     let e : q ≡ n = omega (arith, h .inside) in
-    record { map = subst (λ (k : ℕ). take k map ≡ mapOf v k) e (h .so-far); count = h .count ∙ ap (λ (k : ℕ). classes (mapOf v k)) e }
+    record { long = h .long; map = subst (λ (k : ℕ). take k map ≡ mapOf v k) e (h .so-far); count = h .count ∙ ap (λ (k : ℕ). classes (mapOf v k)) e }

@@ -13,7 +13,7 @@ use Rattle.cnf.specs.Search.{Outcome, solved, none-exists, spent, unfinished, s
 use Rattle.cnf.proofs.Words.{fit-formed}
 use Rattle.cnf.proofs.Horn.{madeOf}
 use Rattle.cnf.proofs.Theorems.{horn}
-use Rattle.table.specs.Limits.{Limits}
+use Rattle.table.specs.Limits.{Limits, standard}
 use Rattle.table.specs.File.{tableOf}
 use Rattle.table.specs.Reading.{readNumber}
 use Rattle.table.specs.Language.{count, SameWords, OneTarget}
@@ -29,8 +29,10 @@ use Rattle.clauses.proofs.Theorems.{map-proper, none-coarser}
 use Rattle.quotient.specs.Quotient.{quotientBytes}
 use Rattle.quotient.specs.Demands.{IsQuotient}
 use Rattle.quotient.proofs.Theorems.{is-quotient, keeps-words}
+use Rattle.quotient.proofs.Quotienting.{small}
 use Rattle.reduce.specs.Reduce.{Reduced, beforeSearch, searchOfTable, reduceOf, reductionNumber}
-use Rattle.reduce.specs.Demands.{OnDelivery, KeepsWords, DeliversChecked, DeliversMaximal, FewGuesses, mapWritten}
+use Rattle.reduce.specs.Demands.{OnDelivery, KeepsWords, DeliversQuotient, DeliversChecked, DeliversMaximal, FewGuesses, mapWritten}
+use Rattle.reduce.specs.declared.Reduction.{Reduction}
 use Rattle.reduce.specs.declared.Reduction.the-variants.{Delivered, Refused}
 use Rattle.reduce.proofs.Ways.{FirstNumber, of-reading, map-short, list-long, first-number, Begun, Solved, Ways, refused-first, refused-spent, refused-short, delivers, reduce-ways}
 
@@ -66,6 +68,16 @@ module _ (L : Limits) (b : List ℕ) (budget : ℕ) (list map out : List ℕ) wh
   pub delivers-maximal : DeliversMaximal (reduceOf L b budget list map out .answer) b (reduceOf L b budget list map out .map)
   delivers-maximal = maximal-ways (reduce-ways L b budget list map out)
 
+  fits-ways : {r : Reduced} → Ways L b budget list map out r → OnDelivery (r .answer) (λ c g w l. l ≤ length out)
+  fits-ways (refused-first k e n) = tt
+  fits-ways (refused-spent g h e) = tt
+  fits-ways (refused-short v g s l) = tt
+  fits-ways (delivers v g s l) = l
+
+  -- what is delivered fits the output
+  pub delivers-fitting : OnDelivery (reduceOf L b budget list map out .answer) (λ c g w l. l ≤ length out)
+  delivers-fitting = fits-ways (reduce-ways L b budget list map out)
+
   guesses-ways : {r : Reduced} → Ways L b budget list map out r → FewGuesses (r .answer) b
   unfolding searchOfTable pairs
   guesses-ways (refused-first k e n) = tt
@@ -96,7 +108,7 @@ module _ (L : Limits) (b : List ℕ) (budget : ℕ) (list map out : List ℕ) wh
     pub delivers-words : KeepsWords (reduceOf L b budget list map out .answer) b (reduceOf L b budget list map out .out)
     delivers-words = words-ways (reduce-ways L b budget list map out)
 
-    quotient-ways : {r : Reduced} → Ways L b budget list map out r → OnDelivery (r .answer) (λ c g w l. IsQuotient L b (mapWritten b (r .map)) (take l (r .out)))
+    quotient-ways : {r : Reduced} → Ways L b budget list map out r → DeliversQuotient L (r .answer) b (r .map) (r .out)
     unfolding over
     quotient-ways (refused-first k e n) = tt
     quotient-ways (refused-spent g h e) = tt
@@ -109,7 +121,7 @@ module _ (L : Limits) (b : List ℕ) (budget : ℕ) (list map out : List ℕ) wh
         (subst (λ (k : List ℕ). IsQuotient L b k c) (sym (map-written v g s)) (is-quotient L small b m (s .begun .readable) (map-proper L (tableOf b) wf v (s .model))))
 
     -- the written table is the paper's quotient under the delivered map
-    pub delivers-quotient : OnDelivery (reduceOf L b budget list map out .answer) (λ c g w l. IsQuotient L b (mapWritten b (reduceOf L b budget list map out .map)) (take l (reduceOf L b budget list map out .out)))
+    pub delivers-quotient : DeliversQuotient L (reduceOf L b budget list map out .answer) b (reduceOf L b budget list map out .map) (reduceOf L b budget list map out .out)
     delivers-quotient = quotient-ways (reduce-ways L b budget list map out)
 
   -- the numbers that reduce refuses by: "1 to 8; 22 ..; 10; 13; 21". None other comes out, 12 and those of the check among them
@@ -143,3 +155,28 @@ module _ (L : Limits) (b : List ℕ) (budget : ℕ) (list map out : List ℕ) wh
       go (spent-all h) = omega arith
       go (output-short h) = omega arith
       go (delivered h) = omega arith
+
+-- what the contract of reduce says, of the answer and the buffers that the definition gives
+module _ (b : List ℕ) (budget : ℕ) (list map out : List ℕ) {r : Reduction} {list' map' out' : List ℕ} (e : record { answer = r; list = list'; map = map'; out = out' } ≡ reduceOf standard b budget list map out) where
+  pub promised : (_≡_ {A = Reduced} (record { answer = r; list = list'; map = map'; out = out' }) (reduceOf standard b budget list map out)) × (KeepsWords r b out' × (DeliversQuotient standard r b map' out' × (DeliversChecked standard r b map' × (DeliversMaximal r b map' × FewGuesses r b))))
+  promised = (e, (kept, (quotient, (checked, (maximal, few)))))
+    where
+      kept : KeepsWords r b out'
+      kept = subst (λ (d : Reduced). KeepsWords (d .answer) b (d .out)) (sym e) (delivers-words standard b budget list map out small)
+
+      quotient : DeliversQuotient standard r b map' out'
+      quotient = subst (λ (d : Reduced). DeliversQuotient standard (d .answer) b (d .map) (d .out)) (sym e) (delivers-quotient standard b budget list map out small)
+
+      checked : DeliversChecked standard r b map'
+      checked = subst (λ (d : Reduced). DeliversChecked standard (d .answer) b (d .map)) (sym e) (delivers-checked standard b budget list map out)
+
+      maximal : DeliversMaximal r b map'
+      maximal = subst (λ (d : Reduced). DeliversMaximal (d .answer) b (d .map)) (sym e) (delivers-maximal standard b budget list map out)
+
+      few : FewGuesses r b
+      few = subst (λ (d : Reduced). FewGuesses (d .answer) b) (sym e) (few-guesses standard b budget list map out)
+
+  pub delivered-fits : {c g w l : ℕ} → r ≡ Delivered c g w l → l ≤ length out
+  delivered-fits f =
+      subst (λ (x : Reduction). OnDelivery x (λ c g w l. l ≤ length out)) f
+      (subst (λ (d : Reduced). OnDelivery (d .answer) (λ c g w l. l ≤ length out)) (sym e) (delivers-fitting standard b budget list map out))

@@ -8,6 +8,7 @@ use Rattle.table.specs.File.{tableOf}
 use Rattle.table.specs.Language.{count, SameWords, OneTarget}
 use Rattle.table.specs.Maps.{NoneCoarser}
 use Rattle.maps.specs.Check.{checkOf}
+use Rattle.quotient.specs.Demands.{IsQuotient}
 use Rattle.maps.specs.declared.Checked.the-variants.{Accepted}
 use Rattle.reduce.specs.declared.Reduction.{Reduction}
 use Rattle.reduce.specs.declared.Reduction.the-variants.{Delivered, Refused}
@@ -28,6 +29,10 @@ KeepsWords r b out = OnDelivery r (λ c g w l. SameWords b (take l out))
 -- the map delivered is one that the check accepts, with as many classes
 abbrev pub DeliversChecked : Limits → Reduction → List ℕ → List ℕ → Type 0
 DeliversChecked L r b map = OnDelivery r (λ c g w l. checkOf L b (mapWritten b map) ≡ Accepted c)
+
+-- "The reduced table is that paper's quotient, without the input's dead returns", under the map delivered
+abbrev pub DeliversQuotient : Limits → Reduction → List ℕ → List ℕ → List ℕ → Type 0
+DeliversQuotient L r b map out = OnDelivery r (λ c g w l. IsQuotient L b (mapWritten b map) (take l out))
 
 -- "No map meeting Definition 1 joins all pairs of a delivered map and one more."
 abbrev pub DeliversMaximal : Reduction → List ℕ → List ℕ → Type 0

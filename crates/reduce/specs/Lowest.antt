@@ -24,5 +24,6 @@ pub record LowestJoined (v : List ℕ) (x : ℕ) (low : List ℕ) : Type 0 where
 
 -- "The map of an assignment", and its class count
 pub record MapOf (v : List ℕ) (n : ℕ) (r : Classes) : Type 0 where
+  pub long : length (r .map) ≡ 24
   pub map : take n (r .map) ≡ mapOf v n
   pub count : r .count ≡ classes (mapOf v n)

@@ -73,6 +73,10 @@ topsOf L b = elim (eqb (readNumber L b) 0) [
   | false ↦ record { number = readNumber L b; words = replicate (L .states) 0; found = 0 }
 ]
 
+-- an answer's values: the words, then the number of tops found; none where its number is not 0
+unfoldable pub topsValues : TopWords → List ℕ
+topsValues r = elim (eqb (r .number) 0) [ true ↦ r .words ++ (r .found ∷ []) | false ↦ [] ]
+
 -- the live returns, in file order
 unfoldable pub liveReturns : Limits → Table → List (List ℕ)
 liveReturns L t = keep (live (topWords L t)) (t .returns)

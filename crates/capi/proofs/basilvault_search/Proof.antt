@@ -1,11 +1,11 @@
--- `capi::basilvault_search` meets its contract: the search's answer as a number and a value. Assumes nothing.
-use Rattle.capi.proofs.Answering.{solved-out, solved-short, refused-out}
+-- `capi::basilvault_search` meets its contract: the answer as a number, buffers and values. Assumes nothing.
 use borrow.Author.Needs.{needs}
+use mathlib.Core.Path.{ap, _∙_}
+use Rattle.search.specs.Answers.{solutionNumber, solutionValues}
+use Rattle.capi.specs.Answers.{searchOut}
+use Rattle.capi.proofs.Answering.{answered, refused}
 use Rattle.capi.proofs.basilvault_search.Statement.{statement}
 use Rattle.capi.proofs.basilvault_search.Tie as tie
-use Rattle.capi.proofs.basilvault_search.Reads as reads
-use Rattle.capi.proofs.basilvault_search.Lts as lts
-use Rattle.search.proofs.search.Reads as search-reads
 
 search-requires : tie.Need-search-requires
 search-requires c κs = search needs
@@ -13,14 +13,11 @@ search-requires c κs = search needs
 enum-known-solution : tie.Need-enum-known-solution
 enum-known-solution c = search needs
 
-same-length : tie.Need-same-length
-same-length c = search needs
+slice-aggregate-store : tie.Need-slice-aggregate-store
+slice-aggregate-store c = search needs
 
-returns : tie.Need-returns
-returns c = solved-short (c .before .before .before .before .before .before .search .ensures .0) _ (c .before .before .solution .given .1) (c .if1 .taken)
-
-slice-write-values : tie.Need-slice-write-values
-slice-write-values c = search needs
+store-requires : tie.Need-store-requires
+store-requires c κs = search needs
 
 enum-known-solution-2 : tie.Need-enum-known-solution-2
 enum-known-solution-2 c = search needs
@@ -28,20 +25,28 @@ enum-known-solution-2 c = search needs
 cast-result : tie.Need-cast-result
 cast-result c = search needs
 
+same-length : tie.Need-same-length
+same-length c = search needs
+
 same-length-2 : tie.Need-same-length-2
 same-length-2 c = search needs
+
+returns : tie.Need-returns
+unfolding searchOut solutionNumber solutionValues
+returns c =
+    let f = c .before .before .before .before .before .before .solution .given .1 in
+    answered _ (ap solutionNumber f) (ap solutionValues f) (c .before .before .store .ensures)
+    ∙ ap (searchOut _) (c .before .before .before .before .before .before .before .before .before .before .search .ensures .0)
 
 same-length-3 : tie.Need-same-length-3
 same-length-3 c = search needs
 
 returns-2 : tie.Need-returns-2
-returns-2 c = solved-out (c .before .before .before .before .before .before .search .ensures .0) _ (c .before .before .solution .given .1) (c .if1 .left)
-
-same-length-4 : tie.Need-same-length-4
-same-length-4 c = search needs
-
-returns-3 : tie.Need-returns-3
-returns-3 c = refused-out (c .before .before .before .before .before .search .ensures .0) _ (c .before .solution2 .given .1)
+unfolding searchOut solutionNumber solutionValues
+returns-2 c =
+    let f = c .before .solution2 .given .1 in
+    refused _ (ap solutionNumber f) (ap solutionValues f)
+    ∙ ap (searchOut _) (c .before .before .before .before .before .search .ensures .0)
 
 pub basilvault-search-spec : {M : Type 1} → statement M
 basilvault-search-spec =
@@ -49,13 +54,12 @@ basilvault-search-spec =
     (tie.spec
     search-requires
     enum-known-solution
-    same-length
-    returns
-    slice-write-values
+    slice-aggregate-store
+    store-requires
     enum-known-solution-2
     cast-result
+    same-length
     same-length-2
+    returns
     same-length-3
-    returns-2
-    same-length-4
-    returns-3)
+    returns-2)

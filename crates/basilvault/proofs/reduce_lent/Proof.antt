@@ -1,0 +1,108 @@
+-- `basilvault::reduce_lent` is safe: what is printed of the buffers is there. Assumes nothing.
+use mathlib.Core.Path.{sym}
+use Prim.Native.Nat.{ℕ}
+use native.Mathlib.Omega.{arith}
+use lib.ListN.{length-take, length-replicate}
+use lib.Seq.{length-take-le}
+use Rattle.reduce.proofs.Theorems.{delivered-fits}
+use borrow.Author.Needs.{needs}
+use Rattle.basilvault.proofs.reduce_lent.Statement.{statement}
+use Rattle.basilvault.proofs.reduce_lent.Tie as tie
+use Rattle.basilvault.proofs.reduce_lent.Reads as reads
+use Rattle.basilvault.proofs.reduce_lent.Lts as lts
+use Rattle.basilvault.proofs.say.Reads as say-reads
+use Rattle.basilvault.proofs.say_counts.Reads as say-counts-reads
+use Rattle.basilvault.proofs.say_map.Reads as say-map-reads
+use Rattle.basilvault.proofs.say_number.Reads as say-number-reads
+use Rattle.basilvault.proofs.say_table.Reads as say-table-reads
+use Rattle.basilvault.proofs.state_count.Reads as state-count-reads
+use Rattle.reduce.proofs.reduce.Reads as reduce-reads
+
+slice-aggregate-reduce : tie.Need-slice-aggregate-reduce
+slice-aggregate-reduce c = search needs
+
+slice-aggregate-reduce-2 : tie.Need-slice-aggregate-reduce-2
+slice-aggregate-reduce-2 c = search needs
+
+slice-aggregate-reduce-3 : tie.Need-slice-aggregate-reduce-3
+slice-aggregate-reduce-3 c = search needs
+
+reduce-requires : tie.Need-reduce-requires
+reduce-requires c κs = search needs
+
+enum-known-answer : tie.Need-enum-known-answer
+enum-known-answer c = search needs
+
+state-count-requires : tie.Need-state-count-requires
+state-count-requires c κs = search needs
+
+say-counts-requires : tie.Need-say-counts-requires
+say-counts-requires c κs = search needs
+
+array-share-prefix-map : tie.Need-array-share-prefix-map
+array-share-prefix-map c = search needs
+
+slice-aggregate-say-map : tie.Need-slice-aggregate-say-map
+slice-aggregate-say-map c = sym (length-take-le _ _ (omega (arith, c .before .before .state-count .ensures .0, c .before .before .before .before .before .before .before .before .before .reduce .kept .1 .1 .1 .0, length-replicate {A = ℕ} 24 0)))
+
+say-map-requires : tie.Need-say-map-requires
+say-map-requires c κs = search needs
+
+array-share-prefix-out : tie.Need-array-share-prefix-out
+array-share-prefix-out c = omega (arith, delivered-fits _ 100000 _ _ _ (c .before .before .before .before .before .before .before .before .before .before .reduce .ensures .0) (c .before .before .before .before .before .answer .given .1), length-replicate {A = ℕ} 22596 0, c .before .before .before .before .before .before .before .before .before .before .reduce .kept .1 .1 .1 .1 .0)
+
+slice-aggregate-say-table : tie.Need-slice-aggregate-say-table
+slice-aggregate-say-table c = sym (length-take-le _ _ (omega (arith, delivered-fits _ 100000 _ _ _ (c .before .before .before .before .before .before .before .before .before .before .before .reduce .ensures .0) (c .before .before .before .before .before .before .answer .given .1), length-replicate {A = ℕ} 22596 0, c .before .before .before .before .before .before .before .before .before .before .before .reduce .kept .1 .1 .1 .1 .0)))
+
+say-table-requires : tie.Need-say-table-requires
+say-table-requires c κs = simp length-take (omega (arith, length-replicate {A = ℕ} 22596 0, c .before .before .before .before .before .before .before .before .before .before .before .reduce .kept .1 .1 .1 .1 .0))
+
+enum-known-answer-2 : tie.Need-enum-known-answer-2
+enum-known-answer-2 c = search needs
+
+slice-aggregate-say-number : tie.Need-slice-aggregate-say-number
+slice-aggregate-say-number c = search needs
+
+cast-say-number : tie.Need-cast-say-number
+cast-say-number c = search needs
+
+say-number-requires : tie.Need-say-number-requires
+say-number-requires c κs = search needs
+
+slice-aggregate-say : tie.Need-slice-aggregate-say
+slice-aggregate-say c = search needs
+
+say-requires : tie.Need-say-requires
+say-requires c κs = search needs
+
+returns : tie.Need-returns
+returns c = search needs
+
+returns-2 : tie.Need-returns-2
+returns-2 c = search needs
+
+pub reduce-lent-spec : {M : Type 1} → statement M
+reduce-lent-spec =
+    tie.close
+    (tie.spec
+    slice-aggregate-reduce
+    slice-aggregate-reduce-2
+    slice-aggregate-reduce-3
+    reduce-requires
+    enum-known-answer
+    state-count-requires
+    say-counts-requires
+    array-share-prefix-map
+    slice-aggregate-say-map
+    say-map-requires
+    array-share-prefix-out
+    slice-aggregate-say-table
+    say-table-requires
+    enum-known-answer-2
+    slice-aggregate-say-number
+    cast-say-number
+    say-number-requires
+    slice-aggregate-say
+    say-requires
+    returns
+    returns-2)

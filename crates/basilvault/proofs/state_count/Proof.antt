@@ -1,0 +1,40 @@
+-- `basilvault::state_count` meets its contract. Assumes nothing.
+use mathlib.Core.Path.{sym, _∙_}
+use native.Mathlib.Omega.{arith}
+use Rattle.table.specs.Limits.{standard}
+use Rattle.table.proofs.Handed.{read-as, read-refused}
+use Rattle.reduce.proofs.Stages.{states-count, states-few, starts-in-order}
+use borrow.Author.Needs.{needs}
+use Rattle.basilvault.proofs.state_count.Statement.{statement}
+use Rattle.basilvault.proofs.state_count.Tie as tie
+use Rattle.basilvault.proofs.state_count.Reads as reads
+use Rattle.basilvault.proofs.state_count.Lts as lts
+use Rattle.table.proofs.read.Reads as read-reads
+
+read-requires : tie.Need-read-requires
+read-requires c κs = search needs
+
+enum-known-reading : tie.Need-enum-known-reading
+enum-known-reading c = search needs
+
+sub-result : tie.Need-sub-result
+sub-result c =
+    let h = read-as standard (c .before .before .before .before .before .before .args .table .now) _ (sym (c .before .before .before .before .read .ensures) ∙ c .before .before .reading .given .1) in
+    starts-in-order h
+
+enum-told : tie.Need-enum-told
+enum-told c = search needs
+
+returns : tie.Need-returns
+returns c =
+    let h = read-as standard (c .before .before .before .before .before .before .args .table .now) _ (sym (c .before .before .before .before .read .ensures) ∙ c .before .before .reading .given .1) in
+    (omega (arith, states-count h, states-few (c .before .before .before .before .before .before .args .table .now) (h .readable)), λ _. states-count h)
+
+returns-2 : tie.Need-returns-2
+returns-2 c =
+    let r = read-refused standard (c .before .before .before .before .args .table .now) _ (sym (c .before .before .read .ensures) ∙ c .enum-told .given .1) in
+    (omega arith, λ e. absurd (r .1 (sym (r .0) ∙ e)))
+
+pub state-count-spec : {M : Type 1} → statement M
+state-count-spec =
+    tie.close (tie.spec read-requires enum-known-reading sub-result enum-told returns returns-2)
