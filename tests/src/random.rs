@@ -7,10 +7,12 @@ use std::collections::BTreeSet;
 pub struct Random(u64);
 
 impl Random {
+    /// The stream of a seed.
     pub fn new(seed: u64) -> Self {
         Random(seed.wrapping_mul(0x9e37_79b9_7f4a_7c15) | 1)
     }
 
+    /// The next number.
     pub fn next(&mut self) -> u64 {
         self.0 ^= self.0 >> 12;
         self.0 ^= self.0 << 25;
@@ -23,11 +25,13 @@ impl Random {
         ((self.next() >> 33) % n as u64) as usize
     }
 
+    /// True in so many of a hundred cases.
     pub fn chance(&mut self, percent: usize) -> bool {
         self.below(100) < percent
     }
 }
 
+/// Up to 5 symbols of any kind, now and then up to 32.
 fn symbols(r: &mut Random) -> Vec<u8> {
     let most = if r.chance(5) { 32 } else { 5 };
     let k = r.below(most + 1);
@@ -74,7 +78,8 @@ pub fn blown_up(r: &mut Random, n: usize, one: bool) -> Table {
     let m = small.count();
     let of: Vec<u8> = (0..n).map(|q| if q < m { q as u8 } else { r.below(m) as u8 }).collect();
     let copies = |p: u8| -> Vec<u8> { (0..n as u8).filter(|&q| of[q as usize] == p).collect() };
-    let mut t = Table { symbols: small.symbols.clone(), states: (0..n).map(|q| small.states[of[q] as usize]).collect(), internals: vec![], calls: vec![], returns: vec![] };
+    let states = (0..n).map(|q| small.states[of[q] as usize]).collect();
+    let mut t = Table { symbols: small.symbols.clone(), states, internals: vec![], calls: vec![], returns: vec![] };
     let (mut internals, mut calls, mut returns) = (BTreeSet::new(), BTreeSet::new(), BTreeSet::new());
     for x in &small.internals {
         for p in copies(x[0]) {
@@ -102,6 +107,25 @@ pub fn blown_up(r: &mut Random, n: usize, one: bool) -> Table {
     t
 }
 
+/// A table with `more` states behind its own that no run reaches: each has the moves of an earlier state, now and then to another target.
+pub fn with_unreachable(r: &mut Random, t: &Table, more: usize) -> Table {
+    let mut t = t.clone();
+    for _ in 0..more {
+        let n = t.count();
+        let (p, q) = (r.below(n) as u8, n as u8);
+        t.states.push(t.states[p as usize] & 2);
+        let mut other = |e: u8| if r.chance(10) { r.below(n) as u8 } else { e };
+        let internals: Vec<[u8; 3]> = t.internals.iter().filter(|x| x[0] == p).map(|x| [q, x[1], other(x[2])]).collect();
+        let calls: Vec<[u8; 3]> = t.calls.iter().filter(|x| x[0] == p).map(|x| [q, x[1], other(x[2])]).collect();
+        let returns: Vec<[u8; 4]> = t.returns.iter().filter(|x| x[0] == p).map(|x| [q, x[1], x[2], other(x[3])]).collect();
+        t.internals.extend(internals.into_iter().collect::<BTreeSet<_>>());
+        t.calls.extend(calls.into_iter().collect::<BTreeSet<_>>());
+        t.returns.extend(returns.into_iter().collect::<BTreeSet<_>>());
+    }
+    t
+}
+
+/// Any of the above.
 pub fn any_table(r: &mut Random, most: usize) -> Table {
     let n = 1 + r.below(most);
     match r.below(4) {

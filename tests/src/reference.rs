@@ -17,14 +17,17 @@ pub struct Table {
 }
 
 impl Table {
+    /// How many states.
     pub fn count(&self) -> usize {
         self.states.len()
     }
 
+    /// Whether a state is initial.
     pub fn initial(&self, q: usize) -> bool {
         self.states[q] & 1 != 0
     }
 
+    /// Whether a state is accepting.
     pub fn accepting(&self, q: usize) -> bool {
         self.states[q] & 2 != 0
     }
@@ -52,12 +55,46 @@ impl Table {
     }
 }
 
+/// Records of 3 bytes.
 fn triples(bytes: &[u8]) -> Vec<[u8; 3]> {
     bytes.chunks_exact(3).map(|c| [c[0], c[1], c[2]]).collect()
 }
 
+/// Records of 4 bytes.
 fn quads(bytes: &[u8]) -> Vec<[u8; 4]> {
     bytes.chunks_exact(4).map(|c| [c[0], c[1], c[2], c[3]]).collect()
+}
+
+/// The first of 4 to 8 that applies to the parts of a file.
+fn fault(table: &Table) -> Option<u8> {
+    let n = table.count();
+    if table.symbols.len() > SYMBOLS || n == 0 || n > STATES {
+        return Some(4);
+    }
+    if table.internals.len() > 1024 || table.calls.len() > 1024 || table.returns.len() > 4096 {
+        return Some(4);
+    }
+    if table.symbols.iter().any(|&x| x > 2) || table.states.iter().any(|&x| x > 3) {
+        return Some(5);
+    }
+    if !(0..n).any(|q| table.initial(q)) {
+        return Some(6);
+    }
+    let kind = |a: u8, k: u8| table.symbols.get(a as usize) == Some(&k);
+    let state = |q: u8| (q as usize) < n;
+    let fine = table.internals.iter().all(|r| state(r[0]) && kind(r[1], 0) && state(r[2]))
+        && table.calls.iter().all(|r| state(r[0]) && kind(r[1], 1) && state(r[2]))
+        && table.returns.iter().all(|r| state(r[0]) && kind(r[1], 2) && state(r[2]) && state(r[3]));
+    if !fine {
+        return Some(7);
+    }
+    let rising = table.internals.windows(2).all(|w| w[0] < w[1])
+        && table.calls.windows(2).all(|w| w[0] < w[1])
+        && table.returns.windows(2).all(|w| w[0] < w[1]);
+    if !rising {
+        return Some(8);
+    }
+    None
 }
 
 /// Reading: the table and the five starts, or the number of the first refusal that applies.
@@ -85,36 +122,13 @@ pub fn parse(b: &[u8]) -> Result<(Table, [usize; 5]), u8> {
         calls: triples(&b[at[3]..at[4]]),
         returns: quads(&b[at[4]..t]),
     };
-    let n = table.count();
-    if table.symbols.len() > SYMBOLS || n == 0 || n > STATES {
-        return Err(4);
+    match fault(&table) {
+        Some(number) => Err(number),
+        None => Ok((table, [at[0], at[1], at[2], at[3], at[4]])),
     }
-    if table.internals.len() > 1024 || table.calls.len() > 1024 || table.returns.len() > 4096 {
-        return Err(4);
-    }
-    if table.symbols.iter().any(|&x| x > 2) || table.states.iter().any(|&x| x > 3) {
-        return Err(5);
-    }
-    if !(0..n).any(|q| table.initial(q)) {
-        return Err(6);
-    }
-    let kind = |a: u8, k: u8| table.symbols.get(a as usize) == Some(&k);
-    let state = |q: u8| (q as usize) < n;
-    let fine = table.internals.iter().all(|r| state(r[0]) && kind(r[1], 0) && state(r[2]))
-        && table.calls.iter().all(|r| state(r[0]) && kind(r[1], 1) && state(r[2]))
-        && table.returns.iter().all(|r| state(r[0]) && kind(r[1], 2) && state(r[2]) && state(r[3]));
-    if !fine {
-        return Err(7);
-    }
-    let rising = table.internals.windows(2).all(|w| w[0] < w[1])
-        && table.calls.windows(2).all(|w| w[0] < w[1])
-        && table.returns.windows(2).all(|w| w[0] < w[1]);
-    if !rising {
-        return Err(8);
-    }
-    Ok((table, [at[0], at[1], at[2], at[3], at[4]]))
 }
 
+/// The operation read: the five starts.
 pub fn read(b: &[u8]) -> Result<[usize; 5], u8> {
     parse(b).map(|x| x.1)
 }
@@ -159,6 +173,7 @@ pub fn top_sets(t: &Table) -> Vec<BTreeSet<usize>> {
     tops
 }
 
+/// The operation tops: 24 words, and the number of tops found.
 pub fn tops(b: &[u8]) -> Result<([u32; 24], u32), u8> {
     let (t, _) = parse(b)?;
     let mut words = [0u32; 24];
@@ -178,10 +193,12 @@ fn variable(p: usize, q: usize) -> u16 {
     (q * (q - 1) / 2 + p) as u16
 }
 
+/// The literal that says that two states are joined.
 fn yes(p: usize, q: usize) -> u16 {
     2 * variable(p, q)
 }
 
+/// The literal that says that they are not.
 fn no(p: usize, q: usize) -> u16 {
     2 * variable(p, q) + 1
 }
@@ -200,11 +217,9 @@ fn push(list: &mut Vec<Vec<u16>>, literals: Vec<u16>) {
     list.push(clause);
 }
 
-/// The list of a table, group by group.
-pub fn clause_list(t: &Table) -> Vec<Vec<u16>> {
+/// Groups 1 and 2: pairs of which exactly one state is accepting, and transitivity.
+fn pair_clauses(t: &Table, list: &mut Vec<Vec<u16>>) {
     let n = t.count();
-    let tops = top_sets(t);
-    let mut list = Vec::new();
     for q in 0..n {
         for p in 0..q {
             if t.accepting(p) != t.accepting(q) {
@@ -221,24 +236,31 @@ pub fn clause_list(t: &Table) -> Vec<Vec<u16>> {
             }
         }
     }
-    for records in [&t.internals, &t.calls] {
-        let mut moves: BTreeMap<(usize, u8), Vec<usize>> = BTreeMap::new();
-        for r in records {
-            moves.entry((r[0] as usize, r[1])).or_default().push(r[2] as usize);
-        }
-        for r in records {
-            let (p, a, e) = (r[0] as usize, r[1], r[2] as usize);
-            for q in (0..n).filter(|&q| q != p) {
-                let targets = moves.get(&(q, a)).cloned().unwrap_or_default();
-                if targets.contains(&e) {
-                    continue;
-                }
-                let mut literals = vec![no(p, q)];
-                literals.extend(targets.iter().map(|&x| yes(e, x)));
-                push(&mut list, literals);
+}
+
+/// Groups 3 and 4, each over its own records.
+fn move_clauses(n: usize, records: &[[u8; 3]], list: &mut Vec<Vec<u16>>) {
+    let mut moves: BTreeMap<(usize, u8), Vec<usize>> = BTreeMap::new();
+    for r in records {
+        moves.entry((r[0] as usize, r[1])).or_default().push(r[2] as usize);
+    }
+    for r in records {
+        let (p, a, e) = (r[0] as usize, r[1], r[2] as usize);
+        for q in (0..n).filter(|&q| q != p) {
+            let targets = moves.get(&(q, a)).cloned().unwrap_or_default();
+            if targets.contains(&e) {
+                continue;
             }
+            let mut literals = vec![no(p, q)];
+            literals.extend(targets.iter().map(|&x| yes(e, x)));
+            push(list, literals);
         }
     }
+}
+
+/// Group 5.
+fn return_clauses(t: &Table, list: &mut Vec<Vec<u16>>) {
+    let tops = top_sets(t);
     let mut pops: BTreeMap<(usize, u8, usize), Vec<usize>> = BTreeMap::new();
     for r in &t.returns {
         pops.entry((r[0] as usize, r[1], r[2] as usize)).or_default().push(r[3] as usize);
@@ -248,7 +270,7 @@ pub fn clause_list(t: &Table) -> Vec<Vec<u16>> {
         if !tops[p].contains(&s) {
             continue;
         }
-        for q in 0..n {
+        for q in 0..t.count() {
             for &u in tops[q].iter().filter(|&&u| u != BOTTOM) {
                 if q == p && u == s {
                     continue;
@@ -265,13 +287,23 @@ pub fn clause_list(t: &Table) -> Vec<Vec<u16>> {
                     literals.push(no(s, u));
                 }
                 literals.extend(targets.iter().map(|&x| yes(e, x)));
-                push(&mut list, literals);
+                push(list, literals);
             }
         }
     }
+}
+
+/// The list of a table, group by group.
+pub fn clause_list(t: &Table) -> Vec<Vec<u16>> {
+    let mut list = Vec::new();
+    pair_clauses(t, &mut list);
+    move_clauses(t.count(), &t.internals, &mut list);
+    move_clauses(t.count(), &t.calls, &mut list);
+    return_clauses(t, &mut list);
     list
 }
 
+/// A list as words: each clause's literal count, then its literals.
 pub fn words_of(list: &[Vec<u16>]) -> Vec<u16> {
     let mut words = Vec::new();
     for c in list {
@@ -281,6 +313,7 @@ pub fn words_of(list: &[Vec<u16>]) -> Vec<u16> {
     words
 }
 
+/// The operation clauses: the clause count and the word count.
 pub fn clauses(b: &[u8], list: &mut [u16]) -> Result<(usize, usize), u8> {
     let (t, _) = parse(b)?;
     let all = clause_list(&t);
@@ -308,10 +341,25 @@ fn clauses_in(words: &[u16]) -> Option<Vec<Vec<u16>>> {
     Some(list)
 }
 
+/// How a search ends: solved, with the values and the guesses made; by (a); by (d).
 pub enum Outcome {
     Solved(Vec<bool>, u64),
     None,
     Spent,
+}
+
+/// What a literal is worth: true, false or unset.
+fn value(values: &[Option<bool>], l: u16) -> Option<bool> {
+    values[(l / 2) as usize].map(|x| x == (l % 2 == 0))
+}
+
+/// The literal that a clause forces: no literal is true, and this one alone is unset.
+fn forces(values: &[Option<bool>], clause: &[u16]) -> Option<u16> {
+    if clause.iter().any(|&l| value(values, l) == Some(true)) {
+        return None;
+    }
+    let open: Vec<u16> = clause.iter().copied().filter(|&l| value(values, l).is_none()).collect();
+    if open.len() == 1 { Some(open[0]) } else { None }
 }
 
 /// The search, one step of (a) to (e) after the other, with a copy of the values at each guess.
@@ -320,9 +368,7 @@ pub fn run_search(list: &[Vec<u16>], variables: usize, budget: u64) -> Outcome {
     let mut guesses: Vec<(usize, Vec<Option<bool>>)> = Vec::new();
     let mut made = 0u64;
     loop {
-        let value = |l: u16| values[(l / 2) as usize].map(|x| x == (l % 2 == 0));
-        let broken = list.iter().any(|c| c.iter().all(|&l| value(l) == Some(false)));
-        if broken {
+        if list.iter().any(|c| c.iter().all(|&l| value(&values, l) == Some(false))) {
             match guesses.pop() {
                 None => return Outcome::None,
                 Some((x, before)) => {
@@ -332,14 +378,7 @@ pub fn run_search(list: &[Vec<u16>], variables: usize, budget: u64) -> Outcome {
             }
             continue;
         }
-        let forced = list.iter().find_map(|c| {
-            if c.iter().any(|&l| value(l) == Some(true)) {
-                return None;
-            }
-            let open: Vec<u16> = c.iter().copied().filter(|&l| value(l).is_none()).collect();
-            if open.len() == 1 { Some(open[0]) } else { None }
-        });
-        if let Some(l) = forced {
+        if let Some(l) = list.iter().find_map(|c| forces(&values, c)) {
             values[(l / 2) as usize] = Some(l % 2 == 0);
             continue;
         }
@@ -357,6 +396,7 @@ pub fn run_search(list: &[Vec<u16>], variables: usize, budget: u64) -> Outcome {
     }
 }
 
+/// The operation search: the guesses made.
 pub fn search(list: &[u16], variables: usize, budget: u64, answer: &mut [u8]) -> Result<u64, u8> {
     if variables > 276 {
         return Err(11);
@@ -402,6 +442,7 @@ pub fn map_of(values: &[bool], n: usize) -> Vec<u8> {
     map
 }
 
+/// Whether each class number is at most one above the largest before it, the first 0.
 pub fn proper(map: &[u8]) -> bool {
     let mut next = 0u16;
     for &c in map {
@@ -451,6 +492,7 @@ pub fn broken(t: &Table, map: &[u8]) -> Option<u8> {
     None
 }
 
+/// The operation check: the class count.
 pub fn check(b: &[u8], map: &[u8]) -> Result<usize, u8> {
     let (t, _) = parse(b)?;
     if map.len() != t.count() {
@@ -491,6 +533,7 @@ pub fn quotient_table(t: &Table, map: &[u8]) -> Table {
     }
 }
 
+/// The operation quotient: the length.
 pub fn quotient(b: &[u8], map: &[u8], out: &mut [u8]) -> Result<usize, u8> {
     check(b, map)?;
     let (t, _) = parse(b)?;
@@ -502,7 +545,7 @@ pub fn quotient(b: &[u8], map: &[u8], out: &mut [u8]) -> Result<usize, u8> {
     Ok(bytes.len())
 }
 
-/// Class count, guesses, clause words and quotient length.
+/// The operation reduce: class count, guesses, clause words and quotient length.
 pub fn reduce(b: &[u8], budget: u64, list: &mut [u16], map: &mut [u8], out: &mut [u8]) -> Result<(usize, u64, usize, usize), u8> {
     let (t, _) = parse(b)?;
     let n = t.count();

@@ -77,6 +77,7 @@ fn put_hex(bytes: &[u8], text: &mut [u8])
     }
 }
 
+// Asks that the bytes are no more than a table has.
 fn say_table(bytes: &[u8]) -> bool
     requires { ⌜ length (now bytes) ≤ 22596 ⌝ }
 {

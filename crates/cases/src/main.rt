@@ -1,32 +1,47 @@
 // Runs the operations on the cases of its standard input, and prints each answer and every buffer.
 //
-// A case is the operation's number (1 read, 2 tops, 3 clauses, 4 search), the length of the rest, and the rest. For clauses the rest begins
-// with the length of the list, for a search with the variables, the budget and the length of the answer. Then comes the table, or the clause words. Lengths and words are 16-bit little-endian
-// numbers. A line is the operation's name, the refusal's number or 0, the answer's values and, behind a bar, the buffer, which is filled with
-// 7 beforehand.
+// A case is the operation's number, the length of the rest, and the rest. Lengths, budgets and words are 16-bit little-endian numbers.
+//
+//   1 read      the table
+//   2 tops      the table
+//   3 clauses   the list's length; the table
+//   4 search    the variables, the budget, the answer's length; the clause words
+//   5 check     the map's length; the map; the table
+//   6 quotient  the map's length, the output's length; the map; the table
+//   7 reduce    the budget, the lengths of the list, of the map buffer and of the output; the table
+//
+// A line is the operation's name, the refusal's number or 0, the answer's values and, each behind a bar, the buffers at exit, which are filled
+// with 7 beforehand.
 ghost use mathlib.Core.Path.{_≡_};
 ghost use Prim.Native.Nat.{_≤_, _<_};
 ghost use lib.ListN.{length};
 use clauses::Listed;
 use libc::STDOUT_FILENO;
+use maps::Checked;
+use quotient::Written;
+use reduce::Reduction;
 use search::Solution;
 use table::Reading;
 
+// Writes text to standard output.
 fn say(text: &[u8]) -> bool {
     io::write_all(STDOUT_FILENO, text)
 }
 
+// A space and a number.
 fn number(n: u64) -> bool {
     say(b" ");
     io::print_decimal(STDOUT_FILENO, n)
 }
 
+// A byte as an index.
 fn wide(x: u8) -> usize
     ensures { λ r. ⌜ r < 256 ⌝ }
 {
     x as usize
 }
 
+// A word as a number that can be printed.
 fn long(x: u16) -> u64
     ensures { λ r. ⌜ r ≡ x ⌝ }
 {
@@ -46,16 +61,17 @@ fn word_at(bytes: &[u8], at: usize) -> usize
     wide(bytes[at]) + 256 * wide(bytes[at + 1])
 }
 
-fn say_bytes(bytes: &[u8]) -> bool {
+// A buffer of bytes, behind a bar.
+fn say_bytes(bytes: &[u8]) {
     say(b" |");
     let mut i: usize = 0;
     'bytes: while i < bytes.len() {
         number(wide(bytes[i]) as u64);
         i += 1;
     }
-    say(b"\n")
 }
 
+// The five starts, or the refusal.
 fn say_read(table: &[u8]) -> bool {
     say(b"read");
     let reading = table::read(table);
@@ -75,6 +91,7 @@ fn say_read(table: &[u8]) -> bool {
     say(b"\n")
 }
 
+// The number of tops found, and the word of each state.
 fn say_tops(table: &[u8]) -> bool {
     say(b"tops");
     let t = tops::tops(table);
@@ -88,14 +105,14 @@ fn say_tops(table: &[u8]) -> bool {
     say(b"\n")
 }
 
-fn say_words(words: &[u16]) -> bool {
+// A buffer of words, behind a bar.
+fn say_words(words: &[u16]) {
     say(b" |");
     let mut i: usize = 0;
     'words: while i < words.len() {
         number(long(words[i]));
         i += 1;
     }
-    say(b"\n")
 }
 
 // Writes the clauses into the first words of a buffer.
@@ -115,9 +132,11 @@ fn say_listed(table: &[u8], space: &mut [u16], length: usize) -> bool {
             number(wide(k) as u64);
         }
     }
-    say_words(list)
+    say_words(list);
+    say(b"\n")
 }
 
+// The table behind the length of the list.
 fn say_clauses(rest: &[u8]) -> bool {
     say(b"clauses");
     if rest.len() < 2 {
@@ -169,9 +188,11 @@ fn say_found(
             number(wide(k) as u64);
         }
     }
-    say_bytes(answer)
+    say_bytes(answer);
+    say(b"\n")
 }
 
+// The clause words behind the variables, the budget and the length of the answer.
 fn say_search(rest: &[u8]) -> bool {
     say(b"search");
     if rest.len() < 6 {
@@ -186,12 +207,136 @@ fn say_search(rest: &[u8]) -> bool {
     say_found(&list, words, variables, budget, &mut answer, length)
 }
 
+// Checks the map at the beginning on the table behind it.
+fn say_check(rest: &[u8]) -> bool {
+    say(b"check");
+    let end = 2 + word_at(rest, 0);
+    if rest.len() < end {
+        return say(b" ?\n");
+    }
+    let checked = quotient::check(&rest[end..], &rest[2..end]);
+    match checked {
+        Checked::Accepted(classes) => {
+            number(0);
+            number(classes as u64);
+        }
+        Checked::Refused(k) => {
+            number(wide(k) as u64);
+        }
+    }
+    say(b"\n")
+}
+
+// Writes the quotient into the first bytes of a buffer.
+fn say_written(table: &[u8], map: &[u8], space: &mut [u8], length: usize) -> bool {
+    if space.len() < length {
+        return say(b" ?\n");
+    }
+    let out = &mut space[..length];
+    let written = quotient::quotient(table, map, out);
+    match written {
+        Written::Length(bytes) => {
+            number(0);
+            number(bytes as u64);
+        }
+        Written::Refused(k) => {
+            number(wide(k) as u64);
+        }
+    }
+    say_bytes(out);
+    say(b"\n")
+}
+
+// The quotient under the map at the beginning of the table behind it.
+fn say_quotient(rest: &[u8]) -> bool {
+    say(b"quotient");
+    let end = 4 + word_at(rest, 0);
+    if rest.len() < end {
+        return say(b" ?\n");
+    }
+    let length = word_at(rest, 2);
+    let mut out = [7u8; 4096];
+    say_written(&rest[end..], &rest[4..end], &mut out, length)
+}
+
+// Reduces a table with buffers that exist, and prints the clause list, the map buffer and the output.
+fn say_reduction(
+    table: &[u8],
+    budget: u64,
+    list: &mut [u16],
+    map: &mut [u8],
+    out: &mut [u8],
+) -> bool {
+    let reduction = reduce::reduce(table, budget, list, map, out);
+    match reduction {
+        Reduction::Delivered {
+            classes,
+            guesses,
+            words,
+            length,
+        } => {
+            number(0);
+            number(classes as u64);
+            number(guesses);
+            number(words as u64);
+            number(length as u64);
+        }
+        Reduction::Refused(k) => {
+            number(wide(k) as u64);
+        }
+    }
+    say_words(list);
+    say_bytes(map);
+    say_bytes(out);
+    say(b"\n")
+}
+
+// Reduces the table behind the budget and three lengths, with the first parts of the buffers, of these lengths.
+fn say_reduced(rest: &[u8], list: &mut [u16], map: &mut [u8], out: &mut [u8]) -> bool {
+    let budget = word_at(rest, 0) as u64;
+    let words = word_at(rest, 2);
+    let states = word_at(rest, 4);
+    let length = word_at(rest, 6);
+    if rest.len() < 8 {
+        return say(b" ?\n");
+    }
+    if list.len() < words {
+        return say(b" ?\n");
+    }
+    if map.len() < states {
+        return say(b" ?\n");
+    }
+    if out.len() < length {
+        return say(b" ?\n");
+    }
+    say_reduction(
+        &rest[8..],
+        budget,
+        &mut list[..words],
+        &mut map[..states],
+        &mut out[..length],
+    )
+}
+
+// A reduction, with buffers for it.
+fn say_reduce(rest: &[u8]) -> bool {
+    say(b"reduce");
+    let mut list = [7u16; 4096];
+    let mut map = [7u8; 64];
+    let mut out = [7u8; 1024];
+    say_reduced(rest, &mut list, &mut map, &mut out)
+}
+
+// One case by its operation's number.
 fn say_case(operation: u8, rest: &[u8]) -> bool {
     match operation {
         1 => say_read(rest),
         2 => say_tops(rest),
         3 => say_clauses(rest),
         4 => say_search(rest),
+        5 => say_check(rest),
+        6 => say_quotient(rest),
+        7 => say_reduce(rest),
         _ => say(b"?\n"),
     }
 }
@@ -219,6 +364,7 @@ fn next_case(space: &mut [u8]) -> bool {
     read_case(head[0], &mut space[..n])
 }
 
+// Every case of the input, one after the other.
 fn main() {
     let mut space = [0u8; 32768];
     let mut turns: usize = 1000000;

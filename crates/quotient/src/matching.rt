@@ -93,7 +93,7 @@ fn move_met(section: &[u8], map: &[u8], fields: &[u8], n: usize) -> bool
     requires { ⌜ (ascend (records 3 (now section)) ≡ true) × (length (now fields) ≡ 3) × (n ≤ 256) ⌝ }
     ensures { λ r. ⌜ r ≡ moveMet (records 3 (now (section .entry))) n (now (map .entry)) (now (fields .entry)) ⌝ }
 {
-    let mut q: usize = 0;
+    let mut q = 0;
     'states: while q < n {
         if !move_matched(section, map, fields, q) {
             return false;

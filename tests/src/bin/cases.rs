@@ -1,6 +1,10 @@
 //! Writes the cases that the program `cases` is run on and the output that it must give: `cases ROOT` writes crates/cases/stdin and
-//! crates/cases/stdout below ROOT. The answers are the plain implementation's.
+//! crates/cases/stdout below ROOT. The answers are the plain implementation's. What document 01 says of a named case is asserted.
 
+#[path = "../frames.rs"]
+mod frames;
+#[path = "../named.rs"]
+mod named;
 #[path = "../random.rs"]
 #[allow(dead_code)]
 mod random;
@@ -8,211 +12,390 @@ mod random;
 #[allow(dead_code)]
 mod reference;
 
+use frames::{Cases, Room};
+use named::{faults, joined_stack_symbols, longest, more_faults, not_transitive, one_undone, one_way, pigeons};
+use named::{silent, t, t_with_call, t_with_return, two_undone, unreachable_stack};
 use random::Random;
 use reference::Table;
-use std::fmt::Write;
 
-/// The frames of the cases, and the lines that they must give.
-struct Cases {
-    input: Vec<u8>,
-    output: String,
+/// The words of a table's clause list.
+fn words_needed(table: &Table) -> usize {
+    reference::words_of(&reference::clause_list(table)).len()
 }
 
-impl Cases {
-    fn frame(&mut self, operation: u8, rest: &[u8]) {
-        self.input.push(operation);
-        self.input.extend_from_slice(&(rest.len() as u16).to_le_bytes());
-        self.input.extend_from_slice(rest);
-    }
-
-    fn line(&mut self, name: &str, values: &[u64]) {
-        write!(self.output, "{name}").unwrap();
-        values.iter().for_each(|v| write!(self.output, " {v}").unwrap());
-    }
-
-    fn buffer(&mut self, values: &[u64]) {
-        self.output.push_str(" |");
-        values.iter().for_each(|v| write!(self.output, " {v}").unwrap());
-    }
-
-    fn read(&mut self, b: &[u8]) {
-        self.frame(1, b);
-        match reference::read(b) {
-            Ok(s) => self.line("read 0", &s.map(|x| x as u64)),
-            Err(k) => self.line("read", &[k as u64]),
-        }
-        self.output.push('\n');
-    }
-
-    fn tops(&mut self, b: &[u8]) {
-        self.frame(2, b);
-        let (number, words, found) = match reference::tops(b) {
-            Ok((w, f)) => (0, w, f),
-            Err(k) => (k as u64, [0; 24], 0),
-        };
-        self.line("tops", &[number, found as u64]);
-        self.line("", &words.map(u64::from));
-        self.output.push('\n');
-    }
-
-    fn clauses(&mut self, b: &[u8], room: usize) {
-        let mut rest = (room as u16).to_le_bytes().to_vec();
-        rest.extend_from_slice(b);
-        self.frame(3, &rest);
-        let mut list = vec![7u16; room];
-        match reference::clauses(b, &mut list) {
-            Ok((c, w)) => self.line("clauses 0", &[c as u64, w as u64]),
-            Err(k) => self.line("clauses", &[k as u64]),
-        }
-        self.buffer(&list.iter().map(|&x| x as u64).collect::<Vec<_>>());
-        self.output.push('\n');
-    }
-
-    fn search(&mut self, words: &[u16], variables: usize, budget: u16, room: usize) {
-        let mut rest = Vec::new();
-        for x in [variables as u16, budget, room as u16] {
-            rest.extend_from_slice(&x.to_le_bytes());
-        }
-        words.iter().for_each(|w| rest.extend_from_slice(&w.to_le_bytes()));
-        self.frame(4, &rest);
-        let mut answer = vec![7u8; room];
-        match reference::search(words, variables, budget as u64, &mut answer) {
-            Ok(k) => self.line("search 0", &[k]),
-            Err(k) => self.line("search", &[k as u64]),
-        }
-        self.buffer(&answer.iter().map(|&x| x as u64).collect::<Vec<_>>());
-        self.output.push('\n');
-    }
+/// How many returns are live.
+fn live_returns(table: &Table) -> usize {
+    let tops = reference::top_sets(table);
+    table.returns.iter().filter(|x| tops[x[0] as usize].contains(&(x[2] as usize))).count()
 }
 
-/// Table T of document 01.
-fn t() -> Table {
-    Table {
-        symbols: vec![0, 1, 2],
-        states: vec![1, 0, 0, 2],
-        internals: vec![[0, 0, 2], [1, 0, 1], [2, 0, 2]],
-        calls: vec![[0, 1, 1]],
-        returns: vec![[1, 2, 0, 3]],
-    }
-}
-
-/// The paper's first observation: states 1 and 2 differ on a return that 2 cannot take, since its stack is always empty.
-fn unreachable_stack() -> Table {
-    Table {
-        symbols: vec![0, 1, 2],
-        states: vec![1, 0, 0, 2],
-        internals: vec![[0, 0, 2], [1, 0, 1], [2, 0, 2]],
-        calls: vec![[0, 1, 1]],
-        returns: vec![[1, 2, 0, 3], [2, 2, 0, 0]],
-    }
-}
-
-/// The second: 1 and 2 may be joined, and 2 and 3, but not 1 and 3.
-fn not_transitive() -> Table {
-    Table {
-        symbols: vec![0, 1, 2, 1],
-        states: vec![1, 0, 0, 0, 2],
-        internals: vec![[0, 0, 2], [1, 0, 1], [2, 0, 2], [3, 0, 3]],
-        calls: vec![[0, 1, 1], [0, 3, 3]],
-        returns: vec![[1, 2, 0, 4]],
-    }
-}
-
-/// The third: joining 1 and 2 joins the stack symbols that tell the two returns of 3 apart.
-fn joined_stack_symbols() -> Table {
-    Table {
-        symbols: vec![0, 0, 1, 2, 2],
-        states: vec![1, 0, 0, 0, 2],
-        internals: vec![[0, 0, 1], [0, 1, 2]],
-        calls: vec![[1, 2, 3], [2, 2, 3]],
-        returns: vec![[3, 3, 1, 4], [3, 4, 2, 4]],
-    }
-}
-
-/// One pigeon more than holes, where variable 0 is true: the search guesses it, undoes thousands of guesses, and finds it false.
-fn pigeons(holes: usize) -> (Vec<u16>, usize) {
-    let v = |p: usize, h: usize| 1 + p * holes + h;
-    let mut words = Vec::new();
-    for p in 0..=holes {
-        words.extend([holes as u16 + 1, 1]);
-        words.extend((0..holes).map(|h| 2 * v(p, h) as u16));
-    }
-    for h in 0..holes {
-        for p in 0..=holes {
-            for q in 0..p {
-                words.extend([3, 1, 2 * v(q, h) as u16 + 1, 2 * v(p, h) as u16 + 1]);
-            }
-        }
-    }
-    (words, 1 + holes * (holes + 1))
-}
-
-fn main() {
-    let root = std::env::args().nth(1).expect("the repository's folder");
-    let mut c = Cases { input: Vec::new(), output: String::new() };
-    let mut r = Random::new(1);
+/// Reading, tops and clauses of some tables, every refusal of reading, and damaged tables.
+fn reading(c: &mut Cases, r: &mut Random) {
     let mut tables = vec![t(), unreachable_stack(), not_transitive(), joined_stack_symbols()];
-    tables.push(random::table(&mut r, 6, false));
-    tables.push(random::table(&mut r, 9, true));
-    tables.push(random::blown_up(&mut r, 12, true));
+    tables.push(random::table(r, 6, false));
+    tables.push(random::table(r, 9, true));
+    tables.push(random::blown_up(r, 12, true));
     for table in &tables {
         let b = table.bytes();
-        c.read(&b);
-        c.tops(&b);
-        let words = reference::words_of(&reference::clause_list(table)).len();
+        c.read(&b).unwrap();
+        c.tops(&b).unwrap();
+        let words = words_needed(table);
         if words < 4000 {
-            c.clauses(&b, words + 3);
-            c.clauses(&b, words - 1);
+            c.clauses(&b, words + 3).unwrap();
+            assert_eq!(c.clauses(&b, words - 1), Err(10));
         }
     }
-    // every refusal of reading once, and a damaged table for the others
-    let b = t().bytes();
-    let with = |i: usize, x: u8| {
-        let mut d = b.clone();
-        d[i] = x;
-        d
-    };
-    let faults = [
-        b[..11].to_vec(),
-        with(33, 2),
-        with(23, 22),
-        [vec![0u8; 10], vec![1, 0]].concat(),
-        with(3, 4),
-        with(3, 0),
-        with(7, 9),
-        [&b[..7], &b[10..13], &b[7..10], &b[13..]].concat(),
-    ];
-    for (k, f) in faults.iter().enumerate() {
-        assert_eq!(reference::read(f), Err(k as u8 + 1), "fault {k}");
-        c.read(f);
-        c.tops(f);
-        c.clauses(f, 5);
+    for (f, k) in faults().iter().zip(1..) {
+        assert_eq!(c.read(f), Err(k));
+        assert_eq!(c.tops(f), Err(k));
+        assert_eq!(c.clauses(f, 5), Err(k));
     }
     for _ in 0..60 {
-        let table = random::any_table(&mut r, 7);
-        let bytes = table.bytes();
-        let d = random::damaged(&mut r, &bytes);
-        c.read(&d);
-        c.tops(&bytes);
+        let bytes = random::any_table(r, 7).bytes();
+        c.read(&random::damaged(r, &bytes)).ok();
+        c.tops(&bytes).unwrap();
     }
-    // M10 to M12, the refusals of the search, a hard instance, and the same with its budget spent
-    c.search(&[2, 0, 2], 2, 9, 2);
-    c.search(&[2, 0, 2, 2, 1, 3], 2, 9, 3);
-    c.search(&[0], 0, 9, 0);
-    c.search(&[], 277, 9, 300);
-    c.search(&[2, 0], 1, 9, 1);
-    c.search(&[1, 4], 2, 9, 2);
-    c.search(&[2, 0, 1], 2, 9, 2);
-    c.search(&[1, 0], 1, 9, 0);
+}
+
+/// More refusals of reading, and the limits of its counts: the longest table, one byte more, one record more of a kind.
+fn reading_limits(c: &mut Cases) {
+    for (b, number) in more_faults() {
+        assert_eq!(c.read(&b).err().unwrap_or(0), number, "{b:?}");
+    }
+    let long = longest().bytes();
+    assert_eq!(long.len(), 22_596);
+    assert_eq!(c.read(&long), Ok([0, 32, 56, 56 + 3 * 1024, 56 + 6 * 1024]));
+    assert_eq!(c.read(&[&[0][..], &long].concat()), Err(1));
+    let few = Table { calls: vec![], returns: vec![], ..longest() };
+    let mut internals = few.clone();
+    internals.internals.push([21, 0, 16]);
+    assert_eq!(c.read(&internals.bytes()), Err(4));
+    let mut calls = Table { internals: vec![], calls: longest().calls, ..few.clone() };
+    calls.calls.push([21, 2, 16]);
+    assert_eq!(c.read(&calls.bytes()), Err(4));
+    let mut returns = Table { internals: vec![], returns: longest().returns, ..few };
+    returns.returns.push([7, 4, 2, 16]);
+    assert_eq!(c.read(&returns.bytes()), Err(4));
+}
+
+/// M10 to M12, the refusals of the search, a hard instance, the same with its budget spent, and pseudo-random lists.
+fn searching(c: &mut Cases, r: &mut Random) {
+    assert_eq!(c.search(&[2, 0, 2], 2, 9, 2), Ok((2, vec![1, 1])));
+    assert_eq!(c.search(&[2, 0, 2, 2, 1, 3], 2, 9, 3), Ok((1, vec![1, 0, 7])));
+    assert_eq!(c.search(&[0], 0, 9, 0), Err(12));
+    assert_eq!(c.search(&[], 277, 9, 300), Err(11));
+    assert_eq!(c.search(&[2, 0], 1, 9, 1), Err(11));
+    assert_eq!(c.search(&[1, 4], 2, 9, 2), Err(11));
+    assert_eq!(c.search(&[2, 0, 1], 2, 9, 2), Err(11));
+    assert_eq!(c.search(&[1, 0], 1, 9, 0), Err(14));
     let (words, variables) = pigeons(6);
-    c.search(&words, variables, 60000, variables + 2);
-    c.search(&words, variables, 1000, variables);
+    c.search(&words, variables, 60000, variables + 2).unwrap();
+    assert_eq!(c.search(&words, variables, 1000, variables), Err(13));
     for _ in 0..150 {
         let variables = r.below(20);
-        let words = random::clause_words(&mut r, variables);
+        let words = random::clause_words(r, variables);
         let budget = r.below(30) as u16;
-        c.search(&words, variables, budget, variables + r.below(3));
+        c.search(&words, variables, budget, variables + r.below(3)).ok();
     }
+}
+
+/// M1 to M9, M13 and M14; T and its quotient as document 01 prints them.
+fn marked(c: &mut Cases) {
+    let b = t().bytes();
+    assert_eq!(b, named::T);
+    let bottom = 1 << reference::BOTTOM;
+    let (words, found) = c.tops(&b).unwrap();
+    assert_eq!((&words[..5], found), (&[bottom, 1, bottom, bottom, 0][..], 4));
+    assert_eq!(c.clauses(&b, 72), Ok((23, 72)));
+    assert_eq!(c.check(&b, &[0, 1, 1, 2]), Ok(3));
+    assert_eq!(c.check(&b, &[0, 1, 1, 1]), Err(17));
+    assert_eq!(c.check(&b, &[0, 0, 1, 2]), Err(18));
+    assert_eq!(c.check(&b, &[0, 1, 0, 2]), Err(19));
+    assert_eq!(c.check(&b, &[0, 2, 1, 1]), Err(16));
+    assert_eq!(c.check(&b, &[0, 1, 1]), Err(15));
+    assert_eq!(c.check(&t_with_call([0, 1, 2]).bytes(), &[0, 1, 1, 2]), Err(20));
+    assert_eq!(c.reduce(&b, 0, Room { list: 100, map: 9, out: 50 }).0, Err(13));
+    assert_eq!(c.quotient(&b, &[0, 1, 2, 3], 40), Ok(b.clone()));
+    assert_eq!(c.quotient(&t_with_return([2, 2, 0, 3]).bytes(), &[0, 1, 2, 3], 35), Ok(b.clone()));
+    assert_eq!(c.quotient(&b, &[0, 1, 1, 2], 31), Ok(named::T_REDUCED.to_vec()));
+}
+
+/// The edges of document 01, and the order of reduce's refusals, by two faults at once.
+fn edges(c: &mut Cases) {
+    let b = t().bytes();
+    let just = Room { list: 72, map: 4, out: 31 };
+    let wide = Room { list: 80, map: 24, out: 64 };
+    for room in [just, wide] {
+        let (answer, map, out) = c.reduce(&b, 1, room);
+        assert_eq!(answer, Ok((3, 1, 72, 31)));
+        assert_eq!((&map[..4], &out[..31]), (&[0, 1, 1, 2][..], &named::T_REDUCED[..]));
+    }
+    let (few_words, few_states, few_bytes) = (Room { list: 71, ..just }, Room { map: 3, ..just }, Room { out: 30, ..just });
+    assert_eq!(c.reduce(&b, 1, few_words).0, Err(10));
+    assert_eq!(c.reduce(&b, 1, few_bytes).0, Err(21));
+    assert_eq!(c.reduce(&b, 1, few_states).0, Err(22));
+    assert_eq!(c.reduce(&b, 1, Room { map: 3, ..few_words }).0, Err(22));
+    assert_eq!(c.reduce(&b, 0, few_words).0, Err(10));
+    assert_eq!(c.reduce(&b, 0, few_bytes).0, Err(13));
+    assert_eq!(c.reduce(&b, 0, few_states).0, Err(22));
+    let none = Room { list: 0, map: 0, out: 0 };
+    assert_eq!(c.reduce(&b, 0, none).0, Err(22));
+    assert_eq!(c.reduce(&b, 0, Room { map: 4, ..none }).0, Err(10));
+    assert_eq!(c.reduce(&b, 1, Room { out: 0, ..just }).0, Err(21));
+    for (f, k) in faults().iter().zip(1..) {
+        assert_eq!(c.reduce(f, 1, wide).0, Err(k));
+        assert_eq!(c.reduce(f, 0, none).0, Err(k));
+    }
+}
+
+/// Refused maps, under check and under quotient, many with two faults at once; and every number of a table's refusal.
+fn refused_maps(c: &mut Cases) {
+    let b = t().bytes();
+    let long = [vec![0, 1, 1, 2], vec![3; 296]].concat();
+    let cases: [(&[u8], u8); 16] = [
+        (&[], 15),
+        (&[0, 1, 1, 2, 2], 15),
+        (&[0, 1, 1, 2, 9], 15),
+        (&[9, 1, 1], 15),
+        (&long, 15),
+        (&[1, 1, 1, 1], 16),
+        (&[0, 0, 2, 3], 16),
+        (&[0, 1, 3, 2], 16),
+        (&[0, 1, 1, 255], 16),
+        (&[0, 0, 0, 2], 16),
+        (&[0, 0, 0, 0], 17),
+        (&[0, 1, 2, 0], 17),
+        (&[0, 1, 2, 2], 17),
+        (&[0, 0, 1, 2], 18),
+        (&[0, 0, 0, 1], 19),
+        (&[0, 1, 0, 2], 19),
+    ];
+    for (map, number) in cases {
+        assert_eq!(c.check(&b, map), Err(number), "{map:?}");
+        assert_eq!(c.quotient(&b, map, 9), Err(number), "{map:?}");
+    }
+    let mut two_calls = t_with_call([0, 1, 2]);
+    two_calls.calls.push([1, 1, 1]);
+    assert_eq!(c.check(&two_calls.bytes(), &[0, 1, 1, 2]), Err(19));
+    assert_eq!(c.quotient(&t_with_call([0, 1, 2]).bytes(), &[0, 1, 1, 2], 0), Err(20));
+    assert_eq!(c.quotient(&b, &[0, 1, 1, 2], 30), Err(21));
+    assert_eq!(c.quotient(&b, &[0, 1, 1, 2], 0), Err(21));
+    for (f, k) in faults().iter().zip(1..) {
+        assert_eq!(c.check(f, &[0, 1, 1, 2]), Err(k));
+        assert_eq!(c.check(f, &[9]), Err(k));
+        assert_eq!(c.quotient(f, &[0, 1, 1, 2], 12), Err(k));
+        assert_eq!(c.quotient(f, &[], 0), Err(k));
+    }
+}
+
+/// The merges that tempt, each as a map.
+fn tempting(c: &mut Cases) {
+    let dead = unreachable_stack();
+    assert_eq!(c.check(&dead.bytes(), &[0, 1, 1, 2]), Ok(3));
+    assert_eq!(c.quotient(&dead.bytes(), &[0, 1, 1, 2], 40), Ok(named::T_REDUCED.to_vec()));
+    let mut kept = reference::parse(&named::T_REDUCED).unwrap().0;
+    kept.returns.insert(0, [1, 2, 0, 0]);
+    let word = [1, 2, 1, 2];
+    assert!(reference::accepts(&kept, &word) && !reference::accepts(&dead, &word) && !reference::accepts(&t(), &word));
+    let b = not_transitive().bytes();
+    assert_eq!(c.check(&b, &[0, 1, 1, 2, 3]), Ok(4));
+    assert_eq!(c.check(&b, &[0, 1, 2, 2, 3]), Ok(4));
+    assert_eq!(c.check(&b, &[0, 1, 2, 1, 3]), Err(20));
+    assert_eq!(c.check(&b, &[0, 1, 1, 1, 2]), Err(20));
+    c.quotient(&b, &[0, 1, 1, 2, 3], 60).unwrap();
+    c.quotient(&b, &[0, 1, 2, 2, 3], 60).unwrap();
+    assert_eq!(c.quotient(&b, &[0, 1, 1, 1, 2], 60), Err(20));
+    let b = joined_stack_symbols().bytes();
+    assert_eq!(c.check(&b, &[0, 1, 1, 2, 3]), Err(20));
+    assert_eq!(c.quotient(&b, &[0, 1, 1, 2, 3], 60), Err(20));
+    let (answer, map, out) = c.reduce(&dead.bytes(), 9, Room { list: 80, map: 4, out: 31 });
+    assert_eq!((answer.map(|x| x.0), &map[..], &out[..]), (Ok(3), &[0, 1, 1, 2][..], &named::T_REDUCED[..]));
+    for table in [not_transitive(), joined_stack_symbols()] {
+        let (answer, map, _) = c.reduce(&table.bytes(), 9, Room { list: 250, map: 5, out: 60 });
+        assert!(answer.is_ok() && (map[1] != map[2] || map[2] != map[3]));
+    }
+    one_way_only(c);
+}
+
+/// Moves matched one way only.
+fn one_way_only(c: &mut Cases) {
+    for (kind, number) in [(0, 18), (1, 19), (2, 20)] {
+        for few in [1, 2] {
+            let b = one_way(kind, few).bytes();
+            assert_eq!(c.check(&b, &[0, 1, 1, 2, 3]), Err(number));
+            assert_eq!(c.quotient(&b, &[0, 1, 1, 2, 3], 60), Err(number));
+            let (answer, map, _) = c.reduce(&b, 90, Room { list: 300, map: 5, out: 60 });
+            assert!(answer.is_ok() && map[1] != map[2]);
+        }
+    }
+}
+
+/// One state, no symbols, unreachable states, budget 0 with nothing to guess, buffers of length 0.
+fn corners(c: &mut Cases) {
+    for states in [1, 3] {
+        let b = silent(&[states]).bytes();
+        assert_eq!(c.check(&b, &[0]), Ok(1));
+        assert_eq!(c.check(&b, &[]), Err(15));
+        assert_eq!(c.check(&b, &[1]), Err(16));
+        assert_eq!(c.quotient(&b, &[0], 13), Ok(b.clone()));
+        assert_eq!(c.quotient(&b, &[0], 12), Err(21));
+        let just = Room { list: 0, map: 1, out: 13 };
+        assert_eq!(c.reduce(&b, 0, just).0, Ok((1, 0, 0, 13)));
+        assert_eq!(c.reduce(&b, 0, Room { map: 0, ..just }).0, Err(22));
+        assert_eq!(c.reduce(&b, 0, Room { out: 12, ..just }).0, Err(21));
+    }
+    let b = silent(&[1, 2]).bytes();
+    assert_eq!(c.reduce(&b, 0, Room { list: 2, map: 2, out: 14 }).0, Ok((2, 0, 2, 14)));
+    let b = silent(&[0, 2, 1, 3, 0]).bytes();
+    let (answer, map, out) = c.reduce(&b, 9, Room { list: 140, map: 6, out: 20 });
+    assert_eq!(answer.map(|x| (x.0, x.3)), Ok((2, 14)));
+    assert_eq!((&map[..], &out[..2]), (&[0, 1, 0, 1, 0, 7][..], &[1, 3][..]));
+    // state 2 is never reached: its return is dead, and it may be joined with 1, which has another return
+    let mut lonely = t();
+    lonely.internals.remove(0);
+    lonely.returns.push([2, 2, 0, 2]);
+    assert_eq!(c.tops(&lonely.bytes()).unwrap().0[2], 0);
+    assert_eq!(c.check(&lonely.bytes(), &[0, 1, 1, 2]), Ok(3));
+    assert_eq!(c.quotient(&lonely.bytes(), &[0, 1, 2, 3], 40).map(|x| x.len()), Ok(32));
+    assert_eq!(c.reduce(&lonely.bytes(), 9, Room { list: 90, map: 4, out: 40 }).0.map(|x| x.0), Ok(3));
+}
+
+/// Undone guesses stay counted: the guess {0, 1} and then {2, 3}; and {0, 1}, {2, 3}, again {2, 3}, {2, 4}, {3, 4}, {5, 6}.
+fn undone_guesses(c: &mut Cases) {
+    let (answer, map, _) = c.reduce(&one_undone().bytes(), 9, Room { list: 400, map: 6, out: 80 });
+    assert_eq!((answer.map(|x| (x.0, x.1)), &map[..]), (Ok((5, 2)), &[0, 1, 2, 2, 3, 4][..]));
+    let b = two_undone().bytes();
+    let room = Room { list: 1100, map: 8, out: 90 };
+    let (answer, map, _) = c.reduce(&b, 6, room);
+    assert_eq!((answer.map(|x| (x.0, x.1)), &map[..]), (Ok((6, 6)), &[0, 1, 2, 3, 3, 4, 4, 5][..]));
+    assert_eq!(c.reduce(&b, 5, room).0, Err(13));
+}
+
+/// Reduced with more room than needed, with just enough, and with too little of one thing; the quotient under the map delivered, which comes back.
+fn around_needs(c: &mut Cases, table: &Table, turn: usize) -> Vec<u8> {
+    let (b, n, need) = (table.bytes(), table.count(), words_needed(table));
+    let (answer, map, out) = c.reduce(&b, 2000, Room { list: need + 3, map: n + 2, out: b.len() + 5 });
+    let (classes, guesses, words, length) = answer.expect("the budget is enough");
+    let just = Room { list: words, map: n, out: length };
+    let again = c.reduce(&b, guesses, just);
+    assert_eq!((again.0, &again.1[..], &again.2[..]), (answer, &map[..n], &out[..length]));
+    let (budget, short, number) = match turn % 4 {
+        0 => (guesses, Room { map: n - 1, ..just }, 22),
+        1 if words > 0 => (guesses, Room { list: words - 1, ..just }, 10),
+        2 if guesses > 0 => (guesses - 1, just, 13),
+        _ => (guesses, Room { out: length - 1, ..just }, 21),
+    };
+    assert_eq!(c.reduce(&b, budget, short).0, Err(number));
+    assert_eq!(c.check(&b, &map[..n]), Ok(classes));
+    assert_eq!(c.quotient(&b, &map[..n], length + turn % 3), Ok(out[..length].to_vec()));
+    assert_eq!(c.quotient(&b, &map[..n], length - 1 - turn % 3), Err(21));
+    c.read(&out[..length]).expect("the quotient is a table");
+    map[..n].to_vec()
+}
+
+/// Every map that joins two classes of a map, and what refuses it.
+fn coarser(table: &Table, map: &[u8]) -> Vec<(u8, Vec<u8>)> {
+    let classes = map.iter().max().unwrap() + 1;
+    let pairs = (0..classes).flat_map(|a| (a + 1..classes).map(move |b| (a, b)));
+    let joined = |a: u8, b: u8| map.iter().map(|&x| if x == b { a } else { x - (x > b) as u8 }).collect();
+    let refused = |map: &Vec<u8>| reference::broken(table, map).expect("none coarser is accepted");
+    pairs.map(|(a, b)| joined(a, b)).map(|m| (refused(&m), m)).collect()
+}
+
+/// A pseudo-random table of one of five kinds, small enough for its list to be stored; mostly one in which some return is live.
+fn small_table(r: &mut Random, turn: usize) -> Table {
+    loop {
+        let n = 3 + r.below(4);
+        let table = match turn % 5 {
+            0 => random::table(r, n, false),
+            1 => random::table(r, n, true),
+            2 => random::blown_up(r, n, true),
+            3 => random::blown_up(r, n, false),
+            _ => {
+                let some = random::any_table(r, 4);
+                random::with_unreachable(r, &some, 1 + n / 2)
+            }
+        };
+        let records = table.internals.len() + table.calls.len() + table.returns.len();
+        if records > 3 && words_needed(&table) < 400 && (live_returns(&table) > 0 || turn % 4 == 0) {
+            return table;
+        }
+    }
+}
+
+/// Pseudo-random tables: reduced, and checked and quotiented under other maps; then damaged ones.
+fn random_tables(c: &mut Cases, r: &mut Random) {
+    for turn in 0..60 {
+        let table = small_table(r, turn);
+        let (b, n) = (table.bytes(), table.count());
+        let delivered = around_needs(c, &table, turn);
+        let more = coarser(&table, &delivered);
+        if let Some((number, map)) = more.iter().max() {
+            let (other, fewer) = &more[r.below(more.len())];
+            assert_eq!(c.check(&b, map), Err(*number));
+            assert_eq!(c.quotient(&b, fewer, r.below(9)), Err(*other));
+        }
+        let map = random::map(r, n);
+        c.check(&b, &map).ok();
+        c.quotient(&b, &map, b.len() - r.below(4)).ok();
+        let d = random::damaged(r, &b);
+        let number = match turn % 3 {
+            0 => c.check(&d, &delivered).err(),
+            1 => c.quotient(&d, &delivered, r.below(40)).err(),
+            _ => c.reduce(&d, 9, Room { list: r.below(90), map: 7, out: r.below(60) }).0.err(),
+        };
+        assert!(reference::read(&d).is_ok() || reference::read(&d).err() == number);
+    }
+}
+
+/// A pseudo-random table of n states of which several may be joined, with live returns, and up to some bytes long.
+fn large_table(r: &mut Random, n: usize, one: bool, most: usize) -> Table {
+    loop {
+        let table = random::blown_up(r, n, one);
+        if live_returns(&table) > n / 2 && table.bytes().len() < most {
+            return table;
+        }
+    }
+}
+
+/// Tables of 10 states, reduced once; then of 24 states, whose list is too long to be stored: the map that leaves all apart, and the one that
+/// reduce delivers.
+fn large_tables(c: &mut Cases, r: &mut Random) {
+    for one in [true, false] {
+        let table = large_table(r, 10, one, 300);
+        let room = Room { list: words_needed(&table), map: 10, out: table.bytes().len() };
+        c.reduce(&table.bytes(), 1000, room).0.unwrap();
+    }
+    for one in [true, false] {
+        let b = large_table(r, 24, one, 1500).bytes();
+        let (mut map, mut out) = ([0; 24], [0; 1500]);
+        let length = reference::reduce(&b, 100_000, &mut vec![0; 1_000_000], &mut map, &mut out).unwrap().3;
+        c.check(&b, &map).unwrap();
+        assert_eq!(c.quotient(&b, &map, length), Ok(out[..length].to_vec()));
+        let apart: Vec<u8> = (0..24).collect();
+        assert_eq!(c.check(&b, &apart), Ok(24));
+        c.quotient(&b, &apart, b.len()).unwrap();
+        assert_eq!(c.reduce(&b, 9, Room { list: 60, map: 24, out: 12 }).0, Err(10));
+    }
+}
+
+/// Writes the cases and their lines.
+fn main() {
+    let root = std::env::args().nth(1).expect("the repository's folder");
+    let mut c = Cases::default();
+    let mut r = Random::new(1);
+    reading(&mut c, &mut r);
+    searching(&mut c, &mut r);
+    reading_limits(&mut c);
+    marked(&mut c);
+    edges(&mut c);
+    refused_maps(&mut c);
+    tempting(&mut c);
+    corners(&mut c);
+    undone_guesses(&mut c);
+    random_tables(&mut c, &mut r);
+    large_tables(&mut c, &mut r);
+    println!("cases of the operations 1 to 7: {:?}; {} bytes", &c.counts[1..], c.input.len() + c.output.len());
     std::fs::write(format!("{root}/crates/cases/stdin"), &c.input).unwrap();
     std::fs::write(format!("{root}/crates/cases/stdout"), &c.output).unwrap();
 }

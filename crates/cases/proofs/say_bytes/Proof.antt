@@ -13,10 +13,10 @@ use Rattle.cases.proofs.say.Reads as say-reads
 use Rattle.cases.proofs.wide.Reads as wide-reads
 
 abbrev Inv-bytes : tie.InvT-bytes
-Inv-bytes bytes i₀ t4 i = i ≤ length bytes
+Inv-bytes bytes i₀ i = i ≤ length bytes
 
 abbrev μ-bytes : tie.MeasureT-bytes
-μ-bytes bytes i₀ t4 i = length bytes - i
+μ-bytes bytes i₀ i = length bytes - i
 
 slice-aggregate-say : tie.Need-slice-aggregate-say Inv-bytes μ-bytes
 slice-aggregate-say c = search needs
@@ -45,12 +45,6 @@ bytes-less c = search needs
 bytes-again : tie.Need-bytes-again Inv-bytes μ-bytes
 bytes-again c = search needs
 
-slice-aggregate-say-2 : tie.Need-slice-aggregate-say-2 Inv-bytes μ-bytes
-slice-aggregate-say-2 c = search needs
-
-say-requires-2 : tie.Need-say-requires-2 Inv-bytes μ-bytes
-say-requires-2 c κs = search needs
-
 returns : tie.Need-returns Inv-bytes μ-bytes
 returns c = search needs
 
@@ -69,6 +63,4 @@ say-bytes-spec =
     add-i
     bytes-less
     bytes-again
-    slice-aggregate-say-2
-    say-requires-2
     returns)

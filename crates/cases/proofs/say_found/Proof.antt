@@ -64,6 +64,12 @@ number-requires-3 c κs = search needs
 say-bytes-requires : tie.Need-say-bytes-requires
 say-bytes-requires c κs = search needs
 
+slice-aggregate-say-3 : tie.Need-slice-aggregate-say-3
+slice-aggregate-say-3 c = search needs
+
+say-requires-3 : tie.Need-say-requires-3
+say-requires-3 c κs = search needs
+
 same-length : tie.Need-same-length
 same-length c = search needs
 
@@ -91,5 +97,7 @@ say-found-spec =
     wide-requires
     number-requires-3
     say-bytes-requires
+    slice-aggregate-say-3
+    say-requires-3
     same-length
     returns-3)

@@ -54,6 +54,12 @@ number-requires-4 c κs = search needs
 say-words-requires : tie.Need-say-words-requires
 say-words-requires c κs = search needs
 
+slice-aggregate-say-2 : tie.Need-slice-aggregate-say-2
+slice-aggregate-say-2 c = search needs
+
+say-requires-2 : tie.Need-say-requires-2
+say-requires-2 c κs = search needs
+
 same-length : tie.Need-same-length
 same-length c = search needs
 
@@ -78,5 +84,7 @@ say-listed-spec =
     wide-requires
     number-requires-4
     say-words-requires
+    slice-aggregate-say-2
+    say-requires-2
     same-length
     returns-2)

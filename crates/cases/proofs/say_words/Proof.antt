@@ -12,10 +12,10 @@ use Rattle.cases.proofs.number.Reads as number-reads
 use Rattle.cases.proofs.say.Reads as say-reads
 
 abbrev Inv-words : tie.InvT-words
-Inv-words words i₀ t4 i = i ≤ length words
+Inv-words words i₀ i = i ≤ length words
 
 abbrev μ-words : tie.MeasureT-words
-μ-words words i₀ t4 i = length words - i
+μ-words words i₀ i = length words - i
 
 slice-aggregate-say : tie.Need-slice-aggregate-say Inv-words μ-words
 slice-aggregate-say c = search needs
@@ -47,12 +47,6 @@ words-less c = search needs
 words-again : tie.Need-words-again Inv-words μ-words
 words-again c = search needs
 
-slice-aggregate-say-2 : tie.Need-slice-aggregate-say-2 Inv-words μ-words
-slice-aggregate-say-2 c = search needs
-
-say-requires-2 : tie.Need-say-requires-2 Inv-words μ-words
-say-requires-2 c κs = search needs
-
 returns : tie.Need-returns Inv-words μ-words
 returns c = search needs
 
@@ -72,6 +66,4 @@ say-words-spec =
     add-i
     words-less
     words-again
-    slice-aggregate-say-2
-    say-requires-2
     returns)

@@ -1,0 +1,86 @@
+-- `cases::say_written` is safe and ends. Assumes nothing.
+use native.Mathlib.Omega.{arith}
+use lib.ListN.{length-take}
+use borrow.Author.Needs.{needs}
+use Rattle.cases.proofs.say_written.Statement.{statement}
+use Rattle.cases.proofs.say_written.Tie as tie
+use Rattle.cases.proofs.say_written.Reads as reads
+use Rattle.cases.proofs.say_written.Lts as lts
+use Rattle.cases.proofs.number.Reads as number-reads
+use Rattle.cases.proofs.say.Reads as say-reads
+use Rattle.cases.proofs.say_bytes.Reads as say-bytes-reads
+use Rattle.cases.proofs.wide.Reads as wide-reads
+use Rattle.quotient.proofs.quotient.Reads as quotient-reads
+
+slice-aggregate-say : tie.Need-slice-aggregate-say
+slice-aggregate-say c = search needs
+
+say-requires : tie.Need-say-requires
+say-requires c κs = search needs
+
+returns : tie.Need-returns
+returns c = search needs
+
+slice-relend-prefix-out : tie.Need-slice-relend-prefix-out
+slice-relend-prefix-out c = search needs
+
+slice-aggregate-out : tie.Need-slice-aggregate-out
+slice-aggregate-out c = simp length-take (omega arith)
+
+quotient-requires : tie.Need-quotient-requires
+quotient-requires c κs = search needs
+
+enum-known-written : tie.Need-enum-known-written
+enum-known-written c = search needs
+
+number-requires : tie.Need-number-requires
+number-requires c κs = search needs
+
+number-requires-2 : tie.Need-number-requires-2
+number-requires-2 c κs = search needs
+
+enum-known-written-2 : tie.Need-enum-known-written-2
+enum-known-written-2 c = search needs
+
+wide-requires : tie.Need-wide-requires
+wide-requires c κs = search needs
+
+number-requires-3 : tie.Need-number-requires-3
+number-requires-3 c κs = search needs
+
+say-bytes-requires : tie.Need-say-bytes-requires
+say-bytes-requires c κs = search needs
+
+slice-aggregate-say-2 : tie.Need-slice-aggregate-say-2
+slice-aggregate-say-2 c = search needs
+
+say-requires-2 : tie.Need-say-requires-2
+say-requires-2 c κs = search needs
+
+same-length : tie.Need-same-length
+same-length c = search needs
+
+returns-2 : tie.Need-returns-2
+returns-2 c = search needs
+
+pub say-written-spec : {M : Type 1} → statement M
+say-written-spec =
+    tie.close
+    (tie.spec
+    slice-aggregate-say
+    say-requires
+    returns
+    slice-relend-prefix-out
+    slice-aggregate-out
+    quotient-requires
+    enum-known-written
+    number-requires
+    number-requires-2
+    enum-known-written-2
+    wide-requires
+    number-requires-3
+    say-bytes-requires
+    slice-aggregate-say-2
+    say-requires-2
+    same-length
+    returns-2)

@@ -1,0 +1,44 @@
+/* The reducer's C interface: the seven operations of the proved library `capi` (rt staticlib capi).
+ *
+ * Each function returns the refusal's number, or 0. Where it is 0 and `values` has room for all the answer's values, they are its first
+ * elements. Buffers are written as the operations say; a refused call leaves them as they were, but for the clause list of
+ * basilvault_reduce with 13 and 21. Nothing has to hold before a call but that each pointer is valid for its length. */
+#ifndef BASILVAULT_H
+#define BASILVAULT_H
+
+#include <stddef.h>
+#include <stdint.h>
+
+#ifdef __cplusplus
+extern "C" {
+#endif
+
+/* Five values: the starts of symbols, states, internals, calls and returns. */
+uint32_t basilvault_read(const uint8_t *table, size_t table_len, uint64_t *values, size_t values_len);
+
+/* 25 values: a word of tops for each possible state, then the number of tops found. */
+uint32_t basilvault_tops(const uint8_t *table, size_t table_len, uint64_t *values, size_t values_len);
+
+/* Two values: clauses and words. */
+uint32_t basilvault_clauses(const uint8_t *table, size_t table_len, uint16_t *list, size_t list_len, uint64_t *values, size_t values_len);
+
+/* One value: the guesses made. */
+uint32_t basilvault_search(const uint16_t *list, size_t list_len, size_t variables, uint64_t budget, uint8_t *answer, size_t answer_len,
+                           uint64_t *values, size_t values_len);
+
+/* One value: the class count. */
+uint32_t basilvault_check(const uint8_t *table, size_t table_len, const uint8_t *map, size_t map_len, uint64_t *values, size_t values_len);
+
+/* One value: the quotient's length. */
+uint32_t basilvault_quotient(const uint8_t *table, size_t table_len, const uint8_t *map, size_t map_len, uint8_t *out, size_t out_len,
+                             uint64_t *values, size_t values_len);
+
+/* Four values: classes, guesses, clause words, quotient length. */
+uint32_t basilvault_reduce(const uint8_t *table, size_t table_len, uint64_t budget, uint16_t *list, size_t list_len, uint8_t *map,
+                           size_t map_len, uint8_t *out, size_t out_len, uint64_t *values, size_t values_len);
+
+#ifdef __cplusplus
+}
+#endif
+
+#endif

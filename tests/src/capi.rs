@@ -1,0 +1,96 @@
+//! A safe wrapper over the proved library's C interface. Every call is total, so nothing has to be tested before it; the values buffer is made
+//! long enough here, but for `tops_into`.
+
+#[link(name = "capi", kind = "static")]
+extern "C" {
+    fn basilvault_read(table: *const u8, n: usize, values: *mut u64, k: usize) -> u32;
+    fn basilvault_tops(table: *const u8, n: usize, values: *mut u64, k: usize) -> u32;
+    fn basilvault_clauses(table: *const u8, n: usize, list: *mut u16, l: usize, values: *mut u64, k: usize) -> u32;
+    fn basilvault_search(list: *const u16, l: usize, variables: usize, budget: u64, answer: *mut u8, a: usize, values: *mut u64, k: usize) -> u32;
+    fn basilvault_check(table: *const u8, n: usize, map: *const u8, m: usize, values: *mut u64, k: usize) -> u32;
+    fn basilvault_quotient(table: *const u8, n: usize, map: *const u8, m: usize, out: *mut u8, o: usize, values: *mut u64, k: usize) -> u32;
+    fn basilvault_reduce(
+        table: *const u8,
+        n: usize,
+        budget: u64,
+        list: *mut u16,
+        l: usize,
+        map: *mut u8,
+        m: usize,
+        out: *mut u8,
+        o: usize,
+        values: *mut u64,
+        k: usize,
+    ) -> u32;
+}
+
+fn answer<const K: usize>(number: u32, values: [u64; K]) -> Result<[u64; K], u8> {
+    if number == 0 {
+        Ok(values)
+    } else {
+        Err(number as u8)
+    }
+}
+
+pub fn read(table: &[u8]) -> Result<[u64; 5], u8> {
+    let mut v = [0u64; 5];
+    let k = unsafe { basilvault_read(table.as_ptr(), table.len(), v.as_mut_ptr(), v.len()) };
+    answer(k, v)
+}
+
+/// The 24 words, then the number of tops found.
+pub fn tops(table: &[u8]) -> Result<[u64; 25], u8> {
+    let mut v = [0u64; 25];
+    let k = unsafe { basilvault_tops(table.as_ptr(), table.len(), v.as_mut_ptr(), v.len()) };
+    answer(k, v)
+}
+
+/// The same into a buffer of any length; the number.
+pub fn tops_into(table: &[u8], values: &mut [u64]) -> u32 {
+    unsafe { basilvault_tops(table.as_ptr(), table.len(), values.as_mut_ptr(), values.len()) }
+}
+
+pub fn clauses(table: &[u8], list: &mut [u16]) -> Result<[u64; 2], u8> {
+    let mut v = [0u64; 2];
+    let k = unsafe { basilvault_clauses(table.as_ptr(), table.len(), list.as_mut_ptr(), list.len(), v.as_mut_ptr(), v.len()) };
+    answer(k, v)
+}
+
+pub fn search(list: &[u16], variables: usize, budget: u64, out: &mut [u8]) -> Result<[u64; 1], u8> {
+    let mut v = [0u64; 1];
+    let k = unsafe { basilvault_search(list.as_ptr(), list.len(), variables, budget, out.as_mut_ptr(), out.len(), v.as_mut_ptr(), v.len()) };
+    answer(k, v)
+}
+
+pub fn check(table: &[u8], map: &[u8]) -> Result<[u64; 1], u8> {
+    let mut v = [0u64; 1];
+    let k = unsafe { basilvault_check(table.as_ptr(), table.len(), map.as_ptr(), map.len(), v.as_mut_ptr(), v.len()) };
+    answer(k, v)
+}
+
+pub fn quotient(table: &[u8], map: &[u8], out: &mut [u8]) -> Result<[u64; 1], u8> {
+    let mut v = [0u64; 1];
+    let k = unsafe { basilvault_quotient(table.as_ptr(), table.len(), map.as_ptr(), map.len(), out.as_mut_ptr(), out.len(), v.as_mut_ptr(), v.len()) };
+    answer(k, v)
+}
+
+/// Classes, guesses, clause words, quotient length.
+pub fn reduce(table: &[u8], budget: u64, list: &mut [u16], map: &mut [u8], out: &mut [u8]) -> Result<[u64; 4], u8> {
+    let mut v = [0u64; 4];
+    let k = unsafe {
+        basilvault_reduce(
+            table.as_ptr(),
+            table.len(),
+            budget,
+            list.as_mut_ptr(),
+            list.len(),
+            map.as_mut_ptr(),
+            map.len(),
+            out.as_mut_ptr(),
+            out.len(),
+            v.as_mut_ptr(),
+            v.len(),
+        )
+    };
+    answer(k, v)
+}

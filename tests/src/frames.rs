@@ -1,0 +1,153 @@
+//! The cases that the program `cases` reads and the lines that it must write. Each method adds one case of its operation, with the plain
+//! implementation's answer, and hands that answer back.
+
+use crate::reference;
+use std::fmt::Write;
+
+/// What every buffer is filled with beforehand.
+const FILL: u8 = 7;
+
+/// A reduction's answer: class count, guesses, clause words and quotient length.
+pub type Reduced = Result<(usize, u64, usize, usize), u8>;
+
+/// The lengths of the buffers that a reduction is lent.
+#[derive(Clone, Copy)]
+pub struct Room {
+    pub list: usize,
+    pub map: usize,
+    pub out: usize,
+}
+
+/// The frames of the cases, the lines that they must give, and the number of cases of each operation.
+#[derive(Default)]
+pub struct Cases {
+    pub input: Vec<u8>,
+    pub output: String,
+    pub counts: [usize; 8],
+}
+
+/// 16-bit little-endian numbers.
+fn words(values: &[usize]) -> Vec<u8> {
+    values.iter().flat_map(|&x| u16::try_from(x).unwrap().to_le_bytes()).collect()
+}
+
+/// Numbers as they are printed.
+fn longs<T: Copy + Into<u64>>(values: &[T]) -> Vec<u64> {
+    values.iter().map(|&x| x.into()).collect()
+}
+
+impl Cases {
+    /// An operation's number, the length of the rest, and the rest.
+    fn frame(&mut self, operation: u8, parts: &[&[u8]]) {
+        let rest = parts.concat();
+        self.counts[operation as usize] += 1;
+        self.input.push(operation);
+        self.input.extend(words(&[rest.len()]));
+        self.input.extend(rest);
+    }
+
+    /// The name, and 0 with the answer's values or the refusal's number.
+    fn line(&mut self, name: &str, answer: Result<Vec<u64>, u8>) {
+        self.output.push_str(name);
+        match answer {
+            Ok(values) => [vec![0], values].concat().iter().for_each(|v| write!(self.output, " {v}").unwrap()),
+            Err(number) => write!(self.output, " {number}").unwrap(),
+        }
+    }
+
+    /// A buffer at exit, behind a bar.
+    fn buffer(&mut self, values: &[u64]) {
+        self.output.push_str(" |");
+        values.iter().for_each(|v| write!(self.output, " {v}").unwrap());
+    }
+
+    /// The end of a line.
+    fn end(&mut self) {
+        self.output.push('\n');
+    }
+
+    /// The five starts.
+    pub fn read(&mut self, b: &[u8]) -> Result<[usize; 5], u8> {
+        self.frame(1, &[b]);
+        let answer = reference::read(b);
+        self.line("read", answer.map(|starts| starts.map(|x| x as u64).to_vec()));
+        self.end();
+        answer
+    }
+
+    /// The words of the tops and their number; with a refusal, 0 in all of them.
+    pub fn tops(&mut self, b: &[u8]) -> Result<([u32; 24], u32), u8> {
+        self.frame(2, &[b]);
+        let answer = reference::tops(b);
+        let (number, top_words, found) = match answer {
+            Ok((w, f)) => (0, w, f),
+            Err(k) => (k, [0; 24], 0),
+        };
+        write!(self.output, "tops {number} {found}").unwrap();
+        top_words.iter().for_each(|w| write!(self.output, " {w}").unwrap());
+        self.end();
+        answer
+    }
+
+    /// The clause count and the word count.
+    pub fn clauses(&mut self, b: &[u8], room: usize) -> Result<(usize, usize), u8> {
+        self.frame(3, &[&words(&[room]), b]);
+        let mut list = vec![FILL as u16; room];
+        let answer = reference::clauses(b, &mut list);
+        assert!(answer.is_ok() || list.iter().all(|&x| x == FILL as u16), "outputs keep their bytes");
+        self.line("clauses", answer.map(|(c, w)| vec![c as u64, w as u64]));
+        self.buffer(&longs(&list));
+        self.end();
+        answer
+    }
+
+    /// The guesses made, and the answer buffer.
+    pub fn search(&mut self, list: &[u16], variables: usize, budget: u16, room: usize) -> Result<(u64, Vec<u8>), u8> {
+        let bytes: Vec<u8> = list.iter().flat_map(|w| w.to_le_bytes()).collect();
+        self.frame(4, &[&words(&[variables, budget as usize, room]), &bytes]);
+        let mut values = vec![FILL; room];
+        let answer = reference::search(list, variables, budget as u64, &mut values);
+        assert!(answer.is_ok() || values.iter().all(|&x| x == FILL), "outputs keep their bytes");
+        self.line("search", answer.map(|guesses| vec![guesses]));
+        self.buffer(&longs(&values));
+        self.end();
+        answer.map(|guesses| (guesses, values))
+    }
+
+    /// The class count.
+    pub fn check(&mut self, b: &[u8], map: &[u8]) -> Result<usize, u8> {
+        self.frame(5, &[&words(&[map.len()]), map, b]);
+        let answer = reference::check(b, map);
+        self.line("check", answer.map(|classes| vec![classes as u64]));
+        self.end();
+        answer
+    }
+
+    /// The written bytes.
+    pub fn quotient(&mut self, b: &[u8], map: &[u8], room: usize) -> Result<Vec<u8>, u8> {
+        self.frame(6, &[&words(&[map.len(), room]), map, b]);
+        let mut out = vec![FILL; room];
+        let answer = reference::quotient(b, map, &mut out);
+        assert!(answer.is_ok() || out.iter().all(|&x| x == FILL), "outputs keep their bytes");
+        self.line("quotient", answer.map(|length| vec![length as u64]));
+        self.buffer(&longs(&out));
+        self.end();
+        answer.map(|length| out[..length].to_vec())
+    }
+
+    /// The answer, the map buffer and the output.
+    pub fn reduce(&mut self, b: &[u8], budget: u64, room: Room) -> (Reduced, Vec<u8>, Vec<u8>) {
+        self.frame(7, &[&words(&[budget as usize, room.list, room.map, room.out]), b]);
+        let (mut list, mut map, mut out) = (vec![FILL as u16; room.list], vec![FILL; room.map], vec![FILL; room.out]);
+        let answer = reference::reduce(b, budget, &mut list, &mut map, &mut out);
+        assert!(answer.is_ok() || map.iter().chain(&out).all(|&x| x == FILL), "outputs keep their bytes");
+        let listed = matches!(answer, Ok(_) | Err(13 | 21));
+        assert!(listed || list.iter().all(|&x| x == FILL as u16), "the list is written with 13, 21 and a delivery only");
+        self.line("reduce", answer.map(|(classes, guesses, w, length)| vec![classes as u64, guesses, w as u64, length as u64]));
+        self.buffer(&longs(&list));
+        self.buffer(&longs(&map));
+        self.buffer(&longs(&out));
+        self.end();
+        (answer, map, out)
+    }
+}

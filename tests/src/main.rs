@@ -1,0 +1,337 @@
+//! Compares the proved library with the plain implementation on random cases: answers, counts and every byte of every buffer.
+//! `basilvault-tests [CASES] [SEED]`
+
+mod capi;
+mod random;
+mod reference;
+
+use random::Random;
+use reference::Table;
+use std::io::Write;
+use std::process::{Command, Stdio};
+
+/// What was compared: an operation with its number, or another comparison.
+struct Counts(std::collections::BTreeMap<(String, u8), usize>);
+
+impl Counts {
+    fn add<T>(&mut self, name: &str, answer: Result<T, u8>) {
+        *self.0.entry((name.to_string(), answer.err().unwrap_or(0))).or_default() += 1;
+    }
+}
+
+/// The numbers that each operation can give, 0 for none: a run of many cases must have met each of them.
+const NUMBERS: [(&str, &[u8]); 9] = [
+    ("read", &[0, 1, 2, 3, 4, 5, 6, 7, 8]),
+    ("tops", &[0, 2, 3, 5, 7, 8]),
+    ("clauses", &[0, 3, 5, 7, 8, 10]),
+    ("search", &[0, 11, 12, 13, 14]),
+    ("check", &[0, 3, 7, 8, 15, 16, 17, 18, 19, 20]),
+    ("quotient", &[0, 3, 7, 8, 15, 16, 17, 18, 19, 20, 21]),
+    ("reduce", &[0, 3, 7, 8, 10, 13, 21, 22]),
+    ("words of input and quotient", &[0]),
+    ("every map of a small table", &[0]),
+];
+
+fn same<T: PartialEq + std::fmt::Debug>(what: &str, table: &[u8], ours: T, theirs: T) {
+    if ours != theirs {
+        panic!("{what} differs\n library:   {ours:?}\n reference: {theirs:?}\n input: {table:02x?}");
+    }
+}
+
+/// A buffer length around what is needed: shorter, equal, longer, or none.
+fn around(r: &mut Random, need: usize) -> usize {
+    match r.below(5) {
+        0 => need.saturating_sub(1 + r.below(3)),
+        1 => need,
+        2 => 0,
+        _ => need + r.below(40),
+    }
+}
+
+fn compare_read(b: &[u8], c: &mut Counts) {
+    let theirs = reference::read(b).map(|s| s.map(|x| x as u64));
+    same("read", b, capi::read(b), theirs);
+    c.add("read", theirs);
+}
+
+fn compare_tops(b: &[u8], c: &mut Counts) {
+    let theirs = reference::tops(b).map(|(w, k)| {
+        let mut v = [0u64; 25];
+        w.iter().enumerate().for_each(|(i, &x)| v[i] = x as u64);
+        v[24] = k as u64;
+        v
+    });
+    same("tops", b, capi::tops(b), theirs);
+    c.add("tops", theirs);
+}
+
+fn compare_clauses(r: &mut Random, b: &[u8], c: &mut Counts) {
+    let need = reference::parse(b).map(|(t, _)| reference::words_of(&reference::clause_list(&t)).len()).unwrap_or(9);
+    let mut ours = vec![0xbeefu16; around(r, need)];
+    let mut theirs = ours.clone();
+    let a = capi::clauses(b, &mut ours);
+    let e = reference::clauses(b, &mut theirs).map(|(x, y)| [x as u64, y as u64]);
+    same("clauses", b, (a, ours), (e, theirs));
+    c.add("clauses", e);
+}
+
+fn compare_search(r: &mut Random, words: &[u16], variables: usize, budget: u64, c: &mut Counts) {
+    let mut ours = vec![0x77u8; around(r, variables)];
+    let mut theirs = ours.clone();
+    let a = capi::search(words, variables, budget, &mut ours);
+    let e = reference::search(words, variables, budget, &mut theirs).map(|k| [k]);
+    if (a, &ours) != (e, &theirs) {
+        panic!("search differs: {a:?} {ours:?} against {e:?} {theirs:?}; variables {variables}, budget {budget}, words {words:?}");
+    }
+    c.add("search", e);
+}
+
+fn compare_map(r: &mut Random, b: &[u8], m: &[u8], c: &mut Counts) {
+    let e = reference::check(b, m).map(|k| [k as u64]);
+    same("check", b, capi::check(b, m), e);
+    c.add("check", e);
+    let need = match (reference::parse(b), e) {
+        (Ok((t, _)), Ok(_)) => reference::quotient_table(&t, m).bytes().len(),
+        _ => b.len(),
+    };
+    let mut ours = vec![0x55u8; around(r, need)];
+    let mut theirs = ours.clone();
+    let a = capi::quotient(b, m, &mut ours);
+    let e = reference::quotient(b, m, &mut theirs).map(|k| [k as u64]);
+    same("quotient", b, (a, ours), (e, theirs));
+    c.add("quotient", e);
+}
+
+/// Every word of up to eight symbols over both tables where these are at most 10,000, else as many random ones.
+fn compare_words(r: &mut Random, a: &Table, b: &Table, c: &mut Counts) {
+    let k = a.symbols.len();
+    let mut words: Vec<Vec<u8>> = vec![vec![]];
+    if (0..9).map(|n| k.pow(n)).sum::<usize>() <= 10_000 {
+        let mut done = 0;
+        while done < words.len() {
+            let w = words[done].clone();
+            done += 1;
+            if w.len() < 8 {
+                words.extend((0..k as u8).map(|s| [&w[..], &[s]].concat()));
+            }
+        }
+    } else {
+        for _ in 0..400 {
+            let n = r.below(9);
+            words.push((0..n).map(|_| r.below(k) as u8).collect());
+        }
+    }
+    for w in &words {
+        assert_eq!(reference::accepts(a, w), reference::accepts(b, w), "word {w:?} separates {a:?} and {b:?}");
+    }
+    c.add("words of input and quotient", Ok(()));
+}
+
+fn compare_reduce(r: &mut Random, b: &[u8], c: &mut Counts) {
+    let budget = match r.below(4) {
+        0 => r.below(4) as u64,
+        1 => u64::MAX,
+        _ => 2000,
+    };
+    let parsed = reference::parse(b);
+    let (words, states) = match &parsed {
+        Ok((t, _)) => (reference::words_of(&reference::clause_list(t)).len(), t.count()),
+        Err(_) => (9, 4),
+    };
+    let ample = r.chance(70);
+    let mut list = vec![0xabcdu16; if ample { words + r.below(9) } else { around(r, words) }];
+    let mut map = vec![0x66u8; if ample { states + r.below(4) } else { around(r, states) }];
+    let mut out = vec![0x44u8; if ample { b.len() + r.below(20) } else { around(r, b.len()) }];
+    let (mut list2, mut map2, mut out2) = (list.clone(), map.clone(), out.clone());
+    let a = capi::reduce(b, budget, &mut list, &mut map, &mut out);
+    let e = reference::reduce(b, budget, &mut list2, &mut map2, &mut out2).map(|(x, g, w, l)| [x as u64, g, w as u64, l as u64]);
+    same("reduce", b, (a, list, &map, &out), (e, list2, &map2, &out2));
+    c.add("reduce", e);
+    if let (Ok(v), Ok((t, _))) = (e, parsed) {
+        let small = reference::parse(&out[..v[3] as usize]).expect("the quotient is readable").0;
+        if t.count() <= 8 {
+            compare_words(r, &t, &small, c);
+        }
+    }
+}
+
+/// A random map, the one that a reduction delivers, or that one with two classes joined.
+fn any_map(r: &mut Random, t: &Table, b: &[u8]) -> Vec<u8> {
+    let n = t.count();
+    if r.chance(40) {
+        return random::map(r, n);
+    }
+    let (mut list, mut map, mut out) = (vec![0u16; 60_000], vec![0u8; 24], vec![0u8; 23_000]);
+    if reference::reduce(b, 500, &mut list, &mut map, &mut out).is_err() {
+        return (0..n as u8).collect();
+    }
+    let found = map[..n].to_vec();
+    let classes = *found.iter().max().unwrap() as usize + 1;
+    if classes == 1 || r.chance(40) {
+        return found;
+    }
+    let high = 1 + r.below(classes - 1);
+    let low = r.below(high) as u8;
+    let high = high as u8;
+    found.iter().map(|&x| if x == high { low } else if x > high { x - 1 } else { x }).collect()
+}
+
+/// Every properly numbered map of n states.
+fn all_maps(n: usize) -> Vec<Vec<u8>> {
+    let mut maps = vec![vec![0u8]];
+    for _ in 1..n {
+        maps = maps
+            .into_iter()
+            .flat_map(|m| {
+                let next = *m.iter().max().unwrap() + 1;
+                (0..=next).map(move |k| {
+                    let mut x = m.clone();
+                    x.push(k);
+                    x
+                })
+            })
+            .collect();
+    }
+    maps
+}
+
+fn joins_more(fine: &[u8], coarse: &[u8]) -> bool {
+    let n = fine.len();
+    let pairs = || (0..n).flat_map(move |p| (0..n).map(move |q| (p, q)));
+    pairs().all(|(p, q)| fine[p] != fine[q] || coarse[p] == coarse[q]) && pairs().any(|(p, q)| fine[p] != fine[q] && coarse[p] == coarse[q])
+}
+
+/// Small tables: every map against Definition 1, and that none coarser than the delivered one meets it.
+fn compare_all_maps(t: &Table, c: &mut Counts) {
+    let b = t.bytes();
+    let maps = all_maps(t.count());
+    let met: Vec<&Vec<u8>> = maps.iter().filter(|m| reference::broken(t, m).is_none()).collect();
+    for m in &maps {
+        let classes = *m.iter().max().unwrap() as u64 + 1;
+        let e = match reference::broken(t, m) {
+            None => Ok([classes]),
+            Some(k) => Err(k),
+        };
+        same("check of every map", &b, capi::check(&b, m), e);
+        c.add("check", e);
+    }
+    let (mut list, mut map, mut out) = (vec![0u16; 40_000], vec![0u8; 24], vec![0u8; b.len()]);
+    if capi::reduce(&b, u64::MAX, &mut list, &mut map, &mut out).is_ok() {
+        let found = &map[..t.count()];
+        assert!(met.iter().any(|m| &m[..] == found), "the delivered map meets Definition 1");
+        assert!(!met.iter().any(|m| joins_more(found, m)), "none coarser meets it: {found:?} of {b:02x?}");
+        c.add("every map of a small table", Ok(()));
+    }
+}
+
+/// What the program must print for a table: document 01's three lines, or the refusal.
+fn printed(b: &[u8]) -> String {
+    let (mut list, mut map, mut out) = (vec![0u16; 32_768], vec![0u8; 24], vec![0u8; 22_596]);
+    match reference::reduce(b, 100_000, &mut list, &mut map, &mut out) {
+        Err(k) => format!("refused {k}\n"),
+        Ok((classes, guesses, words, length)) => {
+            let n = reference::parse(b).unwrap().0.count();
+            let map: String = map[..n].iter().map(|x| format!(" {x}")).collect();
+            let table: String = out[..length].iter().map(|x| format!(" {x:02x}")).collect();
+            format!("states {n} classes {classes} guesses {guesses} words {words}\nmap{map}\ntable{table}\n")
+        }
+    }
+}
+
+/// The program itself, on readable, damaged, empty and too long files.
+fn compare_program() {
+    let program = concat!(env!("CARGO_MANIFEST_DIR"), "/../target/bin/basilvault");
+    let mut r = Random::new(7);
+    let mut files = vec![vec![], vec![0; 22_597], vec![0; 40_000]];
+    for n in [1, 4, 9, 16, 24] {
+        files.push(random::table(&mut r, n, true).bytes());
+        files.push(random::blown_up(&mut r, n, true).bytes());
+        let damaged = random::damaged(&mut r, files.last().unwrap());
+        files.push(damaged);
+    }
+    for b in &files {
+        let mut child = Command::new(program).stdin(Stdio::piped()).stdout(Stdio::piped()).spawn().expect("the program is built");
+        // the program reads one byte past the limit and no further, so a write of more may fail
+        let _ = child.stdin.take().unwrap().write_all(b);
+        let out = child.wait_with_output().unwrap().stdout;
+        same("the program", b, String::from_utf8(out).unwrap(), printed(b));
+    }
+    println!("{:7} files reduced by the program", files.len());
+}
+
+/// A values buffer without room for every value keeps its content, and the number is the same.
+fn compare_short_values(t: &Table) {
+    let b = t.bytes();
+    for room in 0..30 {
+        let mut values = vec![9u64; room];
+        assert_eq!(capi::tops_into(&b, &mut values), 0);
+        match reference::tops(&b) {
+            Ok((w, k)) if room >= 25 => {
+                assert_eq!(values[..24], w.map(u64::from));
+                assert_eq!(values[24], k as u64);
+                assert!(values[25..].iter().all(|&x| x == 9));
+            }
+            _ => assert!(values.iter().all(|&x| x == 9)),
+        }
+        assert_eq!(capi::tops_into(&b[1..], &mut vec![9u64; room]), 3);
+    }
+}
+
+fn main() {
+    let mut args = std::env::args().skip(1);
+    let cases: usize = args.next().map(|x| x.parse().expect("a number of cases")).unwrap_or(60_000);
+    let seed: u64 = args.next().map(|x| x.parse().expect("a seed")).unwrap_or_else(|| {
+        let now = std::time::SystemTime::now().duration_since(std::time::UNIX_EPOCH).unwrap();
+        now.as_secs() ^ u64::from(now.subsec_nanos())
+    });
+    println!("seed {seed}");
+    let mut r = Random::new(seed);
+    let mut c = Counts(Default::default());
+    compare_short_values(&random::table(&mut r, 5, false));
+    for i in 0..cases {
+        let most = if i % 100 == 0 { 24 } else if i % 7 == 0 { 12 } else { 7 };
+        let t = random::any_table(&mut r, most);
+        let valid = t.bytes();
+        let b = if r.chance(25) { random::damaged(&mut r, &valid) } else { valid.clone() };
+        compare_read(&b, &mut c);
+        match i % 6 {
+            0 => compare_tops(&b, &mut c),
+            1 => compare_clauses(&mut r, &b, &mut c),
+            2 => {
+                let variables = if r.chance(4) { 270 + r.below(10) } else { r.below(16) };
+                let words = random::clause_words(&mut r, variables);
+                let budget = if r.chance(30) { r.below(5) as u64 } else { 10_000 };
+                compare_search(&mut r, &words, variables, budget, &mut c);
+                if let Ok((t, _)) = reference::parse(&b) {
+                    let words = reference::words_of(&reference::clause_list(&t));
+                    let n = t.count();
+                    compare_search(&mut r, &words, n * (n - 1) / 2, 3000, &mut c);
+                }
+            }
+            3 => {
+                let m = any_map(&mut r, &t, &valid);
+                compare_map(&mut r, &b, &m, &mut c);
+            }
+            4 => compare_reduce(&mut r, &b, &mut c),
+            _ => {
+                let n = 1 + r.below(6);
+                let small = match r.below(3) {
+                    0 => random::table(&mut r, n, false),
+                    1 => random::table(&mut r, n, true),
+                    _ => random::blown_up(&mut r, n, false),
+                };
+                compare_all_maps(&small, &mut c);
+            }
+        }
+    }
+    compare_program();
+    for ((name, number), k) in &c.0 {
+        println!("{k:7} {name}: {number}");
+    }
+    for (name, numbers) in NUMBERS.iter().filter(|_| cases >= 20_000) {
+        for &k in numbers.iter() {
+            assert!(c.0.contains_key(&(name.to_string(), k)), "{name} never gave {k}");
+        }
+    }
+    println!("{cases} cases, no difference");
+}
