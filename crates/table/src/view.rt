@@ -1,6 +1,6 @@
-// A read table as it is passed on: the lent bytes together with the five section starts. The functions that take or make the view are proved by
-// walks of their own, so each hands the bytes and the starts to a function above it in this file; `part` has plain parameters and serves every
-// caller. Nothing is asked of the starts: bytes that are not there are left out of a section.
+// A read table as it is passed on: the lent bytes together with the five section starts. A function that takes or makes the view is proved by hand,
+// so there are few, and each hands the bytes and the starts to a function that is not. `part` has plain parameters and serves every caller.
+// Nothing is asked of the starts: bytes that are not there are left out of a section.
 ghost use mathlib.Core.Path.{_≡_};
 ghost use lib.Seq.{slice};
 ghost use Rattle.table.specs.File.{trailer};
