@@ -14,6 +14,7 @@ use libc::STDIN_FILENO;
 use libc::STDOUT_FILENO;
 use reduce::Reduction;
 use table::Reading;
+use table::Section;
 
 fn say(text: &[u8]) -> bool {
     io::write_all(STDOUT_FILENO, text)
@@ -93,7 +94,10 @@ fn state_count(table: &[u8]) -> usize
 {
     let reading = table::read(table);
     match reading {
-        Reading::Sections(starts) => starts.internals - starts.states,
+        Reading::Sections(starts) => {
+            let states = table::part(table, starts, Section::States);
+            states.len()
+        }
         Reading::Refused(_) => 0,
     }
 }

@@ -4,7 +4,7 @@ use mathlib.Core.Path.{_≡_, refl, sym, ap, _∙_, subst}
 use mathlib.Core.Logic.{_≢_}
 use mathlib.Core.Bool.{Bool, true, false}
 use mathlib.Core.List.{List, _++_}
-use Prim.Native.Nat.{ℕ, _-_}
+use Prim.Native.Nat.{ℕ}
 use native.Mathlib.Omega.{arith}
 use lib.ListN.{length, take, drop, replicate}
 use lib.Seq.{slice, take-append-seam}
@@ -17,15 +17,17 @@ use Rattle.table.specs.Limits.{standard}
 use Rattle.table.specs.File.{trailer, start, tableOf, records}
 use Rattle.table.specs.Reading.{readNumber, Readable, startsOf}
 use Rattle.table.specs.Language.{count}
+use Rattle.table.specs.Sections.{partOf}
 use Rattle.table.specs.declared.Starts.{Starts}
+use Rattle.table.specs.declared.view.Section.the-variants.{States, Internals, Calls, Returns}
 use Rattle.table.proofs.Passed.{Tested, formed-tested}
 use Rattle.table.proofs.Bytes.{read-well-formed}
-use Rattle.table.proofs.Numbers.{part}
+use Rattle.table.proofs.Parts.{states-at, internals-at, calls-at, returns-at}
 use Rattle.tops.specs.Tops.{topWords, topCount, liveReturns}
 use Rattle.tops.specs.Demands.{examinedOf}
 use Rattle.tops.specs.declared.Examined.{Examined}
 use Rattle.tops.proofs.Loops.{section-within}
-use Rattle.tops.proofs.Read.{ordered, sections-read}
+use Rattle.tops.proofs.Read.{sections-read}
 use Rattle.clauses.specs.declared.Listed.{Listed}
 use Rattle.clauses.specs.declared.Listed.the-variants.{Refused}
 use Rattle.clauses.specs.Pairs.{pairs}
@@ -82,28 +84,7 @@ module _ (b : List ℕ) (readable : Readable standard b) where
   unfolding listBy clauseList lookClauses transitivity returnClauses returnClausesBy liveReturns tableOf
   whole = refl
 
-module _ (b : List ℕ) (s : Starts) (readable : Readable standard b) (starts : s ≡ startsOf b) where
-  states-part : take (s .internals - s .states) (drop (s .states) b) ≡ slice (start b 1) (start b 2) b
-  unfolding startsOf
-  states-part = part (s .states) (s .internals) b (ordered b s readable starts .states) ∙ (λ i. slice (starts i .states) (starts i .internals) b)
-
-  internals-part : take (s .calls - s .internals) (drop (s .internals) b) ≡ slice (start b 2) (start b 3) b
-  unfolding startsOf
-  internals-part = part (s .internals) (s .calls) b (ordered b s readable starts .internals) ∙ (λ i. slice (starts i .internals) (starts i .calls) b)
-
-  calls-part : take (s .returns - s .calls) (drop (s .calls) b) ≡ slice (start b 3) (start b 4) b
-  unfolding startsOf
-  calls-part = part (s .calls) (s .returns) b (ordered b s readable starts .calls) ∙ (λ i. slice (starts i .calls) (starts i .returns) b)
-
-  returns-part : take (length b - 12 - s .returns) (drop (s .returns) b) ≡ slice (start b 4) (trailer b) b
-  unfolding startsOf trailer
-  returns-part = part (s .returns) (length b - 12) b (ordered b s readable starts .returns) ∙ (λ i. slice (starts i .returns) (length b - 12) b)
-
-  pub parts-ready : Ready (take (s .internals - s .states) (drop (s .states) b)) (take (s .calls - s .internals) (drop (s .internals) b)) (take (s .returns - s .calls) (drop (s .calls) b)) (take (length b - 12 - s .returns) (drop (s .returns) b))
-  parts-ready = rw (states-part, internals-part, calls-part, returns-part) (ready b readable)
-
-  -- ---- the answer
-
+  -- the answer
   listed : (list : List ℕ) → listedBy (clauseList standard (tableOf b)) list ≡ clausesOf standard b list
   unfolding listedBy clausesOf clausesNumber clauseWords
   listed list = go (leb (length (wordsOf (clauseList standard (tableOf b)))) (length list)) refl
@@ -114,14 +95,18 @@ module _ (b : List ℕ) (s : Starts) (readable : Readable standard b) (starts : 
           let n : clausesNumber standard b list ≡ 10 = rw (eq-eqb (readNumber standard b) 0 readable, clausesNumber, h) in
           rw (h, listedBy) (refused b list n (omega arith))
 
-  pub parts-listed : (tops list : List ℕ) {d : ClausesDone} → tops ≡ topWords standard (tableOf b)
-      → d ≡ listedBy (listBy (take (s .internals - s .states) (drop (s .states) b)) (take (s .calls - s .internals) (drop (s .internals) b)) (take (s .returns - s .calls) (drop (s .calls) b)) (take (length b - 12 - s .returns) (drop (s .returns) b)) tops) list
-      → d ≡ clausesOf standard b list
-  parts-listed tops list e f =
+-- the parts handed on
+module _ (b : List ℕ) {s : Starts} (readable : Readable standard b) (starts : s ≡ startsOf b) {states internals calls returns : List ℕ}
+    (e1 : states ≡ partOf b s States) (e2 : internals ≡ partOf b s Internals) (e3 : calls ≡ partOf b s Calls) (e4 : returns ≡ partOf b s Returns) where
+  pub parts-ready : Ready states internals calls returns
+  parts-ready = rw (e1 ∙ states-at b starts, e2 ∙ internals-at b starts, e3 ∙ calls-at b starts, e4 ∙ returns-at b starts) (ready b readable)
+
+  pub parts-listed : (list : List ℕ) {tops : List ℕ} {d : ClausesDone} → tops ≡ topWords standard (tableOf b) → d ≡ listedBy (listBy states internals calls returns tops) list → d ≡ clausesOf standard b list
+  parts-listed list e f =
       f
-      ∙ (λ i. listedBy (listBy (states-part i) (internals-part i) (calls-part i) (returns-part i) (e i)) list)
+      ∙ (λ i. listedBy (listBy ((e1 ∙ states-at b starts) i) ((e2 ∙ internals-at b starts) i) ((e3 ∙ calls-at b starts) i) ((e4 ∙ returns-at b starts) i) (e i)) list)
       ∙ ap (λ cs. listedBy cs list) (whole b readable)
-      ∙ listed list
+      ∙ listed b readable list
 
 -- ---- reading first
 

@@ -12,6 +12,7 @@ use moves::moves;
 use returns::live_returns;
 use states::looks_apart;
 use states::transitive;
+use table::Section;
 use table::Starts;
 
 mod emit;
@@ -93,16 +94,11 @@ fn list_read(table: &[u8], starts: Starts, tops: &[u32; 24], list: &mut [u16]) -
     requires { ⌜ Readable standard (now table) × (starts ≡ startsOf (now table)) × (now tops ≡ topWords standard (tableOf (now table))) ⌝ }
     ensures { λ r. ⌜ record { answer = r; list = now (list .exit) } ≡ clausesOf standard (now (table .entry)) (now (list .entry)) ⌝ }
 {
-    let end = table.len() - 12;
-    let states = starts.states;
-    let internals = starts.internals;
-    let calls = starts.calls;
-    let returns = starts.returns;
     list_sections(
-        &table[states..internals],
-        &table[internals..calls],
-        &table[calls..returns],
-        &table[returns..end],
+        table::part(table, starts, Section::States),
+        table::part(table, starts, Section::Internals),
+        table::part(table, starts, Section::Calls),
+        table::part(table, starts, Section::Returns),
         tops,
         list,
     )

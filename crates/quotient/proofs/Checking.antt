@@ -3,23 +3,24 @@ use mathlib.Core.Path.{_≡_, refl, sym, ap, _∙_, subst}
 use mathlib.Core.Logic.{_↔_}
 use mathlib.Core.Bool.{Bool, true, false}
 use mathlib.Core.List.{List, [], _∷_}
-use Prim.Native.Nat.{ℕ, _+_, _-_, _≤_}
+use Prim.Native.Nat.{ℕ}
 use native.Mathlib.Omega.{arith}
-use lib.ListN.{length, take, drop}
+use lib.ListN.{length}
 use lib.Dec.{eqb}
 use borrow.Author.Tests.{eqb-true, eqb-false, eq-eqb, ne-eqb}
 use Rattle.lists.specs.Lists.{firstFailed}
 use Rattle.lists.proofs.Refusals.{passes, fails}
 use Rattle.table.specs.Limits.{standard}
 use Rattle.table.specs.File.{records, tableOf}
-use Rattle.table.specs.Reading.{readNumber, startsOf, ascend}
+use Rattle.table.specs.Reading.{readNumber, ascend}
 use Rattle.table.specs.Maps.{classes, numbered, Proper, RaqMap}
-use Rattle.table.specs.Sections.{ReadAs}
+use Rattle.table.specs.Sections.{partOf}
 use Rattle.table.specs.declared.Starts.{Starts}
+use Rattle.table.specs.declared.view.Section.the-variants.{States, Internals, Calls, Returns}
 use Rattle.table.proofs.Passed.{formed-tested, no-test}
 use Rattle.table.proofs.Bytes.{read-well-formed}
 use Rattle.table.proofs.Facts.{few-states}
-use Rattle.table.proofs.Handed.{states-part, internals-part, calls-part, returns-part}
+use Rattle.table.proofs.Parts.{states-read, internals-read, calls-read, returns-read}
 use Rattle.tops.specs.declared.Examined.{Examined}
 use Rattle.tops.specs.Demands.{examinedOf}
 use Rattle.maps.specs.declared.Checked.{Checked}
@@ -67,31 +68,29 @@ module _ (s i c r f m : List ℕ) where
 
 -- ---- the parts of a read table
 
-module _ {b f : List ℕ} {s : Starts} (k : Known b s f) (end : ℕ) (e : end + 12 ≡ length b) where
-  abbrev part : ℕ → ℕ → List ℕ
-  part from to = take (to - from) (drop from b)
-
-  pub known-parts : Parted (part (s .states) (s .internals)) (part (s .internals) (s .calls)) (part (s .calls) (s .returns)) (part (s .returns) end)
+module _ {b f : List ℕ} {s : Starts} (k : Known b s f) {states internals calls returns : List ℕ}
+    (e1 : states ≡ partOf b s States) (e2 : internals ≡ partOf b s Internals) (e3 : calls ≡ partOf b s Calls) (e4 : returns ≡ partOf b s Returns) where
+  pub known-parts : Parted states internals calls returns
   known-parts =
       let wf = read-well-formed standard b (k .read .readable) in
       record {
-        few = omega (arith, ap length (states-part (k .read) end e), few-states wf);
-        internals-ascend = ap ascend (internals-part (k .read) end e) ∙ formed-tested wf .internals-ascend;
-        calls-ascend = ap ascend (calls-part (k .read) end e) ∙ formed-tested wf .calls-ascend;
-        returns-ascend = ap ascend (returns-part (k .read) end e) ∙ formed-tested wf .returns-ascend;
+        few = omega (arith, ap length (states-read (k .read) e1), few-states wf);
+        internals-ascend = ap ascend (internals-read (k .read) e2) ∙ formed-tested wf .internals-ascend;
+        calls-ascend = ap ascend (calls-read (k .read) e3) ∙ formed-tested wf .calls-ascend;
+        returns-ascend = ap ascend (returns-read (k .read) e4) ∙ formed-tested wf .returns-ascend;
       }
 
-  pub parts-tests : (m : List ℕ) → firstFailed (partTests (part (s .states) (s .internals)) (part (s .internals) (s .calls)) (part (s .calls) (s .returns)) (part (s .returns) end) f m) ≡ firstFailed (mapTests standard (tableOf b) m)
+  pub parts-tests : (m : List ℕ) → firstFailed (partTests states internals calls returns f m) ≡ firstFailed (mapTests standard (tableOf b) m)
   unfolding partTests mapTests looksAgree
   parts-tests m =
-      let n = states-part (k .read) end e in
+      let n = states-read (k .read) e1 in
       λ j. firstFailed
       ((15, eqb (length m) (length (n j)))
       ∷ (16, numbered m)
       ∷ (17, looksAgree (ofStates (n j)) m)
-      ∷ (18, movesMatched (internals-part (k .read) end e j) (length (n j)) m)
-      ∷ (19, movesMatched (calls-part (k .read) end e j) (length (n j)) m)
-      ∷ (20, returnsMatched (k .words j) (returns-part (k .read) end e j) (length (n j)) m)
+      ∷ (18, movesMatched (internals-read (k .read) e2 j) (length (n j)) m)
+      ∷ (19, movesMatched (calls-read (k .read) e3 j) (length (n j)) m)
+      ∷ (20, returnsMatched (k .words j) (returns-read (k .read) e4 j) (length (n j)) m)
       ∷ [])
 
 -- ---- the answer

@@ -13,12 +13,15 @@ use Rattle.lists.specs.Lists.{keep, upto, parts, over}
 use Rattle.lists.proofs.Members.{keep-mem}
 use Rattle.lists.proofs.Counts.{keep-le}
 use Rattle.table.specs.Limits.{standard}
-use Rattle.table.specs.File.{Table, records, tableOf, bytesOf}
+use Rattle.table.specs.File.{Table, trailer, records, tableOf, bytesOf}
 use Rattle.table.specs.Maps.{classes}
+use Rattle.table.specs.Sections.{partOf}
 use Rattle.table.specs.declared.Starts.{Starts}
+use Rattle.table.specs.declared.view.Section.{Section}
+use Rattle.table.specs.declared.view.Section.the-variants.{Symbols, States, Internals, Calls, Returns}
 use Rattle.table.proofs.Passed.{formed-tested}
 use Rattle.table.proofs.Bytes.{Bytes, Small, records-wide, read-well-formed}
-use Rattle.table.proofs.Handed.{symbols-part, states-part, internals-part, calls-part, returns-part}
+use Rattle.table.proofs.Parts.{symbols-read, states-read, internals-read, calls-read, returns-read}
 use Rattle.tops.specs.Tops.{live, liveReturns}
 use Rattle.maps.specs.Check.{checkNumber}
 use Rattle.quotient.specs.Quotient.{image, images, memberHas, classByte, quotientTable, quotientBytes, quotientNumber, QuotientDone, quotientOf}
@@ -154,45 +157,54 @@ returns-kept s f = keep-same (kept f) (live f) (records 4 s) (λ r d. sym (retur
 
 -- ---- over a table that was read
 
-module _ {b f : List ℕ} {s : Starts} (k : Known b s f) (end : ℕ) (e : end + 12 ≡ length b) where
-  abbrev part : ℕ → ℕ → List ℕ
-  part from to = take (to - from) (drop from b)
+section-bytes : (b : List ℕ) (s : Starts) (w : Section) → Bytes b → Bytes (partOf b s w)
+unfolding partOf
+section-bytes b s Symbols h = rest-bytes (s .symbols) (take (s .states) b) (part-bytes b h 0 (s .states))
+section-bytes b s States h = rest-bytes (s .states) (take (s .internals) b) (part-bytes b h 0 (s .internals))
+section-bytes b s Internals h = rest-bytes (s .internals) (take (s .calls) b) (part-bytes b h 0 (s .calls))
+section-bytes b s Calls h = rest-bytes (s .calls) (take (s .returns) b) (part-bytes b h 0 (s .returns))
+section-bytes b s Returns h = rest-bytes (s .returns) (take (trailer b) b) (part-bytes b h 0 (trailer b))
 
-  pub known-sized : Sized (part (s .symbols) (s .states)) (part (s .internals) (s .calls)) (part (s .calls) (s .returns)) (part (s .returns) end)
+module _ {b f : List ℕ} {s : Starts} (k : Known b s f) {symbols states internals calls returns : List ℕ}
+    (e0 : symbols ≡ partOf b s Symbols) (e1 : states ≡ partOf b s States) (e2 : internals ≡ partOf b s Internals) (e3 : calls ≡ partOf b s Calls) (e4 : returns ≡ partOf b s Returns) where
+  pub known-sized : Sized symbols internals calls returns
   known-sized =
       let t = formed-tested (read-well-formed standard b (k .read .readable)) in
       record {
-        symbols-few = omega (arith, ap length (symbols-part (k .read) end e), t .symbols-few);
-        internals-few = omega (arith, ap length (internals-part (k .read) end e), t .internals-few);
-        calls-few = omega (arith, ap length (calls-part (k .read) end e), t .calls-few);
-        returns-few = omega (arith, ap length (returns-part (k .read) end e), t .returns-few);
+        symbols-few = omega (arith, ap length (symbols-read (k .read) e0), t .symbols-few);
+        internals-few = omega (arith, ap length (internals-read (k .read) e2), t .internals-few);
+        calls-few = omega (arith, ap length (calls-read (k .read) e3), t .calls-few);
+        returns-few = omega (arith, ap length (returns-read (k .read) e4), t .returns-few);
       }
 
   module _ (m : List ℕ) (bb : Bytes b) (bm : Bytes m) where
-    moves-again : (from to : ℕ) → map (lastBytes 3) (imageKeys 3 (part from to) f m) ≡ images m (records 3 (part from to))
-    moves-again from to = images-back 3 (omega arith) (part from to) f m (part-bytes b bb from (to - from)) bm ∙ ap (images m) (moves-kept (part from to) f)
+    bytes : {x : List ℕ} (w : Section) → x ≡ partOf b s w → Bytes x
+    bytes w e = subst Bytes (sym e) (section-bytes b s w bb)
 
-    returns-again : map (lastBytes 4) (imageKeys 4 (part (s .returns) end) f m) ≡ images m (liveReturns standard (tableOf b))
+    moves-again : (x : List ℕ) → Bytes x → map (lastBytes 3) (imageKeys 3 x f m) ≡ images m (records 3 x)
+    moves-again x h = images-back 3 (omega arith) x f m h bm ∙ ap (images m) (moves-kept x f)
+
+    returns-again : map (lastBytes 4) (imageKeys 4 returns f m) ≡ images m (liveReturns standard (tableOf b))
     unfolding liveReturns
     returns-again =
-        images-back 4 (omega arith) (part (s .returns) end) f m (part-bytes b bb (s .returns) (end - s .returns)) bm
-        ∙ ap (images m) (returns-kept (part (s .returns) end) f ∙ λ j. keep (live (k .words j)) (returns-part (k .read) end e j))
+        images-back 4 (omega arith) returns f m (bytes Returns e4) bm
+        ∙ ap (images m) (returns-kept returns f ∙ λ j. keep (live (k .words j)) (returns-read (k .read) e4 j))
 
-    states-again : classBytes (ofStates (part (s .states) (s .internals))) m (classes m) ≡ map (classByte (tableOf b) m) (upto (classes m))
+    states-again : classBytes (ofStates states) m (classes m) ≡ map (classByte (tableOf b) m) (upto (classes m))
     unfolding classByte memberHas
-    states-again = ap (λ x. classBytes (ofStates x) m (classes m)) (states-part (k .read) end e)
+    states-again = ap (λ x. classBytes (ofStates x) m (classes m)) (states-read (k .read) e1)
 
-    pub parted-quotient : partedQuotient (part (s .symbols) (s .states)) (part (s .states) (s .internals)) (part (s .internals) (s .calls)) (part (s .calls) (s .returns)) (part (s .returns) end) f m ≡ quotientTable standard (tableOf b) m
+    pub parted-quotient : partedQuotient symbols states internals calls returns f m ≡ quotientTable standard (tableOf b) m
     unfolding quotientTable
     parted-quotient = λ j. record {
-      symbols = symbols-part (k .read) end e j;
+      symbols = symbols-read (k .read) e0 j;
       states = states-again j;
-      internals = (moves-again (s .internals) (s .calls) ∙ ap (images m) (internals-part (k .read) end e)) j;
-      calls = (moves-again (s .calls) (s .returns) ∙ ap (images m) (calls-part (k .read) end e)) j;
+      internals = (moves-again internals (bytes Internals e2) ∙ ap (images m) (internals-read (k .read) e2)) j;
+      calls = (moves-again calls (bytes Calls e3) ∙ ap (images m) (calls-read (k .read) e3)) j;
       returns = returns-again j;
     }
 
-    pub written-read : (out : List ℕ) → writtenFor (bytesOf (partedQuotient (part (s .symbols) (s .states)) (part (s .states) (s .internals)) (part (s .internals) (s .calls)) (part (s .calls) (s .returns)) (part (s .returns) end) f m)) out ≡ writtenFor (quotientBytes standard b m) out
+    pub written-read : (out : List ℕ) → writtenFor (bytesOf (partedQuotient symbols states internals calls returns f m)) out ≡ writtenFor (quotientBytes standard b m) out
     unfolding quotientBytes
     written-read out = ap (λ (t : Table). writtenFor (bytesOf t) out) parted-quotient
 

@@ -22,6 +22,7 @@ use matching::moves_matched;
 use matching::returns_matched;
 use numbering::class_count;
 use numbering::numbered;
+use table::Section;
 use table::Starts;
 use write::put_table;
 
@@ -72,16 +73,11 @@ fn map_number(table: &[u8], starts: Starts, words: &[u32], map: &[u8]) -> u8
     requires { ⌜ Known (now table) starts (now words) ⌝ }
     ensures { λ r. ⌜ r ≡ firstFailed (mapTests standard (tableOf (now (table .entry))) (now (map .entry))) ⌝ }
 {
-    let end = table.len() - 12;
-    let states = starts.states;
-    let internals = starts.internals;
-    let calls = starts.calls;
-    let returns = starts.returns;
     tests_number(
-        &table[states..internals],
-        &table[internals..calls],
-        &table[calls..returns],
-        &table[returns..end],
+        table::part(table, starts, Section::States),
+        table::part(table, starts, Section::Internals),
+        table::part(table, starts, Section::Calls),
+        table::part(table, starts, Section::Returns),
         words,
         map,
     )
@@ -148,18 +144,12 @@ fn write_read(table: &[u8], starts: Starts, words: &[u32], map: &[u8], out: &mut
     requires { ⌜ Known (now table) starts (now words) ⌝ }
     ensures { λ r. ⌜ record { answer = r; out = now (out .exit) } ≡ writtenFor (quotientBytes standard (now (table .entry)) (now (map .entry))) (now (out .entry)) ⌝ }
 {
-    let end = table.len() - 12;
-    let symbols = starts.symbols;
-    let states = starts.states;
-    let internals = starts.internals;
-    let calls = starts.calls;
-    let returns = starts.returns;
     write_parts(
-        &table[symbols..states],
-        &table[states..internals],
-        &table[internals..calls],
-        &table[calls..returns],
-        &table[returns..end],
+        table::part(table, starts, Section::Symbols),
+        table::part(table, starts, Section::States),
+        table::part(table, starts, Section::Internals),
+        table::part(table, starts, Section::Calls),
+        table::part(table, starts, Section::Returns),
         words,
         map,
         out,

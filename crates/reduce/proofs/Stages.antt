@@ -5,7 +5,7 @@ use mathlib.Core.Bool.{Bool, true, false, _&&_}
 use mathlib.Core.List.{List, [], _∷_, _++_}
 use Prim.Native.Nat.{ℕ, _+_, _-_, _≤_, _<_}
 use native.Mathlib.Omega.{arith}
-use lib.ListN.{length, take, drop, length-append, length-drop}
+use lib.ListN.{length, take, drop, length-append}
 use lib.Seq.{length-take-le, take-all, take-at, take-append-seam}
 use lib.Dec.{eqb, leb}
 use borrow.Author.Tests.{eq-eqb, ne-eqb, eqb-true, eqb-false, le-leb, lt-leb, leb-true}
@@ -17,14 +17,16 @@ use Rattle.cnf.proofs.Theorems.{satisfies}
 use Rattle.table.specs.Limits.{Limits, standard}
 use Rattle.table.specs.File.{Table, tableOf}
 use Rattle.table.specs.Reading.{readNumber, Readable, readOf}
-use Rattle.table.specs.Sections.{ReadAs}
+use Rattle.table.specs.Sections.{ReadAs, partOf}
 use Rattle.table.specs.Language.{count}
 use Rattle.table.specs.Maps.{classes}
 use Rattle.table.specs.declared.Starts.{Starts}
+use Rattle.table.specs.declared.view.Section.the-variants.{States}
 use Rattle.table.specs.declared.Reading.the-variants.{Refused as NotRead}
 use Rattle.table.proofs.Bytes.{read-well-formed}
 use Rattle.table.proofs.Facts.{few-states}
-use Rattle.table.proofs.Handed.{read-refused, trailer-there, starts-follow, states-part}
+use Rattle.table.proofs.Handed.{read-refused}
+use Rattle.table.proofs.Parts.{states-read}
 use Rattle.clauses.specs.Pairs.{pairs}
 use Rattle.clauses.specs.Clauses.{clauseList, clauseWords, clausesNumber, ClausesDone, clausesOf}
 use Rattle.clauses.specs.Maps.{mapOf}
@@ -266,16 +268,6 @@ module _ (L : Limits) (b : List ℕ) (budget : ℕ) (list map out : List ℕ) wh
       short : beforeSearch L b list map ≡ 22
       short = rw (eq-eqb (readNumber L b) 0 readable, lt-leb (count (tableOf b)) (length map) h, beforeSearch) refl
 
-module _ {L : Limits} {b : List ℕ} {s : Starts} (h : ReadAs L b s) where
-  -- the states are the bytes between their start and the internals'
-  pub states-count : s .internals - s .states ≡ count (tableOf b)
-  states-count =
-      let end : (length b - 12) + 12 ≡ length b = omega (arith, trailer-there h) in
-      let f = starts-follow h (length b - 12) end in
-      let long : s .internals - s .states ≤ length (drop (s .states) b) = omega (arith, length-drop (s .states) b, f .states, f .internals, f .calls, f .returns, f .last) in
-      sym (length-take-le (s .internals - s .states) (drop (s .states) b) long) ∙ ap length (states-part h (length b - 12) end)
-
-  pub starts-in-order : s .states ≤ s .internals
-  starts-in-order =
-      let end : (length b - 12) + 12 ≡ length b = omega (arith, trailer-there h) in
-      starts-follow h (length b - 12) end .states
+-- the states are the bytes of their section
+pub states-count : {L : Limits} {b : List ℕ} {s : Starts} {x : List ℕ} → ReadAs L b s → x ≡ partOf b s States → length x ≡ count (tableOf b)
+states-count h e = ap length (states-read h e)

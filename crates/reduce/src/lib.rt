@@ -18,6 +18,7 @@ use map::map_of;
 use quotient::Written;
 use search::Solution;
 use table::Reading;
+use table::Section;
 
 mod map;
 
@@ -133,7 +134,8 @@ pub fn reduce(
     match reading {
         Reading::Refused(number) => Reduction::Refused(number),
         Reading::Sections(starts) => {
-            let n = starts.internals - starts.states;
+            let states = table::part(table, starts, Section::States);
+            let n = states.len();
             if map.len() < n {
                 return Reduction::Refused(22);
             }

@@ -8,3 +8,4 @@ pub mod Walks
 pub mod Fits
 pub mod Numbers
 pub mod Handed
+pub mod Parts

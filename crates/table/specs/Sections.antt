@@ -4,10 +4,14 @@ use mathlib.Core.Path.{_≡_}
 use mathlib.Core.Bool.{true, false}
 use mathlib.Core.List.{List, [], _∷_}
 use Prim.Native.Nat.{ℕ, suc}
+use lib.ListN.{getD}
+use lib.Seq.{slice}
 use Rattle.table.specs.Limits.{Limits}
-use Rattle.table.specs.File.{Table, records}
+use Rattle.table.specs.File.{Table, trailer, records}
 use Rattle.table.specs.Reading.{before, Readable, startsOf}
 use Rattle.table.specs.declared.Starts.{Starts}
+use Rattle.table.specs.declared.view.Section.{Section}
+use Rattle.table.specs.declared.view.Section.the-variants.{Symbols, States, Internals, Calls, Returns}
 
 -- the table that five parts of a file hold: symbols, states, internals, calls, returns
 unfoldable pub sectioned : List ℕ → List ℕ → List ℕ → List ℕ → List ℕ → Table
@@ -24,6 +28,18 @@ sectioned symbols states internals calls returns =
 pub record ReadAs (L : Limits) (b : List ℕ) (s : Starts) : Type 0 where
   pub readable : Readable L b
   pub starts : s ≡ startsOf b
+
+-- "Each section is a part of the file that begins where the one before it ends", by the starts that the bytes are passed on with
+unfoldable pub partOf : List ℕ → Starts → Section → List ℕ
+partOf b s Symbols = slice (s .symbols) (s .states) b
+partOf b s States = slice (s .states) (s .internals) b
+partOf b s Internals = slice (s .internals) (s .calls) b
+partOf b s Calls = slice (s .calls) (s .returns) b
+partOf b s Returns = slice (s .returns) (trailer b) b
+
+-- "States, one byte each": a state's byte; 0 past the count
+unfoldable pub stateByte : List ℕ → Starts → ℕ → ℕ
+stateByte b s q = getD (partOf b s States) q 0
 
 -- the index of the first record that does not stand before the key; their count where there is none
 unfoldable pub firstAt : List (List ℕ) → List ℕ → ℕ

@@ -11,6 +11,15 @@ ghost use Rattle.table.specs.File.{word16, records, tableOf};
 ghost use Rattle.table.specs.Reading.{distancesFit, countsFit, bytesFit, isInitial, recordFits, recordsFit, before, ascend, orderFits, tableTests, startsOf, readOf};
 ghost use Rattle.table.specs.Sections.{sectioned};
 
+mod view;
+
+pub use view::Section;
+pub use view::TableView;
+pub use view::part;
+pub use view::view_of;
+pub use view::view_part;
+pub use view::view_state;
+
 // "Reading answers the five section starts."
 pub struct Starts {
     pub symbols: usize,

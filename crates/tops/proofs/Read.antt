@@ -5,7 +5,7 @@ use mathlib.Core.Bool.{Bool, true, false}
 use mathlib.Core.List.{List, [], _++_}
 use Prim.Native.Nat.{ℕ, zero, suc, _-_, _*_, _%_, _≤_}
 use native.Mathlib.Omega.{arith}
-use lib.ListN.{length, replicate, take, drop}
+use lib.ListN.{length, replicate}
 use lib.Seq.{slice, length-slice}
 use lib.Dec.{eqb}
 use borrow.Author.Tests.{eq-eqb, ne-eqb, eqb-true, eqb-false}
@@ -13,13 +13,14 @@ use Rattle.lists.specs.Lists.{same}
 use Rattle.lists.specs.Bits.{onesOver}
 use Rattle.table.specs.Limits.{Limits, standard}
 use Rattle.table.specs.File.{Table, trailer, distance, start, tableOf}
-use Rattle.table.specs.Sections.{sectioned}
+use Rattle.table.specs.Sections.{sectioned, partOf}
 use Rattle.table.specs.Reading.{readNumber, Readable, startsOf, readOf}
 use Rattle.table.specs.declared.Starts.{Starts}
+use Rattle.table.specs.declared.view.Section.the-variants.{States, Internals, Calls, Returns}
 use Rattle.table.specs.declared.Reading.{Reading}
 use Rattle.table.specs.declared.Reading.the-variants.{Sections as SectionsAt, Refused as RefusedBy}
-use Rattle.table.proofs.Passed.{Passed, read-passed, framed-distances}
-use Rattle.table.proofs.Numbers.{Follow, follow, part}
+use Rattle.table.proofs.Passed.{Passed, read-passed}
+use Rattle.table.proofs.Parts.{states-at, internals-at, calls-at, returns-at}
 use Rattle.table.proofs.Bytes.{read-well-formed}
 use Rattle.table.proofs.Facts.{internals-fit, calls-fit, returns-fit, few-states}
 use Rattle.tops.specs.Tops.{round, rounds, startWords, topWords, topCount, topsOf}
@@ -92,36 +93,15 @@ module _ (b : List ℕ) (readable : Readable standard b) where
       let e : topsOf standard b ≡ topsFound standard t = rw (eq-eqb (readNumber standard b) 0 readable, topsOf) in
       found-alike standard (t .states) (t .internals) (t .calls) (t .returns) [] (t .symbols) ∙ sym e
 
--- ---- as the code takes them: the parts of the file between the starts
+-- ---- as the code takes them: the parts that the starts give
 
-module _ (b : List ℕ) (s : Starts) (readable : Readable standard b) (starts : s ≡ startsOf b) where
-  pub long : 12 ≤ length b
-  long = read-passed standard b readable .long
+module _ (b : List ℕ) {s : Starts} (readable : Readable standard b) (starts : s ≡ startsOf b) {states internals calls returns : List ℕ}
+    (e1 : states ≡ partOf b s States) (e2 : internals ≡ partOf b s Internals) (e3 : calls ≡ partOf b s Calls) (e4 : returns ≡ partOf b s Returns) where
+  pub parts-sections : Sections states internals calls returns
+  parts-sections = rw (e1 ∙ states-at b starts, e2 ∙ internals-at b starts, e3 ∙ calls-at b starts, e4 ∙ returns-at b starts) (sections-read b readable)
 
-  pub ordered : Follow b s (length b - 12)
-  ordered = follow b s (length b - 12) (omega (arith, long)) (framed-distances b (read-passed standard b readable .framed)) starts
-
-  states-part : take (s .internals - s .states) (drop (s .states) b) ≡ slice (start b 1) (start b 2) b
-  unfolding startsOf
-  states-part = part (s .states) (s .internals) b (ordered .states) ∙ (λ i. slice (starts i .states) (starts i .internals) b)
-
-  internals-part : take (s .calls - s .internals) (drop (s .internals) b) ≡ slice (start b 2) (start b 3) b
-  unfolding startsOf
-  internals-part = part (s .internals) (s .calls) b (ordered .internals) ∙ (λ i. slice (starts i .internals) (starts i .calls) b)
-
-  calls-part : take (s .returns - s .calls) (drop (s .calls) b) ≡ slice (start b 3) (start b 4) b
-  unfolding startsOf
-  calls-part = part (s .calls) (s .returns) b (ordered .calls) ∙ (λ i. slice (starts i .calls) (starts i .returns) b)
-
-  returns-part : take (length b - 12 - s .returns) (drop (s .returns) b) ≡ slice (start b 4) (trailer b) b
-  unfolding startsOf trailer
-  returns-part = part (s .returns) (length b - 12) b (ordered .returns) ∙ (λ i. slice (starts i .returns) (length b - 12) b)
-
-  pub parts-sections : Sections (take (s .internals - s .states) (drop (s .states) b)) (take (s .calls - s .internals) (drop (s .internals) b)) (take (s .returns - s .calls) (drop (s .calls) b)) (take (length b - 12 - s .returns) (drop (s .returns) b))
-  parts-sections = rw (states-part, internals-part, calls-part, returns-part) (sections-read b readable)
-
-  pub parts-tops : topsFound standard (sectioned [] (take (s .internals - s .states) (drop (s .states) b)) (take (s .calls - s .internals) (drop (s .internals) b)) (take (s .returns - s .calls) (drop (s .calls) b)) (take (length b - 12 - s .returns) (drop (s .returns) b))) ≡ topsOf standard b
-  parts-tops = rw (states-part, internals-part, calls-part, returns-part) (tops-read b readable)
+  pub parts-tops : topsFound standard (sectioned [] states internals calls returns) ≡ topsOf standard b
+  parts-tops = rw (e1 ∙ states-at b starts, e2 ∙ internals-at b starts, e3 ∙ calls-at b starts, e4 ∙ returns-at b starts) (tops-read b readable)
 
 -- ---- the answer with the starts
 

@@ -225,16 +225,11 @@ fn tops_read(table: &[u8], starts: Starts) -> TopWords
     requires { ⌜ Readable standard (now table) × (starts ≡ startsOf (now table)) ⌝ }
     ensures { λ r. ⌜ r ≡ topsOf standard (now (table .entry)) ⌝ }
 {
-    let end = table.len() - 12;
-    let states = starts.states;
-    let internals = starts.internals;
-    let calls = starts.calls;
-    let returns = starts.returns;
     tops_of(
-        &table[states..internals],
-        &table[internals..calls],
-        &table[calls..returns],
-        &table[returns..end],
+        table::part(table, starts, table::Section::States),
+        table::part(table, starts, table::Section::Internals),
+        table::part(table, starts, table::Section::Calls),
+        table::part(table, starts, table::Section::Returns),
     )
 }
 

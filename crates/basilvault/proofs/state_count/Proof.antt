@@ -3,7 +3,7 @@ use mathlib.Core.Path.{sym, _∙_}
 use native.Mathlib.Omega.{arith}
 use Rattle.table.specs.Limits.{standard}
 use Rattle.table.proofs.Handed.{read-as, read-refused}
-use Rattle.reduce.proofs.Stages.{states-count, states-few, starts-in-order}
+use Rattle.reduce.proofs.Stages.{states-count, states-few}
 use borrow.Author.Needs.{needs}
 use Rattle.basilvault.proofs.state_count.Statement.{statement}
 use Rattle.basilvault.proofs.state_count.Tie as tie
@@ -17,10 +17,8 @@ read-requires c κs = search needs
 enum-known-reading : tie.Need-enum-known-reading
 enum-known-reading c = search needs
 
-sub-result : tie.Need-sub-result
-sub-result c =
-    let h = read-as standard (c .before .before .before .before .before .before .args .table .now) _ (sym (c .before .before .before .before .read .ensures) ∙ c .before .before .reading .given .1) in
-    starts-in-order h
+part-requires : tie.Need-part-requires
+part-requires c κs = search needs
 
 enum-told : tie.Need-enum-told
 enum-told c = search needs
@@ -28,7 +26,7 @@ enum-told c = search needs
 returns : tie.Need-returns
 returns c =
     let h = read-as standard (c .before .before .before .before .before .before .args .table .now) _ (sym (c .before .before .before .before .read .ensures) ∙ c .before .before .reading .given .1) in
-    (omega (arith, states-count h, states-few (c .before .before .before .before .before .before .args .table .now) (h .readable)), λ _. states-count h)
+    (omega (arith, states-count h (c .part .ensures), states-few (c .before .before .before .before .before .before .args .table .now) (h .readable)), λ _. states-count h (c .part .ensures))
 
 returns-2 : tie.Need-returns-2
 returns-2 c =
@@ -37,4 +35,4 @@ returns-2 c =
 
 pub state-count-spec : {M : Type 1} → statement M
 state-count-spec =
-    tie.close (tie.spec read-requires enum-known-reading sub-result enum-told returns returns-2)
+    tie.close (tie.spec read-requires enum-known-reading part-requires enum-told returns returns-2)

@@ -22,26 +22,24 @@ enum-known-reading c = search needs
 enum-known-reading-2 : tie.Need-enum-known-reading-2
 enum-known-reading-2 c = search needs
 
-sub-n : tie.Need-sub-n
-sub-n c =
-    let h = read-as standard (c .before .before .before .before .before .before .before .before .before .args .table .now) _ (sym (c .before .before .before .before .read .ensures) ∙ c .before .before .reading2 .given .1) in
-    laws.starts-in-order h
+part-requires : tie.Need-part-requires
+part-requires c κs = search needs
 
 returns : tie.Need-returns
 returns c =
     let h = read-as standard (c .before .before .before .before .before .before .before .before .before .before .args .table .now) _ (sym (c .before .before .before .before .before .read .ensures) ∙ c .before .before .before .reading2 .given .1) in
     promised (c .before .before .before .before .before .before .before .before .before .before .args .table .now) (c .before .before .before .before .before .before .before .before .before .before .args .budget) (c .before .before .before .before .before .before .before .before .before .before .args .list .now) (c .before .before .before .before .before .before .before .before .before .before .args .map .now) (c .before .before .before .before .before .before .before .before .before .before .args .out .now)
-    (laws.map-short standard (c .before .before .before .before .before .before .before .before .before .before .args .table .now) (c .before .before .before .before .before .before .before .before .before .before .args .budget) (c .before .before .before .before .before .before .before .before .before .before .args .list .now) (c .before .before .before .before .before .before .before .before .before .before .args .map .now) (c .before .before .before .before .before .before .before .before .before .before .args .out .now) (h .readable) (omega (arith, laws.states-count h, c .if1 .taken)))
+    (laws.map-short standard (c .before .before .before .before .before .before .before .before .before .before .args .table .now) (c .before .before .before .before .before .before .before .before .before .before .args .budget) (c .before .before .before .before .before .before .before .before .before .before .args .list .now) (c .before .before .before .before .before .before .before .before .before .before .args .map .now) (c .before .before .before .before .before .before .before .before .before .before .args .out .now) (h .readable) (omega (arith, laws.states-count h (c .before .part .ensures), c .if1 .taken)))
 
 cast-reduce-read : tie.Need-cast-reduce-read
 cast-reduce-read c =
     let h = read-as standard (c .before .before .before .before .before .before .before .before .before .before .args .table .now) _ (sym (c .before .before .before .before .before .read .ensures) ∙ c .before .before .before .reading2 .given .1) in
-    omega (arith, laws.states-count h, laws.states-few (c .before .before .before .before .before .before .before .before .before .before .args .table .now) (h .readable))
+    omega (arith, laws.states-count h (c .before .part .ensures), laws.states-few (c .before .before .before .before .before .before .before .before .before .before .args .table .now) (h .readable))
 
 reduce-read-requires : tie.Need-reduce-read-requires
 reduce-read-requires c κs =
     let h = read-as standard (c .before .before .before .before .before .before .before .before .before .before .before .before .before .args .table .now) _ (sym (c .before .before .before .before .before .before .before .before .read .ensures) ∙ c .before .before .before .before .before .before .reading2 .given .1) in
-    (h .readable, laws.states-count h, c .before .before .before .if1 .left)
+    (h .readable, laws.states-count h (c .before .before .before .before .part .ensures), c .before .before .before .if1 .left)
 
 returns-2 : tie.Need-returns-2
 returns-2 c =
@@ -67,7 +65,7 @@ reduce-spec =
     read-requires
     enum-known-reading
     enum-known-reading-2
-    sub-n
+    part-requires
     returns
     cast-reduce-read
     reduce-read-requires
