@@ -13,7 +13,6 @@ pub mod Stepping
 pub mod Pairwise
 pub mod Tidying
 pub mod Targeting
-pub mod Spanning
 pub mod Few
 pub mod Moving
 pub mod Returning

@@ -21,7 +21,6 @@ mod matched;
 mod moves;
 mod returns;
 mod states;
-mod targets;
 mod variables;
 
 pub use variables::Found;

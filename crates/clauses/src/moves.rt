@@ -9,7 +9,7 @@ use super::emit::Tally;
 use super::literals::no_literals;
 use super::matched::matched;
 use super::matched::with_premise;
-use super::targets::starting;
+use table::starting;
 
 // The clause of a record (p, a, p') and a state q.
 fn move_clause(

@@ -13,7 +13,7 @@ use super::emit::Tally;
 use super::literals::no_literals;
 use super::matched::matched;
 use super::matched::with_premise;
-use super::targets::starting;
+use table::starting;
 use tops::later_tops;
 use tops::next_top;
 

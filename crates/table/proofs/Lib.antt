@@ -9,3 +9,4 @@ pub mod Fits
 pub mod Numbers
 pub mod Handed
 pub mod Parts
+pub mod Spanning

@@ -11,8 +11,10 @@ ghost use Rattle.table.specs.File.{word16, records, tableOf};
 ghost use Rattle.table.specs.Reading.{distancesFit, countsFit, bytesFit, isInitial, recordFits, recordsFit, before, ascend, orderFits, tableTests, startsOf, readOf};
 ghost use Rattle.table.specs.Sections.{sectioned};
 
+mod keyed;
 mod view;
 
+pub use keyed::starting;
 pub use view::Section;
 pub use view::TableView;
 pub use view::part;

@@ -5,30 +5,11 @@ ghost use mathlib.Core.List.{[]};
 ghost use Prim.Native.Nat.{_+_, _/_, _<_, _≤_};
 ghost use lib.ListN.{length, getD, drop};
 ghost use Rattle.lists.specs.Lists.{keep};
 ghost use Rattle.table.specs.File.{records};
-ghost use Rattle.table.specs.Reading.{before, ascend};
+ghost use Rattle.table.specs.Reading.{ascend};
 ghost use Rattle.table.specs.Sections.{firstAt};
 ghost use Rattle.table.specs.Spans.{startsWith, leading};
-
-// One byte string stands before the other.
-fn stands_before(x: &[u8], y: &[u8]) -> bool
-    ensures { λ r. ⌜ r ≡ before (now (x .entry)) (now (y .entry)) ⌝ }
-{
-    let mut i: usize = 0;
-    'bytes: while i < x.len() {
-        if y.len() <= i {
-            return false;
-        }
-        if x[i] < y[i] {
-            return true;
-        }
-        if y[i] < x[i] {
-            return false;
-        }
-        i += 1;
-    }
-    i < y.len()
-}
+use crate::stands_before;
 
 // A record starts with the key.
 fn starts_with(key: &[u8], fields: &[u8]) -> bool

@@ -1,9 +1,9 @@
--- `clauses::targets::starting` meets its contract. Assumes nothing.
+-- `table::keyed::starting` meets its contract. Assumes nothing.
 use native.Mathlib.Omega.{arith}
-use Rattle.clauses.proofs.Spanning.{Span, no-width, starts-before, ends-within, found}
+use Rattle.table.proofs.Spanning.{Span, no-width, starts-before, ends-within, found}
 use borrow.Author.Needs.{needs}
-use Rattle.clauses.proofs.targets.starting.Statement.{statement}
-use Rattle.clauses.proofs.targets.starting.Tie as tie
+use Rattle.table.proofs.keyed.starting.Statement.{statement}
+use Rattle.table.proofs.keyed.starting.Tie as tie
 
 slice-aggregate-result : tie.Need-slice-aggregate-result
 slice-aggregate-result c = search needs

@@ -1,9 +1,9 @@
--- `clauses::targets::record_at` meets its contract. Assumes nothing.
+-- `table::keyed::record_at` meets its contract. Assumes nothing.
 use native.Mathlib.Omega.{arith}
-use Rattle.clauses.proofs.Spanning.{record-inside, record-is}
+use Rattle.table.proofs.Spanning.{record-inside, record-is}
 use borrow.Author.Needs.{needs}
-use Rattle.clauses.proofs.targets.record_at.Statement.{statement}
-use Rattle.clauses.proofs.targets.record_at.Tie as tie
+use Rattle.table.proofs.keyed.record_at.Statement.{statement}
+use Rattle.table.proofs.keyed.record_at.Tie as tie
 
 mul-at : tie.Need-mul-at
 mul-at c = omega (arith, record-inside (c .args .width) (c .args .section .now) (c .args .i) (c .pre), c .good .0 .0)

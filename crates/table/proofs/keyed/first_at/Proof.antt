@@ -1,13 +1,13 @@
--- `clauses::targets::first_at` meets its contract: the record is between the two ends. Assumes nothing.
+-- `table::keyed::first_at` meets its contract: the record is between the two ends. Assumes nothing.
 use Prim.Native.Nat.{_-_, _/_}
 use native.Mathlib.Omega.{arith}
 use native.Mathlib.Nat.{div-le-self}
 use lib.ListN.{length}
 use borrow.Author.Needs.{needs}
 use Rattle.table.specs.File.{records}
-use Rattle.clauses.proofs.Spanning.{length-records, Halving, halving, upper-half, lower-half, halved}
-use Rattle.clauses.proofs.targets.first_at.Statement.{statement}
-use Rattle.clauses.proofs.targets.first_at.Tie as tie
+use Rattle.table.proofs.Spanning.{length-records, Halving, halving, upper-half, lower-half, halved}
+use Rattle.table.proofs.keyed.first_at.Statement.{statement}
+use Rattle.table.proofs.keyed.first_at.Tie as tie
 
 abbrev Inv-halves : tie.InvT-halves
 Inv-halves section width key low₀ high₀ low high = Halving (records width section) key (length section / width) low high

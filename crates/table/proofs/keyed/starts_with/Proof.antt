@@ -1,10 +1,10 @@
--- `clauses::targets::starts_with` meets its contract: the bytes so far are equal. Assumes nothing.
+-- `table::keyed::starts_with` meets its contract: the bytes so far are equal. Assumes nothing.
 use Prim.Native.Nat.{_-_}
 use lib.ListN.{length}
 use borrow.Author.Needs.{needs}
-use Rattle.clauses.proofs.Spanning.{Starting, begun, too-short, another, start-on, starts}
-use Rattle.clauses.proofs.targets.starts_with.Statement.{statement}
-use Rattle.clauses.proofs.targets.starts_with.Tie as tie
+use Rattle.table.proofs.Spanning.{Starting, begun, too-short, another, start-on, starts}
+use Rattle.table.proofs.keyed.starts_with.Statement.{statement}
+use Rattle.table.proofs.keyed.starts_with.Tie as tie
 
 abbrev Inv-bytes : tie.InvT-bytes
 Inv-bytes key fields i₀ i = Starting key fields i

@@ -1,14 +1,14 @@
--- `clauses::targets::last_at` meets its contract: the records so far start with the key. Assumes nothing.
+-- `table::keyed::last_at` meets its contract: the records so far start with the key. Assumes nothing.
 use Prim.Native.Nat.{_-_, _/_}
 use native.Mathlib.Omega.{arith}
 use native.Mathlib.Nat.{div-le-self}
 use lib.ListN.{length}
 use borrow.Author.Tests.{not-true, not-false}
 use borrow.Author.Needs.{needs}
 use Rattle.table.specs.File.{records}
-use Rattle.clauses.proofs.Spanning.{length-records, Passing, passing, pass-on, pass-end, passed-all}
-use Rattle.clauses.proofs.targets.last_at.Statement.{statement}
-use Rattle.clauses.proofs.targets.last_at.Tie as tie
+use Rattle.table.proofs.Spanning.{length-records, Passing, passing, pass-on, pass-end, passed-all}
+use Rattle.table.proofs.keyed.last_at.Statement.{statement}
+use Rattle.table.proofs.keyed.last_at.Tie as tie
 
 abbrev Inv-records : tie.InvT-records
 Inv-records section width key from i₀ i = Passing (records width section) key (length section / width) from i
