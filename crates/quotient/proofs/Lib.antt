@@ -11,7 +11,7 @@ pub mod Matched
 pub mod Keys
 pub mod Inserting
 pub mod Collecting
-pub mod Found
+pub mod Reaching
 pub mod Writing
 pub mod Whole
 pub mod Checking

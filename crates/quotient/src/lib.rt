@@ -9,7 +9,6 @@ ghost use Rattle.quotient.specs.Demands.{WritesQuotient, WritesSameWords
 ghost use Rattle.quotient.specs.Accepting.{AcceptsExactly};
 ghost use Rattle.quotient.specs.Sections.{Known, Parted, Sized, partTests, partedQuotient, writtenFor};
 
-mod finding;
 mod images;
 mod matching;
 mod numbering;

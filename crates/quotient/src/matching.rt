@@ -10,8 +10,6 @@ ghost use Rattle.table.specs.Language.{targets};
 ghost use Rattle.table.specs.Maps.{joins};
 ghost use Rattle.maps.specs.Check.{looksAgree, moveMatched, movesMatched, returnMatched, returnsMatched};
 ghost use Rattle.quotient.specs.Sections.{ofStates, agreesAt, moveMet, returnMetAt, returnMet};
-use super::finding::first_at;
-use super::finding::key_of;
 use super::images::class_of;
 use super::images::has_top;
 use super::images::wide;
@@ -54,24 +52,19 @@ pub(crate) fn looks_agree(states: &[u8], map: &[u8]) -> bool
     true
 }
 
-// Some record that starts with the key, found by the section's order, goes to a target joined to this one.
+// Some record that starts with the key goes to a target joined to this one.
 fn reaches(section: &[u8], width: usize, key: &[u8], map: &[u8], target: usize) -> bool
-    requires { ⌜ (width ≡ length (now key) + 1) × (width ≤ 4) × (ascend (records width (now section)) ≡ true) ⌝ }
+    requires { ⌜ (width ≡ length (now key) + 1) × (ascend (records width (now section)) ≡ true) ⌝ }
     ensures { λ r. ⌜ r ≡ any (joins (now (map .entry)) target) (targets (records width (now (section .entry))) (now (key .entry))) ⌝ }
 {
-    let long = key.len();
-    let number = key_of(key);
-    let mut i = first_at(section, width, long, number);
-    'records: while i < section.len() / width {
-        let at = i * width;
-        let last = at + long;
-        if key_of(&section[at..last]) != number {
-            return false;
-        }
-        if joined(map, target, wide(section[last])) {
+    let found = table::starting(section, width, key);
+    let mut at: usize = 0;
+    'records: while width <= found.len() - at {
+        let next = at + width;
+        if joined(map, target, wide(found[next - 1])) {
             return true;
         }
-        i += 1;
+        at = next;
     }
     false
 }

@@ -165,6 +165,18 @@ module _ (g : List ℕ → Bool) (w : ℕ) {s : List ℕ} {at : ℕ} where
   unfolding all
   records-done i h = sym (i .meets ∙ ap (all g) (record-none w s at h))
 
+  pub records-missed : Still (λ x. any g (records w x)) s at → 0 < w → w ≤ length s - at → g (take (at + w - at) (drop at s)) ≡ false → Still (λ x. any g (records w x)) s (at + w)
+  unfolding any
+  records-missed i p h e = record { inside = omega arith; meets = i .meets ∙ ap (any g) (record-on w s at p h) ∙ rw e }
+
+  pub records-met : Still (λ x. any g (records w x)) s at → 0 < w → w ≤ length s - at → g (take (at + w - at) (drop at s)) ≡ true → true ≡ any g (records w s)
+  unfolding any
+  records-met i p h e = sym (i .meets ∙ ap (any g) (record-on w s at p h) ∙ rw e)
+
+  pub records-none-met : Still (λ x. any g (records w x)) s at → length s - at < w → false ≡ any g (records w s)
+  unfolding any
+  records-none-met i h = sym (i .meets ∙ ap (any g) (record-none w s at h))
+
 -- ---- records that ascend
 
 -- the first of the records still to come ends at next

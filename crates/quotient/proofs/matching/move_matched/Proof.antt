@@ -35,7 +35,7 @@ wide-requires-2 : tie.Need-wide-requires-2
 wide-requires-2 c κs = search needs
 
 reaches-requires : tie.Need-reaches-requires
-reaches-requires c κs = let a = c .before .before .before .before .before .before .before .before .before .before .before in (refl, omega arith, a .pre .0)
+reaches-requires c κs = let a = c .before .before .before .before .before .before .before .before .before .before .before in (refl, a .pre .0)
 
 returns-2 : tie.Need-returns-2
 returns-2 c = c .reaches .ensures ∙ move-by _ _ _ _ _ _ (c .before .before .before .before .before .before .before .wide .ensures) (c .before .wide2 .ensures) (sym (c .before .before .before .before .before .before .joined .ensures) ∙ not-false _ (c .before .before .before .before .before .if1 .left))

@@ -62,7 +62,7 @@ wide-requires-3 : tie.Need-wide-requires-3
 wide-requires-3 c κs = search needs
 
 reaches-requires : tie.Need-reaches-requires
-reaches-requires c κs = let a = c .before .before .before .before .before .before .before .before .before .before .before .before .before .before .before .before .before .before .before .before in (refl, omega arith, a .pre .0)
+reaches-requires c κs = let a = c .before .before .before .before .before .before .before .before .before .before .before .before .before .before .before .before .before .before .before .before in (refl, a .pre .0)
 
 returns-5 : tie.Need-returns-5
 returns-5 c = c .reaches .ensures ∙ return-by _ _ _ _ _ _ _ _ _ (c .before .before .before .before .before .before .before .before .before .before .before .before .before .before .before .wide .ensures) (c .before .before .before .before .before .before .before .before .before .before .before .before .before .wide2 .ensures) (sym (c .before .before .before .before .before .before .before .before .before .before .before .before .joined .ensures) ∙ not-false _ (c .before .before .before .before .before .before .before .before .before .before .before .if1 .left)) (sym (c .before .before .before .before .before .before .before .before .before .before .joined2 .ensures) ∙ not-false _ (c .before .before .before .before .before .before .before .before .before .if2 .left)) (sym (c .before .before .before .before .before .before .before .before .has-top .ensures) ∙ not-false _ (c .before .before .before .before .before .before .before .if3 .left)) (sym (c .before .before .before .before .before .before .has-top2 .ensures) ∙ not-false _ (c .before .before .before .before .before .if4 .left)) (c .before .wide3 .ensures)
