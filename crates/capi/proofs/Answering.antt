@@ -9,7 +9,7 @@ use borrow.Author.Tests.{le-leb, lt-leb, ne-eqb}
 use Rattle.lists.specs.Lists.{over}
 use Rattle.tops.specs.declared.TopWords.{TopWords}
 use Rattle.tops.specs.Tops.{topsValues}
-use Rattle.search.proofs.Answering.{Writing, write-all}
+use Rattle.lists.proofs.Copying.{Writing, write-all}
 use Rattle.capi.specs.Answers.{stored, out}
 
 -- ---- storing

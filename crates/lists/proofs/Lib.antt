@@ -6,3 +6,4 @@ pub mod Counts
 pub mod Words
 pub mod Lowest
 pub mod Upto
+pub mod Copying

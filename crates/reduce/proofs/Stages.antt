@@ -10,6 +10,7 @@ use lib.Seq.{length-take-le, take-all, take-at, take-append-seam}
 use lib.Dec.{eqb, leb}
 use borrow.Author.Tests.{eq-eqb, ne-eqb, eqb-true, eqb-false, le-leb, lt-leb, leb-true}
 use Rattle.lists.specs.Lists.{all, over, firstFailed}
+use Rattle.lists.proofs.Copying.{copied}
 use Rattle.cnf.specs.Clauses.{clausesIn, whole, clauseFits, wordsOf}
 use Rattle.cnf.specs.Search.{Outcome, solved, none-exists, spent, unfinished, searchFrom}
 use Rattle.cnf.proofs.Words.{fit-formed, clauses-words, whole-words}
@@ -90,8 +91,8 @@ module _ (L : Limits) (b list map out v : List ℕ) (n g : ℕ) {found : Classes
       → record { answer = Delivered (found .count) g w l; list = over (clauseWords L (tableOf b)) list; map = m; out = o } ≡ deliver L b list map out (mapOf v n) g
   unfolding over
   delivered {l} {w} {m} f p q =
-      let copied : m ≡ over (mapOf v n) map = q ∙ ap (λ (x : List ℕ). take (length x) x ++ drop (length x) map) (h .map) ∙ ap (λ (x : List ℕ). x ++ drop (length (mapOf v n)) map) (take-all (length (mapOf v n)) (mapOf v n) (omega arith)) in
-      (λ i. record { answer = Delivered (h .count i) g (p i) l; list = over (clauseWords L (tableOf b)) list; map = copied i; out = o }) ∙ deliver-written L b list map out (mapOf v n) g e' f
+      let written : m ≡ over (mapOf v n) map = copied (take n (found .map)) map q ∙ ap (λ (x : List ℕ). over x map) (h .map) in
+      (λ i. record { answer = Delivered (h .count i) g (p i) l; list = over (clauseWords L (tableOf b)) list; map = written i; out = o }) ∙ deliver-written L b list map out (mapOf v n) g e' f
 
 -- ---- search
 

@@ -11,6 +11,34 @@ pub struct Classes {
     pub count: u8,
 }
 
+// Each state is joined to itself.
+const ITSELF: [u8; 24] = [
+    0,
+    1,
+    2,
+    3,
+    4,
+    5,
+    6,
+    7,
+    8,
+    9,
+    10,
+    11,
+    12,
+    13,
+    14,
+    15,
+    16,
+    17,
+    18,
+    19,
+    20,
+    21,
+    22,
+    23,
+];
+
 fn wide(x: u8) -> usize
     ensures { λ r. ⌜ r ≡ x ⌝ }
 {
@@ -22,32 +50,7 @@ fn lowest_joined(values: &[u8], n: u8) -> [u8; 24]
     requires { ⌜ (n ≤ 24) × (pairs n ≤ length (now values)) ⌝ }
     ensures { λ r. ⌜ LowestJoined (now (values .entry)) (pairs n) r ⌝ }
 {
-    let mut low: [u8; 24] = [
-        0,
-        1,
-        2,
-        3,
-        4,
-        5,
-        6,
-        7,
-        8,
-        9,
-        10,
-        11,
-        12,
-        13,
-        14,
-        15,
-        16,
-        17,
-        18,
-        19,
-        20,
-        21,
-        22,
-        23,
-    ];
+    let mut low = ITSELF;
     let count = clauses::pairs_of(n);
     let mut v: u16 = 0;
     'variables: while v < count {

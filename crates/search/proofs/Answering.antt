@@ -25,32 +25,6 @@ use Rattle.search.specs.declared.solve.Ending.the-variants.{Found, Absen
 use Rattle.search.specs.Turns.{noneSet, Fresh, outcomeOf}
 use Rattle.search.specs.Answers.{listFits, searchNumber, Searched, searched, searchOf}
 
--- ---- writing the answer
-
-pub record Writing (vs old new : List ℕ) (i : ℕ) : Type 0 where
-  pub inside : i ≤ length vs
-  pub room : length vs ≤ length old
-  pub meets : new ≡ take i vs ++ drop i old
-
-pub writing : {vs old : List ℕ} → length vs ≤ length old → Writing vs old old 0
-writing h = record { inside = omega arith; room = h; meets = refl }
-
-module _ {vs old new : List ℕ} {i : ℕ} (w : Writing vs old new i) where
-  pub same-length : length new ≡ length old
-  same-length = omega (arith, ap length (w .meets) ∙ length-append (take i vs) (drop i old), length-take-le i vs (w .inside), length-drop i old, w .room)
-
-  pub write-on : i < length vs → Writing vs old (set new i (getD vs i 0)) (i + 1)
-  write-on h = record { inside = omega arith; room = w .room; meets = stored }
-    where
-      stored : set new i (getD vs i 0) ≡ take (i + 1) vs ++ drop (i + 1) old
-      stored =
-          rw (w .meets, drop-cons old i 0 (omega (arith, w .room)), add-one, take-suc vs i 0 h, append-snoc)
-          (set-at (take i vs) (getD old i 0) (drop (suc i) old) (getD vs i 0) i (length-take-le i vs (w .inside)))
-
-  pub write-all : length vs ≤ i → new ≡ over vs old
-  unfolding over
-  write-all h = let e : i ≡ length vs = omega (arith, w .inside) in w .meets ∙ rw (take-all i vs h, e)
-
 -- ---- the refusals, in order
 
 module _ (most : ℕ) (ws : List ℕ) (n b : ℕ) (a : List ℕ) where

@@ -3,7 +3,6 @@ ghost use mathlib.Core.Path.{_≡_};
 ghost use mathlib.Core.List.{List};
 ghost use Prim.Native.Nat.{ℕ, _≤_};
 ghost use lib.ListN.{length, take};
-ghost use Rattle.lists.specs.Lists.{over};
 ghost use Rattle.cnf.specs.Clauses.{clausesIn, Model, Maximal, Horn};
 ghost use Rattle.search.specs.Answers.{Searched, searchOf};
 ghost use Rattle.search.specs.Turns.{noneSet};
@@ -30,18 +29,6 @@ fn none_set() -> [u8; 276]
     [2u8; 276]
 }
 
-// Puts the values in front of what the answer holds.
-fn write(values: &[u8], answer: &mut [u8])
-    requires { ⌜ length (now values) ≤ length (now answer) ⌝ }
-    ensures { λ _. ⌜ now (answer .exit) ≡ over (now (values .entry)) (now (answer .entry)) ⌝ }
-{
-    let mut i: usize = 0;
-    'values: while i < values.len() {
-        answer[i] = values[i];
-        i += 1;
-    }
-}
-
 // Searches for an assignment of the variables that satisfies the list's clauses, with at most `budget` guesses.
 pub fn search(list: &[u16], variables: usize, budget: u64, answer: &mut [u8]) -> Solution
     ensures answers { λ r. ⌜ _≡_ {A = Searched} (record { solution = r; answer = now (answer .exit) }) (searchOf 276 (now (list .entry)) variables budget (now (answer .entry))) ⌝ }
@@ -63,7 +50,7 @@ pub fn search(list: &[u16], variables: usize, budget: u64, answer: &mut [u8]) ->
     let end = solve(list, &mut values[..variables], budget);
     match end {
         Ending::Found(k) => {
-            write(&values[..variables], answer);
+            bytes::copy(&values[..variables], answer);
             Solution::Solved(k)
         }
         Ending::Absent(_) => Solution::Refused(12),

@@ -4,7 +4,7 @@ use mathlib.Core.Path.{sym, _∙_}
 use Prim.Native.Nat.{_-_}
 use native.Mathlib.Omega.{arith}
 use lib.ListN.{length}
-use Rattle.search.proofs.Answering as laws
+use Rattle.lists.proofs.Copying as laws
 use Rattle.capi.proofs.Answering.{stored-all, stored-short}
 use Rattle.capi.proofs.store.Statement.{statement}
 use Rattle.capi.proofs.store.Tie as tie

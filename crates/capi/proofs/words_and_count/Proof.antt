@@ -3,7 +3,7 @@
 use borrow.Author.Needs.{needs}
 use Prim.Native.Nat.{_-_}
 use lib.ListN.{replicate}
-use Rattle.search.proofs.Answering.{Writing, writing, write-on}
+use Rattle.lists.proofs.Copying.{Writing, writing, write-on}
 use Rattle.capi.proofs.Answering.{last-kept}
 use Rattle.capi.proofs.words_and_count.Statement.{statement}
 use Rattle.capi.proofs.words_and_count.Tie as tie

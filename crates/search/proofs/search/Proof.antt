@@ -2,13 +2,15 @@
 -- Assumes nothing.
 use borrow.Author.Needs.{needs}
 use native.Mathlib.Omega.{arith}
-use mathlib.Core.List.{List}
+use mathlib.Core.List.{List, _++_}
 use Prim.Native.Nat.{ℕ}
 use borrow.Author.Tests.{not-true, not-false}
 use mathlib.Core.Bool.{true, false}
 use mathlib.Core.Path.{sym, ap, _∙_}
 use Rattle.search.proofs.Answering as laws
 use Rattle.lists.specs.Lists.{over}
+use lib.ListN.{take, drop}
+use Rattle.lists.proofs.Copying.{copied}
 use Rattle.search.proofs.search.Statement.{statement}
 use Rattle.search.proofs.search.Tie as tie
 
@@ -73,8 +75,8 @@ array-share-prefix-values c =
     let long = c .before .before .before .before .solve .kept .1 .0 in
     laws.prefix-room n most none v long
 
-slice-aggregate-write : tie.Need-slice-aggregate-write
-slice-aggregate-write c =
+slice-aggregate-copy : tie.Need-slice-aggregate-copy
+slice-aggregate-copy c =
     let n = c .before .before .before .before .before .before .before .before .before .before .before .before .before .before .args .variables in
     let most = c .before .before .before .before .before .before .before .before .before .before .before .if1 .left in
     let none = c .before .before .before .before .before .before .before .none-set .ensures in
@@ -82,8 +84,8 @@ slice-aggregate-write c =
     let long = c .before .before .before .before .before .solve .kept .1 .0 in
     sym (laws.prefix-size n most none v long)
 
-write-requires : tie.Need-write-requires
-write-requires c κs =
+copy-requires : tie.Need-copy-requires
+copy-requires c κs =
     let n = c .before .before .before .before .before .before .before .before .before .before .before .before .before .before .before .args .variables in
     let most = c .before .before .before .before .before .before .before .before .before .before .before .before .if1 .left in
     let none = c .before .before .before .before .before .before .before .before .none-set .ensures in
@@ -113,7 +115,7 @@ returns-4 c =
     let long = c .before .before .before .before .before .before .before .before .before .solve .kept .1 .0 in
     let size = laws.prefix-length n most none in
     let found = laws.is-found l n b (c .before .before .before .before .before .before .before .before .before .solve .result) v size (c .before .before .before .before .before .before .before .before .before .solve .ensures) (c .before .before .before .before .before .before .end .given .1) in
-    let written = c .before .before .write .ensures ∙ ap (λ (u : List ℕ). over u a) (laws.prefix-values n most none v long) in
+    let written = copied (take n (c .before .before .before .before .before .before .before .before .before .solve .last .1 .0 ++ drop n (c .before .before .before .before .before .before .before .before .before .before .before .none-set .result))) a (c .before .before .copy .ensures .1) ∙ ap (λ (u : List ℕ). over u a) (laws.prefix-values n most none v long) in
     laws.promised 276 l n b a (laws.answer-found 276 l n b a fits (c .before .before .before .before .before .before .before .before .before .before .before .before .if3 .left) found written)
 
 returns-5 : tie.Need-returns-5
@@ -158,8 +160,8 @@ search-spec =
     solve-requires
     enum-known-end
     array-share-prefix-values
-    slice-aggregate-write
-    write-requires
+    slice-aggregate-copy
+    copy-requires
     enum-told
     enum-told-2
     same-length
