@@ -1,15 +1,15 @@
 -- The conditions of the check, record by record and state by state: a law for each way through a loop's turn. Assumes nothing.
 use mathlib.Core.Path.{_≡_, refl, sym, ap, _∙_}
-use mathlib.Core.Bool.{Bool, true, false, _&&_, _||_, not}
+use mathlib.Core.Bool.{Bool, true, false, _&&_, _||_, not, true≢false}
 use mathlib.Core.List.{List, [], _∷_}
 use Prim.Native.Nat.{ℕ, _+_, _-_, _*_, _/_, _<_, _≤_}
 use native.Mathlib.Omega.{arith}
 use lib.ListN.{length, getD, drop}
 use lib.Seq.{getD-take, getD-drop}
 use borrow.Author.Tests.{ltb-true}
-use Rattle.lists.specs.Lists.{any}
+use Rattle.lists.specs.Lists.{any, all, upto}
 use Rattle.lists.specs.Bits.{has}
-use Rattle.lists.proofs.Members.{and-true}
+use Rattle.lists.proofs.Members.{and-true, gives-of, all-of}
 use Rattle.table.specs.File.{records}
 use Rattle.table.specs.Reading.{ascend}
 use Rattle.table.specs.Language.{targets}
@@ -60,3 +60,19 @@ module _ (f : List ℕ) (rs : List (List ℕ)) (m : List ℕ) (p a s p' q u : �
 
         pub return-by : {z : ℕ} → has f q u ≡ true → z ≡ p' → any (joins m z) (targets rs (q ∷ a ∷ u ∷ [])) ≡ returnMatched f rs m p a s p' q u
         return-by t g = ap (λ z. any (joins m z) (targets rs (q ∷ a ∷ u ∷ []))) g ∙ sym (parts ∙ rw (j, k, h, t))
+
+  -- a dead return is matched by every state
+  pub return-never : has f x y ≡ false → true ≡ returnMatched f rs m p a s p' q u
+  return-never h = sym (parts ∙ gives-of (joins m x q && joins m y u && has f x y && has f q u) _ (λ t. absurd (true≢false (sym (lives t) ∙ h))))
+    where
+      lives : (joins m x q && joins m y u && has f x y && has f q u) ≡ true → has f x y ≡ true
+      lives t = and-true (joins m x q && joins m y u) (has f x y) (and-true _ (has f q u) t .0) .1
+
+-- ---- a return and every state
+
+module _ (f : List ℕ) (rs : List (List ℕ)) (n : ℕ) (m : List ℕ) (p a s p' : ℕ) {x : ℕ} (d : x ≡ p) where
+  pub met-apart : (q : ℕ) → joins m x q ≡ false → true ≡ all (returnMatched f rs m p a s p' q) (upto n)
+  met-apart q j = sym (all-of _ (upto n) (λ u k. sym (return-apart f rs m p a s p' q u d refl j)))
+
+  pub met-dead : {y : ℕ} → y ≡ s → has f x y ≡ false → true ≡ all (λ q. all (returnMatched f rs m p a s p' q) (upto n)) (upto n)
+  met-dead e h = sym (all-of _ (upto n) (λ q k. all-of _ (upto n) (λ u l. sym (return-never f rs m p a s p' q u d e h))))

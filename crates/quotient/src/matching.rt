@@ -149,7 +149,7 @@ fn return_matched(
     reaches(section, 4, &key, map, wide(fields[3]))
 }
 
-// .. and every stack state
+// .. and every stack state: a state that is not joined has nothing to match.
 fn return_met_at(
     section: &[u8],
     words: &[u32],
@@ -161,6 +161,9 @@ fn return_met_at(
     requires { ⌜ (ascend (records 4 (now section)) ≡ true) × (length (now fields) ≡ 4) × (n ≤ 256) × (q < 256) ⌝ }
     ensures { λ r. ⌜ r ≡ returnMetAt (now (words .entry)) (records 4 (now (section .entry))) n (now (map .entry)) (now (fields .entry)) q ⌝ }
 {
+    if !joined(map, wide(fields[0]), q) {
+        return true;
+    }
     let mut u: usize = 0;
     'states: while u < n {
         if !return_matched(section, words, map, fields, q, u) {
@@ -171,11 +174,14 @@ fn return_met_at(
     true
 }
 
-// .. and every state.
+// .. and every state: a dead return asks nothing.
 fn return_met(section: &[u8], words: &[u32], map: &[u8], fields: &[u8], n: usize) -> bool
     requires { ⌜ (ascend (records 4 (now section)) ≡ true) × (length (now fields) ≡ 4) × (n ≤ 256) ⌝ }
     ensures { λ r. ⌜ r ≡ returnMet (now (words .entry)) (records 4 (now (section .entry))) n (now (map .entry)) (now (fields .entry)) ⌝ }
 {
+    if !has_top(words, wide(fields[0]), wide(fields[2])) {
+        return true;
+    }
     let mut q: usize = 0;
     'states: while q < n {
         if !return_met_at(section, words, map, fields, n, q) {

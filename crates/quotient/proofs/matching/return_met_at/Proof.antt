@@ -4,6 +4,7 @@ use lib.ListN.{getD}
 use Rattle.table.specs.File.{records}
 use Rattle.lists.proofs.Upto.{Counting, counting, all-passed, all-failed, all-done}
 use Rattle.lists.specs.Lists.{all}
+use Rattle.quotient.proofs.Matched.{met-apart}
 use borrow.Author.Tests.{not-true, not-false}
 use native.Mathlib.Omega.{arith}
 use Prim.Native.Nat.{_-_}
@@ -18,14 +19,26 @@ Inv-states section words map fields n q u₀ u = Counting (all (λ r. returnMatc
 abbrev μ-states : tie.MeasureT-states
 μ-states section words map fields n q u₀ u = n - u
 
+shared-slice-read-wide : tie.Need-shared-slice-read-wide Inv-states μ-states
+shared-slice-read-wide c = search needs
+
+wide-requires : tie.Need-wide-requires Inv-states μ-states
+wide-requires c κs = search needs
+
+joined-requires : tie.Need-joined-requires Inv-states μ-states
+joined-requires c κs = search needs
+
+returns : tie.Need-returns Inv-states μ-states
+returns c = met-apart _ _ _ _ _ _ _ _ (c .before .before .wide .ensures) _ (sym (c .before .joined .ensures) ∙ not-true _ (c .if1 .taken))
+
 states-holds : tie.Need-states-holds Inv-states μ-states
 states-holds c = counting _ _
 
 return-matched-requires : tie.Need-return-matched-requires Inv-states μ-states
-return-matched-requires c κs = let a = c .before .before .before .before .before .before in (a .pre .0, a .pre .1, a .pre .3, omega (arith, a .pre .2, c .states-test .taken))
+return-matched-requires c κs = let a = c .before .before .before .before .before .before .before .before .before .before in (a .pre .0, a .pre .1, a .pre .3, omega (arith, a .pre .2, c .states-test .taken))
 
-returns : tie.Need-returns Inv-states μ-states
-returns c = all-failed _ (c .before .before .before .states .inv) (c .before .before .states-test .taken) (sym (c .before .return-matched .ensures) ∙ not-true _ (c .if1 .taken))
+returns-2 : tie.Need-returns-2 Inv-states μ-states
+returns-2 c = all-failed _ (c .before .before .before .states .inv) (c .before .before .states-test .taken) (sym (c .before .return-matched .ensures) ∙ not-true _ (c .if2 .taken))
 
 add-u : tie.Need-add-u Inv-states μ-states
 add-u c = search needs
@@ -34,10 +47,10 @@ states-less : tie.Need-states-less Inv-states μ-states
 states-less c = search needs
 
 states-again : tie.Need-states-again Inv-states μ-states
-states-again c = all-passed _ (c .before .before .before .states .inv) (c .before .before .states-test .taken) (sym (c .before .return-matched .ensures) ∙ not-false _ (c .if1 .left))
+states-again c = all-passed _ (c .before .before .before .states .inv) (c .before .before .states-test .taken) (sym (c .before .return-matched .ensures) ∙ not-false _ (c .if2 .left))
 
-returns-2 : tie.Need-returns-2 Inv-states μ-states
-returns-2 c = all-done _ (c .before .states .inv) (c .states-test .left)
+returns-3 : tie.Need-returns-3 Inv-states μ-states
+returns-3 c = all-done _ (c .before .states .inv) (c .states-test .left)
 
 pub return-met-at-spec : {M : Type 1} → statement M
 return-met-at-spec =
@@ -45,10 +58,14 @@ return-met-at-spec =
     (tie.spec
     Inv-states
     μ-states
+    shared-slice-read-wide
+    wide-requires
+    joined-requires
+    returns
     states-holds
     return-matched-requires
-    returns
+    returns-2
     add-u
     states-less
     states-again
-    returns-2)
+    returns-3)
