@@ -38,41 +38,37 @@ module _ (rs : List (List ℕ)) (m : List ℕ) (p a p' q : ℕ) {x : ℕ} (d : x
   unfolding moveMatched
   move-by e j = ap (λ z. any (joins m z) (targets rs (q ∷ a ∷ []))) e ∙ rw (ap (λ z. joins m z q) (sym d) ∙ j)
 
-module _ (f : List ℕ) (rs : List (List ℕ)) (m : List ℕ) (p a s p' q u : ℕ) {x y : ℕ} (d : x ≡ p) (e : y ≡ s) where
-  parts : returnMatched f rs m p a s p' q u ≡ (not (joins m x q && joins m y u && has f x y && has f q u) || any (joins m p') (targets rs (q ∷ a ∷ u ∷ [])))
+module _ (f : List ℕ) (rs : List (List ℕ)) (m : List ℕ) (p a s p' q u : ℕ) where
+  return-apart : joins m p q ≡ false → returnMatched f rs m p a s p' q u ≡ true
   unfolding returnMatched
-  parts = λ i. not (joins m (sym d i) q && joins m (sym e i) u && has f (sym d i) (sym e i) && has f q u) || any (joins m p') (targets rs (q ∷ a ∷ u ∷ []))
+  return-apart j = rw j
 
-  pub return-apart : joins m x q ≡ false → true ≡ returnMatched f rs m p a s p' q u
-  return-apart j = sym (parts ∙ rw j)
+  return-dead : has f p s ≡ false → returnMatched f rs m p a s p' q u ≡ true
+  unfolding returnMatched
+  return-dead h = gives-of (joins m p q && joins m s u && has f p s && has f q u) _ (λ t. absurd (true≢false (sym (lives t) ∙ h)))
+    where
+      lives : (joins m p q && joins m s u && has f p s && has f q u) ≡ true → has f p s ≡ true
+      lives t = and-true (joins m p q && joins m s u) (has f p s) (and-true _ (has f q u) t .0) .1
 
-  module _ (j : joins m x q ≡ true) where
+  module _ (h : has f p s ≡ true) (j : joins m p q ≡ true) {y : ℕ} (e : y ≡ s) where
     pub stack-apart : joins m y u ≡ false → true ≡ returnMatched f rs m p a s p' q u
-    stack-apart k = sym (parts ∙ rw (j, k))
+    unfolding returnMatched
+    stack-apart k = rw (j, ap (λ z. joins m z u) (sym e) ∙ k)
 
     module _ (k : joins m y u ≡ true) where
-      pub return-dead : has f x y ≡ false → true ≡ returnMatched f rs m p a s p' q u
-      return-dead h = sym (parts ∙ rw (j, k, h))
+      pub not-under : has f q u ≡ false → true ≡ returnMatched f rs m p a s p' q u
+      unfolding returnMatched
+      not-under t = rw (j, ap (λ z. joins m z u) (sym e) ∙ k, h, t)
 
-      module _ (h : has f x y ≡ true) where
-        pub not-under : has f q u ≡ false → true ≡ returnMatched f rs m p a s p' q u
-        not-under t = sym (parts ∙ rw (j, k, h, t))
-
-        pub return-by : {z : ℕ} → has f q u ≡ true → z ≡ p' → any (joins m z) (targets rs (q ∷ a ∷ u ∷ [])) ≡ returnMatched f rs m p a s p' q u
-        return-by t g = ap (λ z. any (joins m z) (targets rs (q ∷ a ∷ u ∷ []))) g ∙ sym (parts ∙ rw (j, k, h, t))
-
-  -- a dead return is matched by every state
-  pub return-never : has f x y ≡ false → true ≡ returnMatched f rs m p a s p' q u
-  return-never h = sym (parts ∙ gives-of (joins m x q && joins m y u && has f x y && has f q u) _ (λ t. absurd (true≢false (sym (lives t) ∙ h))))
-    where
-      lives : (joins m x q && joins m y u && has f x y && has f q u) ≡ true → has f x y ≡ true
-      lives t = and-true (joins m x q && joins m y u) (has f x y) (and-true _ (has f q u) t .0) .1
+      pub return-by : {z : ℕ} → has f q u ≡ true → z ≡ p' → any (joins m z) (targets rs (q ∷ a ∷ u ∷ [])) ≡ returnMatched f rs m p a s p' q u
+      unfolding returnMatched
+      return-by t g = ap (λ z. any (joins m z) (targets rs (q ∷ a ∷ u ∷ []))) g ∙ rw (j, ap (λ z. joins m z u) (sym e) ∙ k, h, t)
 
 -- ---- a return and every state
 
 module _ (f : List ℕ) (rs : List (List ℕ)) (n : ℕ) (m : List ℕ) (p a s p' : ℕ) {x : ℕ} (d : x ≡ p) where
   pub met-apart : (q : ℕ) → joins m x q ≡ false → true ≡ all (returnMatched f rs m p a s p' q) (upto n)
-  met-apart q j = sym (all-of _ (upto n) (λ u k. sym (return-apart f rs m p a s p' q u d refl j)))
+  met-apart q j = sym (all-of _ (upto n) (λ u k. return-apart f rs m p a s p' q u (ap (λ z. joins m z q) (sym d) ∙ j)))
 
   pub met-dead : {y : ℕ} → y ≡ s → has f x y ≡ false → true ≡ all (λ q. all (returnMatched f rs m p a s p' q) (upto n)) (upto n)
-  met-dead e h = sym (all-of _ (upto n) (λ q k. all-of _ (upto n) (λ u l. sym (return-never f rs m p a s p' q u d e h))))
+  met-dead e h = sym (all-of _ (upto n) (λ q k. all-of _ (upto n) (λ u l. return-dead f rs m p a s p' q u ((λ i. has f (sym d i) (sym e i)) ∙ h))))

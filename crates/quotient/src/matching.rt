@@ -4,6 +4,7 @@ ghost use mathlib.Core.Bool.{true};
 ghost use Prim.Native.Nat.{_+_, _<_, _≤_};
 ghost use lib.ListN.{length, getD};
 ghost use Rattle.lists.specs.Lists.{any};
+ghost use Rattle.lists.specs.Bits.{has};
 ghost use Rattle.table.specs.File.{records};
 ghost use Rattle.table.specs.Reading.{ascend};
 ghost use Rattle.table.specs.Language.{targets};
@@ -119,7 +120,7 @@ pub(crate) fn moves_matched(section: &[u8], n: usize, map: &[u8]) -> bool
     true
 }
 
-// (iv) for a record (p, r, s, p'), a state q and a stack state u.
+// (iv) for a live record (p, r, s, p'), a state q that is joined to p, and a stack state u.
 fn return_matched(
     section: &[u8],
     words: &[u32],
@@ -129,17 +130,11 @@ fn return_matched(
     u: usize,
 ) -> bool
     requires { ⌜ (ascend (records 4 (now section)) ≡ true) × (length (now fields) ≡ 4) × (q < 256) × (u < 256) ⌝ }
+    requires { ⌜ (has (now words) (getD (now fields) 0 0) (getD (now fields) 2 0) ≡ true) × (joins (now map) (getD (now fields) 0 0) q ≡ true) ⌝ }
     ensures { λ r. ⌜ r ≡ returnMatched (now (words .entry)) (records 4 (now (section .entry))) (now (map .entry)) (getD (now (fields .entry)) 0 0) (getD (now (fields .entry)) 1 0) (getD (now (fields .entry)) 2 0) (getD (now (fields .entry)) 3 0) q u ⌝ }
 {
-    let p = wide(fields[0]);
     let s = wide(fields[2]);
-    if !joined(map, p, q) {
-        return true;
-    }
     if !joined(map, s, u) {
-        return true;
-    }
-    if !has_top(words, p, s) {
         return true;
     }
     if !has_top(words, q, u) {
@@ -159,6 +154,7 @@ fn return_met_at(
     q: usize,
 ) -> bool
     requires { ⌜ (ascend (records 4 (now section)) ≡ true) × (length (now fields) ≡ 4) × (n ≤ 256) × (q < 256) ⌝ }
+    requires { ⌜ has (now words) (getD (now fields) 0 0) (getD (now fields) 2 0) ≡ true ⌝ }
     ensures { λ r. ⌜ r ≡ returnMetAt (now (words .entry)) (records 4 (now (section .entry))) n (now (map .entry)) (now (fields .entry)) q ⌝ }
 {
     if !joined(map, wide(fields[0]), q) {

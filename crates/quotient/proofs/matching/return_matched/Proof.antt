@@ -1,6 +1,6 @@
 -- `quotient::matching::return_matched` meets its contract, test by test. Assumes nothing.
 use native.Mathlib.Omega.{arith}
-use Rattle.quotient.proofs.Matched.{return-apart, stack-apart, return-dead, not-under, return-by}
+use Rattle.quotient.proofs.Matched.{stack-apart, not-under, return-by}
 use borrow.Author.Tests.{not-true, not-false}
 use mathlib.Core.Path.{refl, sym, _∙_}
 use borrow.Author.Needs.{needs}
@@ -13,59 +13,41 @@ shared-slice-read-wide c = search needs
 wide-requires : tie.Need-wide-requires
 wide-requires c κs = search needs
 
+joined-requires : tie.Need-joined-requires
+joined-requires c κs = search needs
+
+returns : tie.Need-returns
+returns c = stack-apart _ _ _ _ _ _ _ _ _ (c .before .before .before .before .before .before .before .before .pre .1 .0) (c .before .before .before .before .before .before .before .before .pre .1 .1) (c .before .before .wide .ensures) (sym (c .before .joined .ensures) ∙ not-true _ (c .if1 .taken))
+
+has-top-requires : tie.Need-has-top-requires
+has-top-requires c κs = search needs
+
+returns-2 : tie.Need-returns-2
+returns-2 c = not-under _ _ _ _ _ _ _ _ _ (c .before .before .before .before .before .before .before .before .before .before .pre .1 .0) (c .before .before .before .before .before .before .before .before .before .before .pre .1 .1) (c .before .before .before .before .wide .ensures) (sym (c .before .before .before .joined .ensures) ∙ not-false _ (c .before .before .if1 .left)) (sym (c .before .has-top .ensures) ∙ not-true _ (c .if2 .taken))
+
+cast-wide : tie.Need-cast-wide
+cast-wide c = search needs
+
+shared-slice-read-t14 : tie.Need-shared-slice-read-t14
+shared-slice-read-t14 c = search needs
+
+cast-t15 : tie.Need-cast-t15
+cast-t15 c = search needs
+
+slice-aggregate-reaches : tie.Need-slice-aggregate-reaches
+slice-aggregate-reaches c = search needs
+
 shared-slice-read-wide-2 : tie.Need-shared-slice-read-wide-2
 shared-slice-read-wide-2 c = search needs
 
 wide-requires-2 : tie.Need-wide-requires-2
 wide-requires-2 c κs = search needs
 
-joined-requires : tie.Need-joined-requires
-joined-requires c κs = search needs
-
-returns : tie.Need-returns
-returns c = return-apart _ _ _ _ _ _ _ _ _ (c .before .before .before .before .wide .ensures) (c .before .before .wide2 .ensures) (sym (c .before .joined .ensures) ∙ not-true _ (c .if1 .taken))
-
-joined-requires-2 : tie.Need-joined-requires-2
-joined-requires-2 c κs = search needs
-
-returns-2 : tie.Need-returns-2
-returns-2 c = stack-apart _ _ _ _ _ _ _ _ _ (c .before .before .before .before .before .before .wide .ensures) (c .before .before .before .before .wide2 .ensures) (sym (c .before .before .before .joined .ensures) ∙ not-false _ (c .before .before .if1 .left)) (sym (c .before .joined2 .ensures) ∙ not-true _ (c .if2 .taken))
-
-has-top-requires : tie.Need-has-top-requires
-has-top-requires c κs = search needs
+reaches-requires : tie.Need-reaches-requires
+reaches-requires c κs = (refl, omega arith, c .before .before .before .before .before .before .before .before .before .before .before .before .before .before .pre .0 .0)
 
 returns-3 : tie.Need-returns-3
-returns-3 c = return-dead _ _ _ _ _ _ _ _ _ (c .before .before .before .before .before .before .before .before .wide .ensures) (c .before .before .before .before .before .before .wide2 .ensures) (sym (c .before .before .before .before .before .joined .ensures) ∙ not-false _ (c .before .before .before .before .if1 .left)) (sym (c .before .before .before .joined2 .ensures) ∙ not-false _ (c .before .before .if2 .left)) (sym (c .before .has-top .ensures) ∙ not-true _ (c .if3 .taken))
-
-has-top-requires-2 : tie.Need-has-top-requires-2
-has-top-requires-2 c κs = search needs
-
-returns-4 : tie.Need-returns-4
-returns-4 c = not-under _ _ _ _ _ _ _ _ _ (c .before .before .before .before .before .before .before .before .before .before .wide .ensures) (c .before .before .before .before .before .before .before .before .wide2 .ensures) (sym (c .before .before .before .before .before .before .before .joined .ensures) ∙ not-false _ (c .before .before .before .before .before .before .if1 .left)) (sym (c .before .before .before .before .before .joined2 .ensures) ∙ not-false _ (c .before .before .before .before .if2 .left)) (sym (c .before .before .before .has-top .ensures) ∙ not-false _ (c .before .before .if3 .left)) (sym (c .before .has-top2 .ensures) ∙ not-true _ (c .if4 .taken))
-
-cast-wide : tie.Need-cast-wide
-cast-wide c = search needs
-
-shared-slice-read-t16 : tie.Need-shared-slice-read-t16
-shared-slice-read-t16 c = search needs
-
-cast-t17 : tie.Need-cast-t17
-cast-t17 c = search needs
-
-slice-aggregate-reaches : tie.Need-slice-aggregate-reaches
-slice-aggregate-reaches c = search needs
-
-shared-slice-read-wide-3 : tie.Need-shared-slice-read-wide-3
-shared-slice-read-wide-3 c = search needs
-
-wide-requires-3 : tie.Need-wide-requires-3
-wide-requires-3 c κs = search needs
-
-reaches-requires : tie.Need-reaches-requires
-reaches-requires c κs = let a = c .before .before .before .before .before .before .before .before .before .before .before .before .before .before .before .before .before .before .before .before in (refl, omega arith, a .pre .0)
-
-returns-5 : tie.Need-returns-5
-returns-5 c = c .reaches .ensures ∙ return-by _ _ _ _ _ _ _ _ _ (c .before .before .before .before .before .before .before .before .before .before .before .before .before .before .before .wide .ensures) (c .before .before .before .before .before .before .before .before .before .before .before .before .before .wide2 .ensures) (sym (c .before .before .before .before .before .before .before .before .before .before .before .before .joined .ensures) ∙ not-false _ (c .before .before .before .before .before .before .before .before .before .before .before .if1 .left)) (sym (c .before .before .before .before .before .before .before .before .before .before .joined2 .ensures) ∙ not-false _ (c .before .before .before .before .before .before .before .before .before .if2 .left)) (sym (c .before .before .before .before .before .before .before .before .has-top .ensures) ∙ not-false _ (c .before .before .before .before .before .before .before .if3 .left)) (sym (c .before .before .before .before .before .before .has-top2 .ensures) ∙ not-false _ (c .before .before .before .before .before .if4 .left)) (c .before .wide3 .ensures)
+returns-3 c = c .reaches .ensures ∙ return-by _ _ _ _ _ _ _ _ _ (c .before .before .before .before .before .before .before .before .before .before .before .before .before .before .before .pre .1 .0) (c .before .before .before .before .before .before .before .before .before .before .before .before .before .before .before .pre .1 .1) (c .before .before .before .before .before .before .before .before .before .wide .ensures) (sym (c .before .before .before .before .before .before .before .before .joined .ensures) ∙ not-false _ (c .before .before .before .before .before .before .before .if1 .left)) (sym (c .before .before .before .before .before .before .has-top .ensures) ∙ not-false _ (c .before .before .before .before .before .if2 .left)) (c .before .wide2 .ensures)
 
 pub return-matched-spec : {M : Type 1} → statement M
 return-matched-spec =
@@ -73,21 +55,15 @@ return-matched-spec =
     (tie.spec
     shared-slice-read-wide
     wide-requires
-    shared-slice-read-wide-2
-    wide-requires-2
     joined-requires
     returns
-    joined-requires-2
-    returns-2
     has-top-requires
-    returns-3
-    has-top-requires-2
-    returns-4
+    returns-2
     cast-wide
-    shared-slice-read-t16
-    cast-t17
+    shared-slice-read-t14
+    cast-t15
     slice-aggregate-reaches
-    shared-slice-read-wide-3
-    wide-requires-3
+    shared-slice-read-wide-2
+    wide-requires-2
     reaches-requires
-    returns-5)
+    returns-3)

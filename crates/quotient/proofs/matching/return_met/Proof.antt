@@ -3,6 +3,7 @@ use Rattle.quotient.specs.Sections.{returnMetAt}
 use Rattle.table.specs.File.{records}
 use Rattle.lists.proofs.Upto.{Counting, counting, all-passed, all-failed, all-done}
 use Rattle.lists.specs.Lists.{all}
+use Rattle.lists.specs.Bits.{has}
 use Rattle.quotient.proofs.Matched.{met-dead}
 use borrow.Author.Tests.{not-true, not-false}
 use native.Mathlib.Omega.{arith}
@@ -40,7 +41,10 @@ states-holds : tie.Need-states-holds Inv-states μ-states
 states-holds c = counting _ _
 
 return-met-at-requires : tie.Need-return-met-at-requires Inv-states μ-states
-return-met-at-requires c κs = let a = c .before .before .before .before .before .before .before .before .before .before .before .before in (a .pre .0, a .pre .1, a .pre .2, omega (arith, a .pre .2, c .states-test .taken))
+return-met-at-requires c κs =
+    let a = c .before .before .before .before .before .before .before .before .before .before .before .before in
+    let live = (λ i. has (a .args .words .now) (sym (c .before .before .before .before .before .before .wide .ensures) i) (sym (c .before .before .before .before .wide2 .ensures) i)) ∙ sym (c .before .before .before .has-top .ensures) ∙ not-false _ (c .before .before .if1 .left) in
+    ((a .pre .0, a .pre .1, a .pre .2, omega (arith, a .pre .2, c .states-test .taken)), live)
 
 returns-2 : tie.Need-returns-2 Inv-states μ-states
 returns-2 c = all-failed _ (c .before .before .before .states .inv) (c .before .before .states-test .taken) (sym (c .before .return-met-at .ensures) ∙ not-true _ (c .if2 .taken))

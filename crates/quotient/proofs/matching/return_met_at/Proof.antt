@@ -1,6 +1,7 @@
 -- `quotient::matching::return_met_at` meets its contract: the stack states before this one match the return. Assumes nothing.
 use Rattle.maps.specs.Check.{returnMatched}
 use lib.ListN.{getD}
+use Rattle.table.specs.Maps.{joins}
 use Rattle.table.specs.File.{records}
 use Rattle.lists.proofs.Upto.{Counting, counting, all-passed, all-failed, all-done}
 use Rattle.lists.specs.Lists.{all}
@@ -8,7 +9,7 @@ use Rattle.quotient.proofs.Matched.{met-apart}
 use borrow.Author.Tests.{not-true, not-false}
 use native.Mathlib.Omega.{arith}
 use Prim.Native.Nat.{_-_}
-use mathlib.Core.Path.{sym, _∙_}
+use mathlib.Core.Path.{sym, ap, _∙_}
 use borrow.Author.Needs.{needs}
 use Rattle.quotient.proofs.matching.return_met_at.Statement.{statement}
 use Rattle.quotient.proofs.matching.return_met_at.Tie as tie
@@ -35,7 +36,11 @@ states-holds : tie.Need-states-holds Inv-states μ-states
 states-holds c = counting _ _
 
 return-matched-requires : tie.Need-return-matched-requires Inv-states μ-states
-return-matched-requires c κs = let a = c .before .before .before .before .before .before .before .before .before .before in (a .pre .0, a .pre .1, a .pre .3, omega (arith, a .pre .2, c .states-test .taken))
+return-matched-requires c κs =
+    let a = c .before .before .before .before .before .before .before .before .before .before in (
+      (a .pre .0 .0, a .pre .0 .1, a .pre .0 .3, omega (arith, a .pre .0 .2, c .states-test .taken)),
+      (a .pre .1, ap (λ z. joins (a .args .map .now) z (a .args .q)) (sym (c .before .before .before .before .wide .ensures)) ∙ sym (c .before .before .before .joined .ensures) ∙ not-false _ (c .before .before .if1 .left)),
+    )
 
 returns-2 : tie.Need-returns-2 Inv-states μ-states
 returns-2 c = all-failed _ (c .before .before .before .states .inv) (c .before .before .states-test .taken) (sym (c .before .return-matched .ensures) ∙ not-true _ (c .if2 .taken))
