@@ -1,11 +1,11 @@
 -- `quotient::matching::return_met_at` meets its contract: the stack states before this one match the return. Assumes nothing.
 use Rattle.maps.specs.Check.{returnMatched}
 use lib.ListN.{getD}
-use Rattle.table.specs.Maps.{joins}
 use Rattle.table.specs.File.{records}
+use Rattle.table.specs.Maps.{classOf}
+use Rattle.quotient.proofs.Matched.{by-class, met-apart}
 use Rattle.lists.proofs.Upto.{Counting, counting, all-passed, all-failed, all-done}
 use Rattle.lists.specs.Lists.{all}
-use Rattle.quotient.proofs.Matched.{met-apart}
 use borrow.Author.Tests.{not-true, not-false}
 use native.Mathlib.Omega.{arith}
 use Prim.Native.Nat.{_-_}
@@ -15,10 +15,16 @@ use Rattle.quotient.proofs.matching.return_met_at.Statement.{statement}
 use Rattle.quotient.proofs.matching.return_met_at.Tie as tie
 
 abbrev Inv-states : tie.InvT-states
-Inv-states section words map fields n q u₀ u = Counting (all (λ r. returnMatched words (records 4 section) map (getD fields 0 0) (getD fields 1 0) (getD fields 2 0) (getD fields 3 0) q r)) n u
+Inv-states section words map fields n class q under u₀ u = Counting (all (λ r. returnMatched words (records 4 section) map (getD fields 0 0) (getD fields 1 0) (getD fields 2 0) (getD fields 3 0) q r)) n u
 
 abbrev μ-states : tie.MeasureT-states
-μ-states section words map fields n q u₀ u = n - u
+μ-states section words map fields n class q under u₀ u = n - u
+
+is-in-requires : tie.Need-is-in-requires Inv-states μ-states
+is-in-requires c κs = search needs
+
+returns : tie.Need-returns Inv-states μ-states
+returns c = met-apart _ _ _ _ _ _ _ _ _ (by-class _ _ _ (c .before .before .before .before .before .before .pre .0 .4) (c .before .is-in .ensures) (not-true _ (c .if1 .taken)))
 
 shared-slice-read-wide : tie.Need-shared-slice-read-wide Inv-states μ-states
 shared-slice-read-wide c = search needs
@@ -26,21 +32,14 @@ shared-slice-read-wide c = search needs
 wide-requires : tie.Need-wide-requires Inv-states μ-states
 wide-requires c κs = search needs
 
-joined-requires : tie.Need-joined-requires Inv-states μ-states
-joined-requires c κs = search needs
-
-returns : tie.Need-returns Inv-states μ-states
-returns c = met-apart _ _ _ _ _ _ _ _ (c .before .before .wide .ensures) _ (sym (c .before .joined .ensures) ∙ not-true _ (c .if1 .taken))
+class-of-requires : tie.Need-class-of-requires Inv-states μ-states
+class-of-requires c κs = search needs
 
 states-holds : tie.Need-states-holds Inv-states μ-states
 states-holds c = counting _ _
 
 return-matched-requires : tie.Need-return-matched-requires Inv-states μ-states
-return-matched-requires c κs =
-    let a = c .before .before .before .before .before .before .before .before .before .before in (
-      (a .pre .0 .0, a .pre .0 .1, a .pre .0 .3, omega (arith, a .pre .0 .2, c .states-test .taken)),
-      (a .pre .1, ap (λ z. joins (a .args .map .now) z (a .args .q)) (sym (c .before .before .before .before .wide .ensures)) ∙ sym (c .before .before .before .joined .ensures) ∙ not-false _ (c .before .before .if1 .left)),
-    )
+return-matched-requires c κs = let a = c .before .before .before .before .before .before .before .before .before .before .before in ((a .pre .0 .0, a .pre .0 .1, a .pre .0 .3, omega (arith, a .pre .0 .2, c .states-test .taken), c .before .before .class-of .ensures ∙ ap (classOf (a .args .map .now)) (c .before .before .before .wide .ensures)), (a .pre .1, (by-class _ _ _ (c .before .before .before .before .before .before .before .before .before .before .before .pre .0 .4) (c .before .before .before .before .before .before .is-in .ensures) (not-false _ (c .before .before .before .before .before .if1 .left)))))
 
 returns-2 : tie.Need-returns-2 Inv-states μ-states
 returns-2 c = all-failed _ (c .before .before .before .states .inv) (c .before .before .states-test .taken) (sym (c .before .return-matched .ensures) ∙ not-true _ (c .if2 .taken))
@@ -63,10 +62,11 @@ return-met-at-spec =
     (tie.spec
     Inv-states
     μ-states
+    is-in-requires
+    returns
     shared-slice-read-wide
     wide-requires
-    joined-requires
-    returns
+    class-of-requires
     states-holds
     return-matched-requires
     returns-2
