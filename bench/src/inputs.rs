@@ -1,4 +1,5 @@
-//! The tables that are measured: of 4 to 24 states, with at most one target a move and with any number, some of them copies of a smaller one.
+//! What is measured: tables of 4 to 24 states, with at most one target a move and with any number, some of them copies of a smaller one; and for the
+//! search a list with thousands of guesses.
 
 use crate::capi;
 use crate::random::{self, Random};
@@ -9,13 +10,13 @@ pub const BUDGET: u64 = 100_000;
 
 /// How a table is made.
 #[derive(Clone, Copy)]
-pub struct Recipe {
-    pub states: usize,
+struct Recipe {
+    states: usize,
     /// at most one target a move
-    pub one: bool,
+    one: bool,
     /// the states are copies of a smaller table's, so that some merge
-    pub copies: bool,
-    pub seed: u64,
+    copies: bool,
+    seed: u64,
 }
 
 impl Recipe {
@@ -29,30 +30,28 @@ impl Recipe {
 
 /// A table with what its stages are lent: its clause list and the map that reduce delivers.
 pub struct Input {
-    pub recipe: Recipe,
+    pub label: String,
     pub table: Vec<u8>,
     pub list: Vec<u16>,
     pub variables: usize,
     pub map: Vec<u8>,
-    pub classes: u64,
-    pub guesses: u64,
+    classes: usize,
 }
+
+/// The heads of the columns that a label has.
+pub const LABELS: &str = "states targets classes bytes words guesses";
 
 impl Input {
     /// The input of a recipe, or nothing where reduce refuses the table.
     fn new(recipe: Recipe) -> Option<Input> {
+        let states = recipe.states;
         let table = recipe.bytes();
-        let (mut list, mut map, mut out) = (vec![0; WORDS], vec![0; recipe.states], vec![0; table.len()]);
+        let (mut list, mut map, mut out) = (vec![0; WORDS], vec![0; states], vec![0; table.len()]);
         let [classes, guesses, words, _] = capi::reduce(&table, BUDGET, &mut list, &mut map, &mut out).ok()?;
         list.truncate(words as usize);
-        let variables = recipe.states * (recipe.states - 1) / 2;
-        Some(Input { recipe, table, list, variables, map, classes, guesses })
-    }
-
-    /// The sizes: states, targets, classes, clause words.
-    pub fn sizes(&self) -> String {
-        let targets = if self.recipe.one { "one" } else { "any" };
-        format!("{:6} {targets:>7} {:7} {:5}", self.recipe.states, self.classes, self.list.len())
+        let targets = if recipe.one { "one" } else { "any" };
+        let label = format!("{states:6} {targets:>7} {classes:7} {:5} {words:5} {guesses:7}", table.len());
+        Some(Input { label, table, list, variables: states * (states - 1) / 2, map, classes: classes as usize })
     }
 }
 
@@ -66,7 +65,7 @@ const SEEDS: [[u64; 4]; 6] = [
     [1692, 1021, 973, 711],
 ];
 
-/// The recipes, whose seeds are given by place: one target, any number, and both again with copies.
+/// The recipes of the seeds, by their places: one target, any number, and both again with copies.
 fn recipes() -> impl Iterator<Item = Recipe> {
     SEEDS.iter().enumerate().flat_map(|(i, seeds)| {
         seeds.iter().enumerate().map(move |(j, &seed)| Recipe { states: 4 * (i + 1), one: j % 2 == 0, copies: j >= 2, seed })
@@ -81,8 +80,30 @@ pub fn inputs() -> Vec<Input> {
 /// Prints, for each recipe, the seed below 2,000 with the longest list that the program takes; where states are copies, some merge.
 pub fn find() {
     for recipe in recipes() {
-        let all = (0..2000).filter_map(|seed| Input::new(Recipe { seed, ..recipe }));
-        let best = all.filter(|i| !recipe.copies || (i.classes as usize) < recipe.states).max_by_key(|i| i.list.len()).expect("reduce delivers");
-        println!("{} seed {} bytes {} guesses {}", best.sizes(), best.recipe.seed, best.table.len(), best.guesses);
+        let all = (0..2000).filter_map(|seed| Some((seed, Input::new(Recipe { seed, ..recipe })?)));
+        let fit = all.filter(|(_, input)| !recipe.copies || input.classes < recipe.states);
+        let (seed, input) = fit.max_by_key(|(_, input)| input.list.len()).expect("reduce delivers");
+        println!("{} seed {seed}", input.label);
     }
+}
+
+/// A list for the search alone: one pigeon more than holes where variable 0 is true, which takes thousands of guesses to be found false.
+pub fn pigeons(holes: usize) -> Input {
+    let place = |pigeon: usize, hole: usize| 2 * (1 + pigeon * holes + hole) as u16;
+    let mut list = Vec::new();
+    for pigeon in 0..=holes {
+        list.extend([holes as u16 + 1, 1]);
+        list.extend((0..holes).map(|hole| place(pigeon, hole)));
+    }
+    for hole in 0..holes {
+        for high in 0..=holes {
+            for low in 0..high {
+                list.extend([3, 1, place(low, hole) + 1, place(high, hole) + 1]);
+            }
+        }
+    }
+    let variables = 1 + holes * (holes + 1);
+    let [guesses] = capi::search(&list, variables, BUDGET, &mut vec![0; variables]).expect("the search ends");
+    let label = format!("{:6} {:>7} {:7} {:5} {:5} {guesses:7}", "-", "-", "-", "-", list.len());
+    Input { label, table: Vec::new(), list, variables, map: Vec::new(), classes: 0 }
 }

@@ -1,6 +1,7 @@
 //! Instructions of the stages, counted by callgrind: unlike times they do not depend on what else runs.
 
 use crate::inputs::Input;
+use crate::report::{self, Row};
 use crate::stages::{Buffers, Call, Stage, STAGES};
 use std::hint::black_box;
 use std::path::Path;
@@ -27,7 +28,7 @@ pub fn one(name: &str, side: &str) {
 }
 
 /// The instructions of a stage for each of its inputs: callgrind writes a file at the end of each call.
-fn count(stage: &Stage, side: &str, inputs: usize, folder: &Path) -> Vec<u64> {
+fn count(stage: &Stage, side: &str, inputs: usize, folder: &Path) -> Vec<f64> {
     let out = folder.join(format!("{}.{side}", stage.name));
     let status = Command::new("valgrind")
         .args(["--quiet", "--tool=callgrind", "--toggle-collect=*::counted", "--dump-after=*::counted"])
@@ -44,15 +45,16 @@ fn count(stage: &Stage, side: &str, inputs: usize, folder: &Path) -> Vec<u64> {
     (1..=inputs).map(total).collect()
 }
 
-/// A line for each stage and input.
+/// Counts each stage on each of its inputs; callgrind's files go to a folder.
 pub fn print(folder: &str) {
     std::fs::create_dir_all(folder).expect("a folder for callgrind's files");
-    println!("stage    states targets classes words      library        plain ratio");
+    let mut rows = Vec::new();
     for stage in &STAGES {
         let inputs = stage.inputs();
         let [ours, theirs] = ["library", "plain"].map(|side| count(stage, side, inputs.len(), Path::new(folder)));
-        for ((input, x), y) in inputs.iter().zip(ours).zip(theirs) {
-            println!("{:8} {} {x:12} {y:12} {:5.2}", stage.name, input.sizes(), x as f64 / y as f64);
+        for ((input, library), plain) in inputs.into_iter().zip(ours).zip(theirs) {
+            rows.push(Row { stage: stage.name, label: input.label, library, plain });
         }
     }
+    report::print(&rows, "Ir");
 }

@@ -14,6 +14,7 @@ mod random;
 #[path = "../../tests/src/reference.rs"]
 #[allow(dead_code)]
 mod reference;
+mod report;
 mod stages;
 mod times;
 

@@ -1,6 +1,6 @@
 //! The seven operations, each by the library and in plain Rust, on an input.
 
-use crate::inputs::{inputs, Input, BUDGET, WORDS};
+use crate::inputs::{inputs, pigeons, Input, BUDGET, WORDS};
 use crate::{capi, plain};
 
 /// What an operation writes to, and the values of its answer.
@@ -72,7 +72,11 @@ pub const STAGES: [Stage; 7] = [
 impl Stage {
     /// The inputs of the stage.
     pub fn inputs(&self) -> Vec<Input> {
-        inputs()
+        let mut all = inputs();
+        if self.name == "search" {
+            all.push(pigeons(7));
+        }
+        all
     }
 
     /// Stops the program where library and plain Rust differ on an input, in the answer or in a buffer.
@@ -80,7 +84,7 @@ impl Stage {
         let mut ours = Buffers::new();
         let mut theirs = Buffers::new();
         let numbers = ((self.library)(input, &mut ours), (self.plain)(input, &mut theirs));
-        assert_eq!(numbers, (0, 0), "{}: {}", self.name, input.sizes());
-        assert!(ours == theirs, "{}: {}", self.name, input.sizes());
+        assert_eq!(numbers, (0, 0), "{}: {}", self.name, input.label);
+        assert!(ours == theirs, "{}: {}", self.name, input.label);
     }
 }

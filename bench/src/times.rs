@@ -1,6 +1,7 @@
 //! Times of the stages.
 
 use crate::inputs::Input;
+use crate::report::{self, Row};
 use crate::stages::{Buffers, Call, STAGES};
 use std::hint::black_box;
 use std::time::Instant;
@@ -21,7 +22,7 @@ fn least(calls: [Call; 2], input: &Input, buffers: &mut Buffers) -> [f64; 2] {
         count *= 2;
     }
     let mut best = [f64::MAX; 2];
-    for _ in 0..60 {
+    for _ in 0..80 {
         for (call, best) in calls.iter().zip(&mut best) {
             *best = best.min(time(*call, input, buffers, count) / count as f64);
         }
@@ -29,15 +30,16 @@ fn least(calls: [Call; 2], input: &Input, buffers: &mut Buffers) -> [f64; 2] {
     best
 }
 
-/// A line for each stage and input.
+/// Compares and times each stage on each of its inputs.
 pub fn print() {
-    println!("stage    states targets classes words   library ns     plain ns ratio");
+    let mut rows = Vec::new();
     for stage in &STAGES {
         let mut buffers = Buffers::new();
-        for input in &stage.inputs() {
-            stage.compare(input);
-            let [ours, theirs] = least([stage.library, stage.plain], input, &mut buffers);
-            println!("{:8} {} {ours:12.0} {theirs:12.0} {:5.2}", stage.name, input.sizes(), ours / theirs);
+        for input in stage.inputs() {
+            stage.compare(&input);
+            let [library, plain] = least([stage.library, stage.plain], &input, &mut buffers);
+            rows.push(Row { stage: stage.name, label: input.label, library, plain });
         }
     }
+    report::print(&rows, "ns");
 }
