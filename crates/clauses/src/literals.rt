@@ -2,6 +2,7 @@
 ghost use mathlib.Core.Path.{_≡_};
 ghost use mathlib.Core.List.{[]};
 ghost use Prim.Native.Nat.{_<_, _≤_};
+ghost use lib.ListN.{length, take};
 ghost use Rattle.lists.specs.Lists.{mem};
 ghost use Rattle.clauses.specs.Clauses.{together, apart, opposite};
 ghost use Rattle.clauses.specs.Emit.{literalsOf, withLiteral, Holds};
@@ -43,14 +44,14 @@ pub fn no_literals() -> Literals
     }
 }
 
-pub(crate) fn contains(c: Literals, l: u16) -> bool
-    requires { ⌜ c .n ≤ 32 ⌝ }
-    ensures { λ r. ⌜ r ≡ mem l (literalsOf c) ⌝ }
+// Whether a literal is among the first n words.
+pub(crate) fn contains(words: &[u16; 32], n: usize, l: u16) -> bool
+    requires { ⌜ (n ≤ 32) × (length (now words) ≡ 32) ⌝ }
+    ensures { λ r. ⌜ r ≡ mem l (take n (now (words .entry))) ⌝ }
 {
-    let n = c.n;
     let mut i: usize = 0;
     'literals: while i < n {
-        if c.words[i] == l {
+        if words[i] == l {
             return true;
         }
         i += 1;
@@ -58,17 +59,24 @@ pub(crate) fn contains(c: Literals, l: u16) -> bool
     false
 }
 
-// "A repeated literal is written once, at its first place."
+// "A repeated literal is written once, at its first place": one literal more behind the first n words, and how many there are then.
+pub(crate) fn add_literal(words: &mut [u16; 32], n: usize, l: u16) -> usize
+    requires { ⌜ (n < 32) × (length (now words) ≡ 32) ⌝ }
+    ensures { λ r. ⌜ Holds (record { words = now (words .exit); n = r }) (withLiteral (take n (now (words .entry))) l) × (length (now (words .exit)) ≡ 32) ⌝ }
+{
+    if contains(words, n, l) {
+        return n;
+    }
+    words[n] = l;
+    n + 1
+}
+
+// The same of a clause.
 pub(crate) fn with_literal(c: Literals, l: u16) -> Literals
     requires { ⌜ c .n < 32 ⌝ }
     ensures { λ r. ⌜ Holds r (withLiteral (literalsOf c) l) ⌝ }
 {
-    if contains(c, l) {
-        return c;
-    }
-    let n = c.n;
-    let mut next = c;
-    next.words[n] = l;
-    next.n = n + 1;
-    next
+    let mut words = c.words;
+    let n = add_literal(&mut words, c.n, l);
+    Literals { words, n }
 }

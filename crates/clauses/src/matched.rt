@@ -8,6 +8,7 @@ ghost use Rattle.clauses.specs.Emit.{literalsOf, withAll, Holds, matchin
 use super::emit::Tally;
 use super::emit::put;
 use super::literals::Literals;
+use super::literals::add_literal;
 use super::literals::contains;
 use super::literals::joined;
 use super::literals::opposed;
@@ -37,7 +38,8 @@ pub(crate) fn matched(
     requires { ⌜ (0 < width) × (premises .n + length (records width (now found)) ≤ 32) × Ordered tally ⌝ }
     ensures { λ r. ⌜ state r (now (list .exit)) ≡ emit (matchingFrom (literalsOf premises) target (lastBytes width (now (found .entry)))) (state tally (now (list .entry))) ⌝ }
 {
-    let mut clause = premises;
+    let mut words = premises.words;
+    let mut n = premises.n;
     let mut at: usize = 0;
     'targets: while width <= found.len() - at {
         let next = at + width;
@@ -47,11 +49,11 @@ pub(crate) fn matched(
         }
         let l = joined(target, q);
         let other = opposed(l);
-        if contains(clause, other) {
+        if contains(&words, n, other) {
             return tally;
         }
-        clause = with_literal(clause, l);
+        n = add_literal(&mut words, n, l);
         at = next;
     }
-    put(clause, tally, list)
+    put(Literals { words, n }, tally, list)
 }

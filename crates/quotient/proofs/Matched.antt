@@ -1,19 +1,20 @@
 -- The conditions of the check, record by record and state by state: a law for each way through a loop's turn. Assumes nothing.
 use mathlib.Core.Path.{_≡_, refl, sym, ap, _∙_}
-use mathlib.Core.Bool.{Bool, true, false, _&&_, _||_, not}
+use mathlib.Core.Bool.{Bool, true, false, _&&_, _||_, not, true≢false}
 use mathlib.Core.List.{List, [], _∷_}
 use Prim.Native.Nat.{ℕ, _+_, _-_, _*_, _/_, _<_, _≤_}
 use native.Mathlib.Omega.{arith}
 use lib.ListN.{length, getD, drop}
 use lib.Seq.{getD-take, getD-drop}
 use borrow.Author.Tests.{ltb-true}
-use Rattle.lists.specs.Lists.{any}
+use Rattle.lists.specs.Lists.{any, all, upto}
 use Rattle.lists.specs.Bits.{has}
-use Rattle.lists.proofs.Members.{and-true}
+use Rattle.lists.proofs.Members.{and-true, gives-of, all-of}
 use Rattle.table.specs.File.{records}
 use Rattle.table.specs.Reading.{ascend}
 use Rattle.table.specs.Language.{targets}
-use Rattle.table.specs.Maps.{joins}
+use Rattle.table.specs.Maps.{classOf, joins}
+use lib.Dec.{eqb}
 use Rattle.maps.specs.Check.{moveMatched, returnMatched}
 
 -- ---- a test that only counts where another holds
@@ -29,34 +30,51 @@ broken p q = rw (p, q)
 
 -- ---- a record and a state
 
-module _ (rs : List (List ℕ)) (m : List ℕ) (p a p' q : ℕ) {x : ℕ} (d : x ≡ p) where
-  pub move-apart : joins m x q ≡ false → true ≡ moveMatched rs m p a p' q
-  unfolding moveMatched
-  move-apart j = sym (spared _ (ap (λ z. joins m z q) (sym d) ∙ j))
+-- the members of a state's class are joined to it
+pub by-class : (m : List ℕ) (p q : ℕ) {class : ℕ} {b v : Bool} → class ≡ classOf m p → b ≡ eqb class (classOf m q) → b ≡ v → joins m p q ≡ v
+unfolding joins
+by-class m p q e g k = ap (λ z. eqb z (classOf m q)) (sym e) ∙ sym g ∙ k
 
-  pub move-by : {y : ℕ} → y ≡ p' → joins m x q ≡ true → any (joins m y) (targets rs (q ∷ a ∷ [])) ≡ moveMatched rs m p a p' q
+module _ (rs : List (List ℕ)) (m : List ℕ) (p a p' q : ℕ) where
+  pub move-apart : joins m p q ≡ false → true ≡ moveMatched rs m p a p' q
   unfolding moveMatched
-  move-by e j = ap (λ z. any (joins m z) (targets rs (q ∷ a ∷ []))) e ∙ rw (ap (λ z. joins m z q) (sym d) ∙ j)
+  move-apart j = sym (spared _ j)
 
-module _ (f : List ℕ) (rs : List (List ℕ)) (m : List ℕ) (p a s p' q u : ℕ) {x y : ℕ} (d : x ≡ p) (e : y ≡ s) where
-  parts : returnMatched f rs m p a s p' q u ≡ (not (joins m x q && joins m y u && has f x y && has f q u) || any (joins m p') (targets rs (q ∷ a ∷ u ∷ [])))
+  pub move-by : {y : ℕ} → y ≡ p' → joins m p q ≡ true → any (joins m y) (targets rs (q ∷ a ∷ [])) ≡ moveMatched rs m p a p' q
+  unfolding moveMatched
+  move-by e j = ap (λ z. any (joins m z) (targets rs (q ∷ a ∷ []))) e ∙ rw j
+
+module _ (f : List ℕ) (rs : List (List ℕ)) (m : List ℕ) (p a s p' q u : ℕ) where
+  return-apart : joins m p q ≡ false → returnMatched f rs m p a s p' q u ≡ true
   unfolding returnMatched
-  parts = λ i. not (joins m (sym d i) q && joins m (sym e i) u && has f (sym d i) (sym e i) && has f q u) || any (joins m p') (targets rs (q ∷ a ∷ u ∷ []))
+  return-apart j = rw j
 
-  pub return-apart : joins m x q ≡ false → true ≡ returnMatched f rs m p a s p' q u
-  return-apart j = sym (parts ∙ rw j)
+  return-dead : has f p s ≡ false → returnMatched f rs m p a s p' q u ≡ true
+  unfolding returnMatched
+  return-dead h = gives-of (joins m p q && joins m s u && has f p s && has f q u) _ (λ t. absurd (true≢false (sym (lives t) ∙ h)))
+    where
+      lives : (joins m p q && joins m s u && has f p s && has f q u) ≡ true → has f p s ≡ true
+      lives t = and-true (joins m p q && joins m s u) (has f p s) (and-true _ (has f q u) t .0) .1
 
-  module _ (j : joins m x q ≡ true) where
-    pub stack-apart : joins m y u ≡ false → true ≡ returnMatched f rs m p a s p' q u
-    stack-apart k = sym (parts ∙ rw (j, k))
+  module _ (h : has f p s ≡ true) (j : joins m p q ≡ true) where
+    pub stack-apart : joins m s u ≡ false → true ≡ returnMatched f rs m p a s p' q u
+    unfolding returnMatched
+    stack-apart k = rw (j, k)
 
-    module _ (k : joins m y u ≡ true) where
-      pub return-dead : has f x y ≡ false → true ≡ returnMatched f rs m p a s p' q u
-      return-dead h = sym (parts ∙ rw (j, k, h))
+    module _ (k : joins m s u ≡ true) where
+      pub not-under : has f q u ≡ false → true ≡ returnMatched f rs m p a s p' q u
+      unfolding returnMatched
+      not-under t = rw (j, k, h, t)
 
-      module _ (h : has f x y ≡ true) where
-        pub not-under : has f q u ≡ false → true ≡ returnMatched f rs m p a s p' q u
-        not-under t = sym (parts ∙ rw (j, k, h, t))
+      pub return-by : {z : ℕ} → has f q u ≡ true → z ≡ p' → any (joins m z) (targets rs (q ∷ a ∷ u ∷ [])) ≡ returnMatched f rs m p a s p' q u
+      unfolding returnMatched
+      return-by t g = ap (λ z. any (joins m z) (targets rs (q ∷ a ∷ u ∷ []))) g ∙ rw (j, k, h, t)
 
-        pub return-by : {z : ℕ} → has f q u ≡ true → z ≡ p' → any (joins m z) (targets rs (q ∷ a ∷ u ∷ [])) ≡ returnMatched f rs m p a s p' q u
-        return-by t g = ap (λ z. any (joins m z) (targets rs (q ∷ a ∷ u ∷ []))) g ∙ sym (parts ∙ rw (j, k, h, t))
+-- ---- a return and every state
+
+module _ (f : List ℕ) (rs : List (List ℕ)) (n : ℕ) (m : List ℕ) (p a s p' : ℕ) where
+  pub met-apart : (q : ℕ) → joins m p q ≡ false → true ≡ all (returnMatched f rs m p a s p' q) (upto n)
+  met-apart q j = sym (all-of _ (upto n) (λ u k. return-apart f rs m p a s p' q u j))
+
+  pub met-dead : {x y : ℕ} → x ≡ p → y ≡ s → has f x y ≡ false → true ≡ all (λ q. all (returnMatched f rs m p a s p' q) (upto n)) (upto n)
+  met-dead d e h = sym (all-of _ (upto n) (λ q k. all-of _ (upto n) (λ u l. return-dead f rs m p a s p' q u ((λ i. has f (sym d i) (sym e i)) ∙ h))))

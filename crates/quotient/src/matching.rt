@@ -3,11 +3,13 @@ ghost use mathlib.Core.Path.{_≡_};
 ghost use mathlib.Core.Bool.{true};
 ghost use Prim.Native.Nat.{_+_, _<_, _≤_};
 ghost use lib.ListN.{length, getD};
+ghost use lib.Dec.{eqb};
 ghost use Rattle.lists.specs.Lists.{any};
+ghost use Rattle.lists.specs.Bits.{has};
 ghost use Rattle.table.specs.File.{records};
 ghost use Rattle.table.specs.Reading.{ascend};
 ghost use Rattle.table.specs.Language.{targets};
-ghost use Rattle.table.specs.Maps.{joins};
+ghost use Rattle.table.specs.Maps.{classOf, joins};
 ghost use Rattle.maps.specs.Check.{looksAgree, moveMatched, movesMatched, returnMatched, returnsMatched};
 ghost use Rattle.quotient.specs.Sections.{ofStates, agreesAt, moveMet, returnMetAt, returnMet};
 use super::images::class_of;
@@ -19,6 +21,13 @@ fn joined(map: &[u8], p: usize, q: usize) -> bool
     ensures { λ r. ⌜ r ≡ joins (now (map .entry)) p q ⌝ }
 {
     class_of(map, p) == class_of(map, q)
+}
+
+// The same of a class and a state.
+fn is_in(map: &[u8], class: u8, q: usize) -> bool
+    ensures { λ r. ⌜ r ≡ eqb class (classOf (now (map .entry)) q) ⌝ }
+{
+    class == class_of(map, q)
 }
 
 // (i) for one state: those joined to it agree with it.
@@ -69,12 +78,12 @@ fn reaches(section: &[u8], width: usize, key: &[u8], map: &[u8], target: usize) 
     false
 }
 
-// (ii) and (iii) for a record (p, a, p') and a state q.
-fn move_matched(section: &[u8], map: &[u8], fields: &[u8], q: usize) -> bool
-    requires { ⌜ (ascend (records 3 (now section)) ≡ true) × (length (now fields) ≡ 3) × (q < 256) ⌝ }
+// (ii) and (iii) for a record (p, a, p') and a state q, by the class of p.
+fn move_matched(section: &[u8], map: &[u8], fields: &[u8], class: u8, q: usize) -> bool
+    requires { ⌜ (ascend (records 3 (now section)) ≡ true) × (length (now fields) ≡ 3) × (q < 256) × (class ≡ classOf (now map) (getD (now fields) 0 0)) ⌝ }
     ensures { λ r. ⌜ r ≡ moveMatched (records 3 (now (section .entry))) (now (map .entry)) (getD (now (fields .entry)) 0 0) (getD (now (fields .entry)) 1 0) (getD (now (fields .entry)) 2 0) q ⌝ }
 {
-    if !joined(map, wide(fields[0]), q) {
+    if !is_in(map, class, q) {
         return true;
     }
     let key = [q as u8, fields[1]];
@@ -86,9 +95,10 @@ fn move_met(section: &[u8], map: &[u8], fields: &[u8], n: usize) -> bool
     requires { ⌜ (ascend (records 3 (now section)) ≡ true) × (length (now fields) ≡ 3) × (n ≤ 256) ⌝ }
     ensures { λ r. ⌜ r ≡ moveMet (records 3 (now (section .entry))) n (now (map .entry)) (now (fields .entry)) ⌝ }
 {
+    let class = class_of(map, wide(fields[0]));
     let mut q = 0;
     'states: while q < n {
-        if !move_matched(section, map, fields, q) {
+        if !move_matched(section, map, fields, class, q) {
             return false;
         }
         q += 1;
@@ -112,27 +122,21 @@ pub(crate) fn moves_matched(section: &[u8], n: usize, map: &[u8]) -> bool
     true
 }
 
-// (iv) for a record (p, r, s, p'), a state q and a stack state u.
+// (iv) for a live record (p, r, s, p'), a state q that is joined to p, and a stack state u, by the class of s.
 fn return_matched(
     section: &[u8],
     words: &[u32],
     map: &[u8],
     fields: &[u8],
+    under: u8,
     q: usize,
     u: usize,
 ) -> bool
-    requires { ⌜ (ascend (records 4 (now section)) ≡ true) × (length (now fields) ≡ 4) × (q < 256) × (u < 256) ⌝ }
+    requires { ⌜ (ascend (records 4 (now section)) ≡ true) × (length (now fields) ≡ 4) × (q < 256) × (u < 256) × (under ≡ classOf (now map) (getD (now fields) 2 0)) ⌝ }
+    requires { ⌜ (has (now words) (getD (now fields) 0 0) (getD (now fields) 2 0) ≡ true) × (joins (now map) (getD (now fields) 0 0) q ≡ true) ⌝ }
     ensures { λ r. ⌜ r ≡ returnMatched (now (words .entry)) (records 4 (now (section .entry))) (now (map .entry)) (getD (now (fields .entry)) 0 0) (getD (now (fields .entry)) 1 0) (getD (now (fields .entry)) 2 0) (getD (now (fields .entry)) 3 0) q u ⌝ }
 {
-    let p = wide(fields[0]);
-    let s = wide(fields[2]);
-    if !joined(map, p, q) {
-        return true;
-    }
-    if !joined(map, s, u) {
-        return true;
-    }
-    if !has_top(words, p, s) {
+    if !is_in(map, under, u) {
         return true;
     }
     if !has_top(words, q, u) {
@@ -142,21 +146,27 @@ fn return_matched(
     reaches(section, 4, &key, map, wide(fields[3]))
 }
 
-// .. and every stack state
+// .. and every stack state: a state that is not joined to p, by its class, has nothing to match.
 fn return_met_at(
     section: &[u8],
     words: &[u32],
     map: &[u8],
     fields: &[u8],
     n: usize,
+    class: u8,
     q: usize,
 ) -> bool
-    requires { ⌜ (ascend (records 4 (now section)) ≡ true) × (length (now fields) ≡ 4) × (n ≤ 256) × (q < 256) ⌝ }
+    requires { ⌜ (ascend (records 4 (now section)) ≡ true) × (length (now fields) ≡ 4) × (n ≤ 256) × (q < 256) × (class ≡ classOf (now map) (getD (now fields) 0 0)) ⌝ }
+    requires { ⌜ has (now words) (getD (now fields) 0 0) (getD (now fields) 2 0) ≡ true ⌝ }
     ensures { λ r. ⌜ r ≡ returnMetAt (now (words .entry)) (records 4 (now (section .entry))) n (now (map .entry)) (now (fields .entry)) q ⌝ }
 {
+    if !is_in(map, class, q) {
+        return true;
+    }
+    let under = class_of(map, wide(fields[2]));
     let mut u: usize = 0;
     'states: while u < n {
-        if !return_matched(section, words, map, fields, q, u) {
+        if !return_matched(section, words, map, fields, under, q, u) {
             return false;
         }
         u += 1;
@@ -164,14 +174,19 @@ fn return_met_at(
     true
 }
 
-// .. and every state.
+// .. and every state: a dead return asks nothing.
 fn return_met(section: &[u8], words: &[u32], map: &[u8], fields: &[u8], n: usize) -> bool
     requires { ⌜ (ascend (records 4 (now section)) ≡ true) × (length (now fields) ≡ 4) × (n ≤ 256) ⌝ }
     ensures { λ r. ⌜ r ≡ returnMet (now (words .entry)) (records 4 (now (section .entry))) n (now (map .entry)) (now (fields .entry)) ⌝ }
 {
+    let p = wide(fields[0]);
+    if !has_top(words, p, wide(fields[2])) {
+        return true;
+    }
+    let class = class_of(map, p);
     let mut q: usize = 0;
     'states: while q < n {
-        if !return_met_at(section, words, map, fields, n, q) {
+        if !return_met_at(section, words, map, fields, n, class, q) {
             return false;
         }
         q += 1;

@@ -9,43 +9,32 @@ use Rattle.clauses.proofs.literals.contains.Statement.{statement}
 use Rattle.clauses.proofs.literals.contains.Tie as tie
 
 abbrev Inv-literals : tie.InvT-literals
-Inv-literals l c n i₀ i = Seeking l (c .words) n i
+Inv-literals words n l i₀ i = Seeking l words n i
 
 abbrev μ-literals : tie.MeasureT-literals
-μ-literals l c n i₀ i = n - i
+μ-literals words n l i₀ i = n - i
 
--- src/literals.rt:52:5
 literals-holds : tie.Need-literals-holds Inv-literals μ-literals
-literals-holds c =
-    let e : length (c .args .t1 .words) ≡ 32 = whole (c .args .t1 .words) (c .good .0 .1 .1 .0 .1 .0 .1) in
-    let k : c .args .t1 .n ≤ length (c .args .t1 .words) = omega (arith, c .pre) in
-    seeking _ _ _ k
+literals-holds c = seeking _ _ _ (omega arith)
 
--- src/literals.rt:53:12
 mul-if1 : tie.Need-mul-if1 Inv-literals μ-literals
 mul-if1 c = search needs
 
--- src/literals.rt:53:12
 element-copy-out-if1 : tie.Need-element-copy-out-if1 Inv-literals μ-literals
 element-copy-out-if1 c = search needs
 
--- src/literals.rt:54:13
 returns : tie.Need-returns Inv-literals μ-literals
 returns c = sought (c .before .before .before .literals .inv) (c .before .before .literals-test .taken) (c .if1 .taken)
 
--- src/literals.rt:56:9
 add-i : tie.Need-add-i Inv-literals μ-literals
 add-i c = search needs
 
--- src/literals.rt:52:5
 literals-less : tie.Need-literals-less Inv-literals μ-literals
 literals-less c = search needs
 
--- src/literals.rt:52:5
 literals-again : tie.Need-literals-again Inv-literals μ-literals
 literals-again c = seek-on (c .before .before .before .literals .inv) (c .before .before .literals-test .taken) (c .if1 .left)
 
--- src/literals.rt:46:1
 returns-2 : tie.Need-returns-2 Inv-literals μ-literals
 returns-2 c = unseen (c .before .literals .inv) (c .literals-test .left)
 

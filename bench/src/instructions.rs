@@ -1,0 +1,60 @@
+//! Instructions of the stages, counted by callgrind: unlike times they do not depend on what else runs.
+
+use crate::inputs::Input;
+use crate::report::{self, Row};
+use crate::stages::{Buffers, Call, Stage, STAGES};
+use std::hint::black_box;
+use std::path::Path;
+use std::process::Command;
+
+/// The call that callgrind counts.
+#[inline(never)]
+fn counted(call: Call, input: &Input, buffers: &mut Buffers) -> u8 {
+    call(black_box(input), buffers)
+}
+
+/// Runs a stage once over all its inputs, by the library or in plain Rust.
+pub fn one(name: &str, side: &str) {
+    let stage = STAGES.iter().find(|s| s.name == name).expect("a stage");
+    let call = match side {
+        "library" => stage.library,
+        "plain" => stage.plain,
+        _ => panic!("library or plain"),
+    };
+    let mut buffers = Buffers::new();
+    for input in &stage.inputs() {
+        black_box(counted(call, input, &mut buffers));
+    }
+}
+
+/// The instructions of a stage for each of its inputs: callgrind writes a file at the end of each call.
+fn count(stage: &Stage, side: &str, inputs: usize, folder: &Path) -> Vec<f64> {
+    let out = folder.join(format!("{}.{side}", stage.name));
+    let status = Command::new("valgrind")
+        .args(["--quiet", "--tool=callgrind", "--toggle-collect=*::counted", "--dump-after=*::counted"])
+        .arg(format!("--callgrind-out-file={}", out.display()))
+        .arg(std::env::current_exe().expect("this program's path"))
+        .args(["one", stage.name, side])
+        .status();
+    assert!(status.expect("valgrind is there").success());
+    let total = |i: usize| {
+        let file = std::fs::read_to_string(format!("{}.{i}", out.display())).expect("callgrind's file");
+        let line = file.lines().find_map(|l| l.strip_prefix("totals: ")).expect("a line of totals");
+        line.parse().expect("a number")
+    };
+    (1..=inputs).map(total).collect()
+}
+
+/// Counts each stage on each of its inputs; callgrind's files go to a folder.
+pub fn print(folder: &str) {
+    std::fs::create_dir_all(folder).expect("a folder for callgrind's files");
+    let mut rows = Vec::new();
+    for stage in &STAGES {
+        let inputs = stage.inputs();
+        let [ours, theirs] = ["library", "plain"].map(|side| count(stage, side, inputs.len(), Path::new(folder)));
+        for ((input, library), plain) in inputs.into_iter().zip(ours).zip(theirs) {
+            rows.push(Row { stage: stage.name, label: input.label, library, plain });
+        }
+    }
+    report::print(&rows, "Ir");
+}

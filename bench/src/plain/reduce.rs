@@ -1,0 +1,40 @@
+//! Reducing a table: it is read once, and its tops are worked out once.
+
+use super::clauses::list_of;
+use super::quotient::quotient_read;
+use super::search::solve;
+use super::table::parse;
+use super::tops::words_of;
+
+/// The map of an assignment: each state gets the class of the lowest state that is joined to it, or a new one.
+fn map_of(values: &[u8], n: usize) -> [u8; 24] {
+    let mut map = [0; 24];
+    let mut next = 0;
+    for q in 0..n {
+        let first = q * q.saturating_sub(1) / 2;
+        match values[first..first + q].iter().position(|&x| x == 1) {
+            Some(p) => map[q] = map[p],
+            None => {
+                map[q] = next;
+                next += 1;
+            }
+        }
+    }
+    map
+}
+
+/// Classes, guesses, clause words, quotient length; the list, the map and the quotient.
+pub fn reduce(bytes: &[u8], budget: u64, list: &mut [u16], map: &mut [u8], out: &mut [u8]) -> Result<[u64; 4], u8> {
+    let (t, _) = parse(bytes)?;
+    let n = t.count();
+    if map.len() < n {
+        return Err(22);
+    }
+    let tops = words_of(&t);
+    let (_, words) = list_of(&t, &tops, list)?;
+    let (values, guesses) = solve(&list[..words], n * (n - 1) / 2, budget)?;
+    let found = map_of(&values, n);
+    let (classes, length) = quotient_read(&t, &tops, &found[..n], out)?;
+    map[..n].copy_from_slice(&found[..n]);
+    Ok([classes as u64, guesses, words as u64, length as u64])
+}

@@ -1,0 +1,90 @@
+//! The seven operations, each by the library and in plain Rust, on an input.
+
+use crate::inputs::{inputs, pigeons, Input, BUDGET, WORDS};
+use crate::{capi, plain};
+
+/// What an operation writes to, and the values of its answer.
+#[derive(Clone, PartialEq, Debug)]
+pub struct Buffers {
+    pub list: Vec<u16>,
+    pub answer: Vec<u8>,
+    pub map: Vec<u8>,
+    pub out: Vec<u8>,
+    pub values: [u64; 25],
+}
+
+impl Buffers {
+    /// Buffers of the program's sizes.
+    pub fn new() -> Self {
+        Buffers { list: vec![7; WORDS], answer: vec![7; 276], map: vec![7; 24], out: vec![7; 22_596], values: [7; 25] }
+    }
+
+    /// Keeps an answer's values; the refusal's number or 0.
+    fn keep<const K: usize>(&mut self, answer: Result<[u64; K], u8>) -> u8 {
+        match answer {
+            Err(number) => number,
+            Ok(values) => {
+                self.values[..K].copy_from_slice(&values);
+                0
+            }
+        }
+    }
+}
+
+/// An operation on an input: the refusal's number or 0.
+pub type Call = fn(&Input, &mut Buffers) -> u8;
+
+/// An operation both ways.
+pub struct Stage {
+    pub name: &'static str,
+    pub library: Call,
+    pub plain: Call,
+}
+
+/// A stage whose two calls differ in the module only.
+macro_rules! stage {
+    ($name:ident, |$i:ident, $b:ident| $($argument:expr),+) => {
+        Stage {
+            name: stringify!($name),
+            library: |$i, $b| {
+                let answer = capi::$name($($argument),+);
+                $b.keep(answer)
+            },
+            plain: |$i, $b| {
+                let answer = plain::$name($($argument),+);
+                $b.keep(answer)
+            },
+        }
+    };
+}
+
+/// The seven of them.
+pub const STAGES: [Stage; 7] = [
+    stage!(read, |i, b| &i.table),
+    stage!(tops, |i, b| &i.table),
+    stage!(clauses, |i, b| &i.table, &mut b.list),
+    stage!(search, |i, b| &i.list, i.variables, BUDGET, &mut b.answer),
+    stage!(check, |i, b| &i.table, &i.map),
+    stage!(quotient, |i, b| &i.table, &i.map, &mut b.out),
+    stage!(reduce, |i, b| &i.table, BUDGET, &mut b.list, &mut b.map, &mut b.out),
+];
+
+impl Stage {
+    /// The inputs of the stage.
+    pub fn inputs(&self) -> Vec<Input> {
+        let mut all = inputs();
+        if self.name == "search" {
+            all.push(pigeons(7));
+        }
+        all
+    }
+
+    /// Stops the program where library and plain Rust differ on an input, in the answer or in a buffer.
+    pub fn compare(&self, input: &Input) {
+        let mut ours = Buffers::new();
+        let mut theirs = Buffers::new();
+        let numbers = ((self.library)(input, &mut ours), (self.plain)(input, &mut theirs));
+        assert_eq!(numbers, (0, 0), "{}: {}", self.name, input.label);
+        assert!(ours == theirs, "{}: {}", self.name, input.label);
+    }
+}
