@@ -104,6 +104,16 @@ pub fn pigeons(holes: usize) -> Input {
     }
     let variables = 1 + holes * (holes + 1);
     let [guesses] = capi::search(&list, variables, BUDGET, &mut vec![0; variables]).expect("the search ends");
-    let label = format!("{:6} {:>7} {:7} {:5} {:5} {guesses:7}", "-", "-", "-", "-", list.len());
+    alone(list, variables, guesses)
+}
+
+/// A list without clauses: what a process takes that has nothing to solve.
+pub fn nothing() -> Input {
+    alone(Vec::new(), 0, 0)
+}
+
+/// An input of a list alone.
+fn alone(list: Vec<u16>, variables: usize, guesses: u64) -> Input {
+    let label = format!("{:>6} {:>7} {:>7} {:>5} {:5} {guesses:7}", "-", "-", "-", "-", list.len());
     Input { label, table: Vec::new(), list, variables, map: Vec::new(), classes: 0 }
 }

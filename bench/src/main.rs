@@ -1,13 +1,20 @@
 //! The proved library against plain Rust on the same inputs in one run.
-//!   basilvault-bench            times: the least of many rounds, the library's over plain Rust's
-//!   basilvault-bench seeds      how the inputs' seeds were found
+//!   basilvault-bench                        times: the least of many rounds, the library's over plain Rust's
+//!   basilvault-bench compare CASES          the answers and the buffers of both on random cases
+//!   basilvault-bench instructions FOLDER    instructions by callgrind, whose files go to the folder
+//!   basilvault-bench one STAGE SIDE         a stage once over all its inputs, by the `library` or in `plain` Rust
+//!   basilvault-bench processes FOLDER       the search as a process against minisat, on files in the folder
+//!   basilvault-bench seeds                  how the inputs' seeds were found
 
 #[path = "../../tests/src/capi.rs"]
 #[allow(dead_code)]
 mod capi;
+mod compare;
+mod dimacs;
 mod inputs;
 mod instructions;
 mod plain;
+mod processes;
 #[path = "../../tests/src/random.rs"]
 #[allow(dead_code)]
 mod random;
@@ -24,8 +31,10 @@ fn main() {
     let words: Vec<&str> = arguments.iter().map(String::as_str).collect();
     match words[..] {
         [] => times::print(),
+        ["compare", cases] => compare::compare(cases.parse().expect("a number of cases")),
         ["instructions", folder] => instructions::print(folder),
         ["one", stage, side] => instructions::one(stage, side),
+        ["processes", folder] => processes::print(folder),
         ["seeds"] => inputs::find(),
         _ => panic!("unknown arguments: {arguments:?}"),
     }

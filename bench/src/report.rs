@@ -25,22 +25,33 @@ fn lines(rows: &[Row], unit: &str) {
     }
 }
 
+/// Each of them once, in their order.
+fn once<'a>(all: impl Iterator<Item = &'a str>) -> Vec<&'a str> {
+    let mut seen = Vec::new();
+    all.for_each(|x| if !seen.contains(&x) { seen.push(x) });
+    seen
+}
+
+/// A line of a table.
+fn cells<'a>(words: impl Iterator<Item = &'a str>) {
+    println!("| {} |", words.collect::<Vec<_>>().join(" | "));
+}
+
 /// The ratios, a line for each input and a column for each stage, then the greatest of each stage.
 fn ratios(rows: &[Row], unit: &str) {
-    let mut stages: Vec<&str> = rows.iter().map(|row| row.stage).collect();
-    stages.dedup();
-    let mut labels: Vec<&String> = Vec::new();
-    rows.iter().for_each(|row| if !labels.contains(&&row.label) { labels.push(&row.label) });
-    println!("\nratios of {unit}\n\n| {} | {} |", LABELS.replace(' ', " | "), stages.join(" | "));
-    println!("{}|", "|---".repeat(LABELS.split(' ').count() + stages.len()));
-    for label in labels {
-        let ratio = |stage: &&str| rows.iter().find(|row| row.stage == *stage && row.label == *label).map_or(String::new(), |row| format!("{:.2}", row.ratio()));
-        let sizes: Vec<&str> = label.split_whitespace().collect();
-        println!("| {} | {} |", sizes.join(" | "), stages.iter().map(ratio).collect::<Vec<_>>().join(" | "));
+    let stages = once(rows.iter().map(|row| row.stage));
+    println!("\nratios of {unit}\n");
+    cells(LABELS.split(' ').chain(stages.iter().copied()));
+    cells(LABELS.split(' ').chain(stages.iter().copied()).map(|_| "---"));
+    for label in once(rows.iter().map(|row| row.label.as_str())) {
+        let row = |stage: &&str| rows.iter().find(|row| row.stage == *stage && row.label == label);
+        let found: Vec<String> = stages.iter().map(|stage| row(stage).map_or(String::new(), |row| format!("{:.2}", row.ratio()))).collect();
+        cells(label.split_whitespace().chain(found.iter().map(String::as_str)));
     }
     let greatest = |stage: &&str| rows.iter().filter(|row| row.stage == *stage).map(Row::ratio).fold(0.0, f64::max);
     let last: Vec<String> = stages.iter().map(|stage| format!("{:.2}", greatest(stage))).collect();
-    println!("| greatest {}| {} |", "| ".repeat(LABELS.split(' ').count() - 1), last.join(" | "));
+    cells(LABELS.split(' ').enumerate().map(|(i, _)| if i == 0 { "greatest" } else { "" }).chain(last.iter().map(String::as_str)));
+    println!();
 }
 
 /// Both.

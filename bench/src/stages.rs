@@ -59,7 +59,7 @@ macro_rules! stage {
 }
 
 /// The seven of them.
-pub const STAGES: [Stage; 7] = [
+pub static STAGES: [Stage; 7] = [
     stage!(read, |i, b| &i.table),
     stage!(tops, |i, b| &i.table),
     stage!(clauses, |i, b| &i.table, &mut b.list),
