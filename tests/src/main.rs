@@ -279,7 +279,7 @@ fn compare_short_values(t: &Table) {
 
 fn main() {
     let mut args = std::env::args().skip(1);
-    let cases: usize = args.next().map(|x| x.parse().expect("a number of cases")).unwrap_or(60_000);
+    let cases: usize = args.next().map(|x| x.parse().expect("a number of cases")).unwrap_or(40_000);
     let seed: u64 = args.next().map(|x| x.parse().expect("a seed")).unwrap_or_else(|| {
         let now = std::time::SystemTime::now().duration_since(std::time::UNIX_EPOCH).unwrap();
         now.as_secs() ^ u64::from(now.subsec_nanos())
