@@ -6,12 +6,14 @@ use mathlib.Core.List.{List, [], _∷_, _++_, map, map-append, List·Memᴰ, Lis
 use Prim.Native.Nat.{ℕ, suc, _+_, _-_, _/_, _≤_, _<_}
 use native.Mathlib.Numerals.{add-one}
 use native.Mathlib.Omega.{arith}
-use lib.ListN.{length, getD, take, drop, length-drop, drop-of-length-le}
-use lib.Seq.{take-suc, drop-cons, drop-drop, take-all, split-at}
+use native.Mathlib.Decide.{ℕ-discrete}
+use lib.ListN.{length, getD, set, take, drop, replicate, getD-replicate, length-set, length-drop, drop-of-length-le}
+use lib.Seq.{getD-set-same, getD-set-other, take-suc, drop-cons, drop-drop, take-all, split-at}
 use lib.Dec.{eqb, leb}
 use borrow.Author.Tests.{eqb-false, eq-eqb, ne-eqb, le-leb, lt-leb, not-true}
 use Rattle.lists.specs.Lists.{any, all, mem}
-use Rattle.lists.proofs.Members.{and-true, or-false, mem-true, mem-false}
+use Rattle.lists.proofs.Members.{and-true, or-right, or-false, mem-true, mem-false}
+use Rattle.search.specs.Marks.{Below}
 use Rattle.cnf.specs.Clauses.{clausesIn, whole, distinct, clauseFits}
 use Rattle.cnf.proofs.Words.{clauses-nil, clauses-cons, whole-nil, whole-cons, fits-below, fits-distinct, fits-of}
 
@@ -23,29 +25,64 @@ not-so : (t : Bool) → (t ≡ true → ⊥) → t ≡ false
 not-so true h = absurd (h refl)
 not-so false h = refl
 
--- ---- whether a variable stands in a clause
+-- ---- the marks of the variables met in a clause
 
-pub record Looking (ls : List ℕ) (x i : ℕ) : Type 0 where
-  pub inside : i ≤ length ls
-  pub meets : mem x (variablesOf ls) ≡ mem x (variablesOf (drop i ls))
+pub record Marked (ls marks : List ℕ) (mark i : ℕ) : Type 0 where
+  pub below : Below marks (mark + 1)
+  pub met : (x : ℕ) → x < 276 → eqb (getD marks x 0) mark ≡ mem x (variablesOf (take i ls))
 
-pub looking : (ls : List ℕ) (x : ℕ) → Looking ls x 0
-looking ls x = record { inside = omega arith; meets = refl }
+pub marked : (ls : List ℕ) {marks : List ℕ} {mark : ℕ} → Below marks mark → Marked ls marks mark 0
+unfolding mem any
+marked ls {marks} {mark} b = record {
+  below = record { long = b .long; lower = λ x h. omega (arith, b .lower x h) };
+  met = λ x h. ne-eqb (getD marks x 0) mark (λ e. omega (arith, b .lower x h, e));
+}
 
-module _ {ls : List ℕ} {x i : ℕ} (p : Looking ls x i) where
-  at-cons : i < length ls → mem x (variablesOf ls) ≡ (eqb x (getD ls i 0 / 2) || mem x (variablesOf (drop (i + 1) ls)))
-  unfolding mem any
-  at-cons h = p .meets ∙ rw (drop-cons ls i 0 h, add-one)
+pub none-marked : Below (replicate 276 0) 1
+none-marked = record { long = refl; lower = λ x h. omega (arith, getD-replicate {A = ℕ} 276 x 0 0 h) }
 
-  pub look-here : i < length ls → getD ls i 0 / 2 ≡ x → true ≡ mem x (variablesOf ls)
-  look-here h e = sym (at-cons h ∙ rw (eq-eqb x (getD ls i 0 / 2) (sym e)))
+pub lower-still : {marks : List ℕ} {a b : ℕ} → Below marks a → a ≤ b → Below marks b
+lower-still p h = record { long = p .long; lower = λ x k. omega (arith, p .lower x k) }
 
-  pub look-on : i < length ls → (getD ls i 0 / 2 ≡ x → ⊥) → Looking ls x (i + 1)
-  look-on h e = record { inside = omega arith; meets = at-cons h ∙ rw (ne-eqb x (getD ls i 0 / 2) (λ q. e (sym q))) }
+mem-end : (x y : ℕ) (xs : List ℕ) → mem x (xs ++ (y ∷ [])) ≡ (mem x xs || eqb x y)
+unfolding mem any
+mem-end x y [] = go (eqb x y)
+  where
+    go : (t : Bool) → (t || false) ≡ t
+    go true = refl
+    go false = refl
+mem-end x y (z ∷ xs) = go (eqb x z) (mem-end x y xs)
+  where
+    go : (t : Bool) → mem x (xs ++ (y ∷ [])) ≡ (mem x xs || eqb x y) → (t || mem x (xs ++ (y ∷ []))) ≡ ((t || mem x xs) || eqb x y)
+    go true e = refl
+    go false e = e
 
-  pub look-none : length ls ≤ i → false ≡ mem x (variablesOf ls)
-  unfolding mem any
-  look-none h = sym (p .meets ∙ rw (drop-of-length-le ls h))
+pub mark-on : {ls marks : List ℕ} {mark i x : ℕ} → Marked ls marks mark i → i < length ls → x ≡ getD ls i 0 / 2 → x < 276 → Marked ls (set marks x mark) mark (i + 1)
+mark-on {ls} {marks} {mark} {i} {x} p h e k = record {
+  below = record { long = length-set marks x mark ∙ p .below .long; lower = λ y l. omega (arith, lows y l (ℕ-discrete y x)) };
+  met = λ y l. mets y l (ℕ-discrete y x) ∙ sym (ap (mem y) grown ∙ mem-end y x (variablesOf (take i ls)));
+}
+  where
+    more : take (i + 1) ls ≡ take i ls ++ (getD ls i 0 ∷ [])
+    more = rw add-one (take-suc ls i 0 h)
+
+    grown : variablesOf (take (i + 1) ls) ≡ variablesOf (take i ls) ++ (x ∷ [])
+    grown = ap variablesOf more ∙ map-append (λ l. l / 2) (take i ls) (getD ls i 0 ∷ []) ∙ ap (λ z. variablesOf (take i ls) ++ (z ∷ [])) (sym e)
+
+    here : getD (set marks x mark) x 0 ≡ mark
+    here = getD-set-same marks x mark 0 (omega (arith, p .below .long))
+
+    lows : (y : ℕ) → y < 276 → Dec (y ≡ x) → getD (set marks x mark) y 0 ≤ mark
+    lows y l (yes q) = omega (arith, ap (λ z. getD (set marks x mark) z 0) q, here)
+    lows y l (no q) = omega (arith, getD-set-other marks x y mark 0 q, p .below .lower y l)
+
+    mets : (y : ℕ) → y < 276 → Dec (y ≡ x) → eqb (getD (set marks x mark) y 0) mark ≡ (mem y (variablesOf (take i ls)) || eqb y x)
+    mets y l (yes q) = eq-eqb _ _ (ap (λ z. getD (set marks x mark) z 0) q ∙ here) ∙ sym (or-right (mem y (variablesOf (take i ls))) (eq-eqb y x q))
+    mets y l (no q) = ap (λ z. eqb z mark) (getD-set-other marks x y mark 0 q) ∙ p .met y l ∙ sym (rw (ne-eqb y x q) (go (mem y (variablesOf (take i ls)))))
+      where
+        go : (t : Bool) → (t || false) ≡ t
+        go true = refl
+        go false = refl
 
 -- ---- whether a clause fits
 
@@ -112,6 +149,17 @@ module _ {ls : List ℕ} {n i : ℕ} (p : Fitting ls n i) where
 
   pub fit-all : length ls ≤ i → true ≡ clauseFits n ls
   fit-all h = sym (fits-of n ls (rw (take-all i ls h) at (p .below)) (rw (take-all i ls h) at (p .once)))
+
+-- the same by the marks
+module _ {ls marks : List ℕ} {n mark i x : ℕ} (p : Fitting ls n i) (m : Marked ls marks mark i) (most : n ≤ 276) (h : i < length ls) (e : x ≡ getD ls i 0 / 2) where
+  pub mark-past : n ≤ x → false ≡ clauseFits n ls
+  mark-past k = fit-past p h (omega arith)
+
+  pub mark-twice : x < n → getD marks x 0 ≡ mark → false ≡ clauseFits n ls
+  mark-twice k q = fit-twice p h (ap (λ z. mem z (variablesOf (take i ls))) (sym e) ∙ sym (m .met x (omega arith)) ∙ eq-eqb _ _ q)
+
+  pub mark-new : x < n → (getD marks x 0 ≡ mark → ⊥) → Fitting ls n (i + 1)
+  mark-new k q = fit-on p h (omega arith) (ap (λ z. mem z (variablesOf (take i ls))) (sym e) ∙ sym (m .met x (omega arith)) ∙ ne-eqb _ _ q)
 
 -- ---- whether a list fits
 

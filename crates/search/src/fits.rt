@@ -1,10 +1,10 @@
 // Whether a list of clause words fits a number of variables: refusal 11.
 ghost use mathlib.Core.Path.{_≡_};
 ghost use mathlib.Core.Bool.{_&&_};
-ghost use mathlib.Core.List.{map};
-ghost use Prim.Native.Nat.{_/_};
-ghost use Rattle.lists.specs.Lists.{all, mem};
+ghost use Prim.Native.Nat.{_+_, _≤_};
+ghost use Rattle.lists.specs.Lists.{all};
 ghost use Rattle.cnf.specs.Clauses.{clausesIn, whole, clauseFits};
+ghost use Rattle.search.specs.Marks.{Below};
 
 // A word as an index.
 pub fn wide(x: u16) -> usize
@@ -13,42 +13,39 @@ pub fn wide(x: u16) -> usize
     x as usize
 }
 
-// Whether the variable stands in one of the literals.
-fn stands(literals: &[u16], variable: u16) -> bool
-    ensures { λ r. ⌜ r ≡ mem variable (map (λ l. l / 2) (now (literals .entry))) ⌝ }
+// A mark for each variable, none in use.
+fn no_marks() -> [usize; 276]
+    ensures { λ r. ⌜ Below r 1 ⌝ }
 {
-    let mut i: usize = 0;
-    'literals: while i < literals.len() {
-        if literals[i] / 2 == variable {
-            return true;
-        }
-        i += 1;
-    }
-    false
+    [0usize; 276]
 }
 
-// Whether each variable is below the count and stands once.
-fn clause_fits(literals: &[u16], variables: usize) -> bool
-    ensures { λ r. ⌜ r ≡ clauseFits variables (now (literals .entry)) ⌝ }
+// Whether each variable is below the count and stands once: those met in this clause have its mark, all others a lower one.
+fn clause_fits(literals: &[u16], variables: usize, marks: &mut [usize; 276], mark: usize) -> bool
+    requires { ⌜ (variables ≤ 276) × Below (now marks) mark ⌝ }
+    ensures { λ r. ⌜ (r ≡ clauseFits variables (now (literals .entry))) × Below (now (marks .exit)) (mark + 1) ⌝ }
 {
     let mut i: usize = 0;
     'literals: while i < literals.len() {
-        let v = literals[i] / 2;
-        if variables <= wide(v) {
+        let x = wide(literals[i] / 2);
+        if variables <= x {
             return false;
         }
-        if stands(&literals[..i], v) {
+        if marks[x] == mark {
             return false;
         }
+        marks[x] = mark;
         i += 1;
     }
     true
 }
 
-// Whether every clause is all there and fits.
+// Whether every clause is all there and fits. A clause's mark is the place of its first literal.
 pub fn list_fits(list: &[u16], variables: usize) -> bool
+    requires { ⌜ variables ≤ 276 ⌝ }
     ensures { λ r. ⌜ r ≡ (whole (now (list .entry)) && all (clauseFits variables) (clausesIn (now (list .entry)))) ⌝ }
 {
+    let mut marks = no_marks();
     let mut at: usize = 0;
     'clauses: while at < list.len() {
         let k = wide(list[at]);
@@ -57,7 +54,7 @@ pub fn list_fits(list: &[u16], variables: usize) -> bool
             return false;
         }
         let end = at + k;
-        if !clause_fits(&list[at..end], variables) {
+        if !clause_fits(&list[at..end], variables, &mut marks, at) {
             return false;
         }
         at = end;

@@ -1,47 +1,48 @@
--- `search::fits::clause_fits` meets its contract. The loop's invariant: the literals passed have variables below the count, each once.
--- Assumes nothing.
+-- `search::fits::clause_fits` meets its contract. The loop's invariant: the literals passed have variables below the count, each once, and these
+-- variables have the mark. Assumes nothing.
 use borrow.Author.Needs.{needs}
+use native.Mathlib.Omega.{arith}
 use Prim.Native.Nat.{_-_}
 use lib.ListN.{length}
-use lib.Seq.{length-take-le}
-use mathlib.Core.Path.{sym, _∙_}
 use Rattle.search.proofs.Fitting as laws
 use Rattle.search.proofs.fits.clause_fits.Statement.{statement}
 use Rattle.search.proofs.fits.clause_fits.Tie as tie
 
 abbrev Inv-literals : tie.InvT-literals
-Inv-literals literals variables i₀ i = laws.Fitting literals variables i
+Inv-literals literals variables marks₀ mark i₀ marks i = laws.Fitting literals variables i × laws.Marked literals marks mark i
 
 abbrev μ-literals : tie.MeasureT-literals
-μ-literals literals variables i₀ i = length literals - i
+μ-literals literals variables marks₀ mark i₀ marks i = length literals - i
 
 literals-holds : tie.Need-literals-holds Inv-literals μ-literals
-literals-holds c = laws.fitting _ _
+literals-holds c = (laws.fitting _ _, laws.marked _ (c .before .pre .1))
 
-mul-v : tie.Need-mul-v Inv-literals μ-literals
-mul-v c = search needs
+mul-wide : tie.Need-mul-wide Inv-literals μ-literals
+mul-wide c = search needs
 
-shared-slice-read-v : tie.Need-shared-slice-read-v Inv-literals μ-literals
-shared-slice-read-v c = search needs
+shared-slice-read-wide : tie.Need-shared-slice-read-wide Inv-literals μ-literals
+shared-slice-read-wide c = search needs
 
 wide-requires : tie.Need-wide-requires Inv-literals μ-literals
 wide-requires c κs = search needs
 
 returns : tie.Need-returns Inv-literals μ-literals
-returns c =
-    let i = c .before .before .before .before .literals .inv in
-    laws.fit-past i (c .before .before .before .literals-test .taken) (rw (c .before .wide .ensures) at (c .if1 .taken))
+returns c = (let w = c .before .before .before .before .literals .inv in laws.mark-past (w .0) (w .1) (c .before .before .before .before .before .before .pre .0) (c .before .before .before .literals-test .taken) (c .before .wide .ensures) (c .if1 .taken), c .before .before .before .before .literals .inv .1 .below)
 
-slice-aggregate-stands : tie.Need-slice-aggregate-stands Inv-literals μ-literals
-slice-aggregate-stands c = sym (length-take-le _ _ (c .before .before .before .before .before .literals .inv .inside))
+mul-if2 : tie.Need-mul-if2 Inv-literals μ-literals
+mul-if2 c = search needs
 
-stands-requires : tie.Need-stands-requires Inv-literals μ-literals
-stands-requires c κs = search needs
+element-copy-out-if2 : tie.Need-element-copy-out-if2 Inv-literals μ-literals
+element-copy-out-if2 c = omega (arith, c .before .before .before .before .before .before .pre .0, c .if1 .left)
 
 returns-2 : tie.Need-returns-2 Inv-literals μ-literals
-returns-2 c =
-    let i = c .before .before .before .before .before .before .before .literals .inv in
-    laws.fit-twice i (c .before .before .before .before .before .before .literals-test .taken) (sym (c .before .stands .ensures) ∙ c .if2 .taken)
+returns-2 c = (let w = c .before .before .before .before .before .before .literals .inv in laws.mark-twice (w .0) (w .1) (c .before .before .before .before .before .before .before .before .pre .0) (c .before .before .before .before .before .literals-test .taken) (c .before .before .before .wide .ensures) (c .before .before .if1 .left) (c .if2 .taken), c .before .before .before .before .before .before .literals .inv .1 .below)
+
+mul-marks : tie.Need-mul-marks Inv-literals μ-literals
+mul-marks c = search needs
+
+element-write-marks : tie.Need-element-write-marks Inv-literals μ-literals
+element-write-marks c = omega (arith, c .before .before .before .before .before .before .before .before .pre .0, c .before .before .if1 .left)
 
 add-i : tie.Need-add-i Inv-literals μ-literals
 add-i c = search needs
@@ -50,16 +51,10 @@ literals-less : tie.Need-literals-less Inv-literals μ-literals
 literals-less c = search needs
 
 literals-again : tie.Need-literals-again Inv-literals μ-literals
-literals-again c =
-    let i = c .before .before .before .before .before .before .before .literals .inv in
-    laws.fit-on
-    i
-    (c .before .before .before .before .before .before .literals-test .taken)
-    (rw (c .before .before .before .before .wide .ensures) at (c .before .before .before .if1 .left))
-    (sym (c .before .stands .ensures) ∙ c .if2 .left)
+literals-again c = (let w = c .before .before .before .before .before .before .literals .inv in laws.mark-new (w .0) (w .1) (c .before .before .before .before .before .before .before .before .pre .0) (c .before .before .before .before .before .literals-test .taken) (c .before .before .before .wide .ensures) (c .before .before .if1 .left) (c .if2 .left), laws.mark-on (c .before .before .before .before .before .before .literals .inv .1) (c .before .before .before .before .before .literals-test .taken) (c .before .before .before .wide .ensures) (omega (arith, c .before .before .before .before .before .before .before .before .pre .0, c .before .before .if1 .left)))
 
 returns-3 : tie.Need-returns-3 Inv-literals μ-literals
-returns-3 c = laws.fit-all (c .before .literals .inv) (c .literals-test .left)
+returns-3 c = (laws.fit-all (c .before .literals .inv .0) (c .literals-test .left), c .before .literals .inv .1 .below)
 
 pub clause-fits-spec : {M : Type 1} → statement M
 clause-fits-spec =
@@ -68,13 +63,15 @@ clause-fits-spec =
     Inv-literals
     μ-literals
     literals-holds
-    mul-v
-    shared-slice-read-v
+    mul-wide
+    shared-slice-read-wide
     wide-requires
     returns
-    slice-aggregate-stands
-    stands-requires
+    mul-if2
+    element-copy-out-if2
     returns-2
+    mul-marks
+    element-write-marks
     add-i
     literals-less
     literals-again
