@@ -65,39 +65,61 @@ fn model(path: &Path, turned: bool) -> Vec<bool> {
     literals.map(|l| l.parse::<i32>().expect("a literal")).take_while(|&l| l != 0).map(|l| (l > 0) != turned).collect()
 }
 
-/// The least times of the solvers on an input, in turn, for a second or two, and their models.
-fn solve(input: &Input, solvers: &[Solver; 3], folder: &Path) -> [(f64, Vec<bool>); 3] {
-    let files = [0, 1, 2].map(|i| (folder.join(format!("{i}.cnf")), folder.join(format!("{i}.model"))));
-    for (solver, (from, _)) in solvers.iter().zip(&files) {
-        std::fs::write(from, dimacs::write(&input.list, input.variables, solver.turned)).expect("the list is written");
-    }
-    let mut least = [f64::MAX; 3];
-    let start = Instant::now();
-    while start.elapsed().as_millis() < 1500 {
-        for (i, (from, to)) in files.iter().enumerate() {
-            least[i] = least[i].min(solvers[i].time(from, to));
-        }
-    }
-    [0, 1, 2].map(|i| (least[i], model(&files[i].1, solvers[i].turned)))
+/// An input in a file for each solver, and the least times so far.
+struct Task {
+    input: Input,
+    files: [(PathBuf, PathBuf); 3],
+    least: [f64; 3],
 }
 
-/// A line for each input of the search and one for a list without clauses.
+impl Task {
+    /// Writes the files of the i-th input.
+    fn new(i: usize, input: Input, solvers: &[Solver; 3], folder: &Path) -> Self {
+        let files = [0, 1, 2].map(|j| (folder.join(format!("{i}.{j}.cnf")), folder.join(format!("{i}.{j}.model"))));
+        for (solver, (from, _)) in solvers.iter().zip(&files) {
+            std::fs::write(from, dimacs::write(&input.list, input.variables, solver.turned)).expect("the list is written");
+        }
+        Task { input, files, least: [f64::MAX; 3] }
+    }
+
+    /// Every solver once.
+    fn round(&mut self, solvers: &[Solver; 3]) {
+        for (i, (from, to)) in self.files.iter().enumerate() {
+            self.least[i] = self.least[i].min(solvers[i].time(from, to));
+        }
+    }
+
+    /// A line: for each solver the time, how many variables its model has true, and whether that is maximal, as the library's always is.
+    fn print(&self, solvers: &[Solver; 3]) {
+        let mut line: Vec<String> = self.input.label.split_whitespace().map(String::from).collect();
+        for (i, (_, to)) in self.files.iter().enumerate() {
+            let values = model(to, solvers[i].turned);
+            assert!(satisfies(&self.input, &values), "{}", self.input.label);
+            let most = maximal(&self.input, &values);
+            line.extend([format!("{:.0}", self.least[i]), values.iter().filter(|&&x| x).count().to_string()]);
+            match i {
+                0 => assert!(most, "{}", self.input.label),
+                _ => line.push(String::from(if most { "yes" } else { "no" })),
+            }
+        }
+        println!("| {} |", line.join(" | "));
+    }
+}
+
+/// A line for each input of the search and one for a list without clauses, all of them measured again and again.
 pub fn print(folder: &str) {
     let folder = Path::new(folder);
     std::fs::create_dir_all(folder).expect("a folder for the lists");
     let solvers = Solver::all();
     let search = STAGES.iter().find(|stage| stage.name == "search").expect("the search");
+    let mut inputs = search.inputs();
+    inputs.insert(inputs.len() - 1, nothing());
+    let mut tasks: Vec<Task> = inputs.into_iter().enumerate().map(|(i, input)| Task::new(i, input, &solvers, folder)).collect();
+    for _ in 0..80 {
+        tasks.iter_mut().for_each(|task| task.round(&solvers));
+    }
     println!("microseconds of a process, variables true, maximal or not: library; minisat; minisat with signs turned, -no-pre -phase-saving=0\n");
     println!("| {} | library | true | minisat | true | maximal | minisat turned | true | maximal |", LABELS.replace(' ', " | "));
     println!("{} |", "| --- ".repeat(LABELS.split(' ').count() + 8).trim_end());
-    for input in std::iter::once(nothing()).chain(search.inputs()) {
-        let answers = solve(&input, &solvers, folder);
-        assert!(answers.iter().all(|(_, values)| satisfies(&input, values)), "{}", input.label);
-        assert!(maximal(&input, &answers[0].1), "{}", input.label);
-        let joined = |values: &[bool]| values.iter().filter(|&&x| x).count();
-        let word = |values: &[bool]| if maximal(&input, values) { "yes" } else { "no" };
-        let [a, b, c] = answers.each_ref().map(|(micros, values)| format!("{micros:.0} | {}", joined(values)));
-        let sizes: Vec<&str> = input.label.split_whitespace().collect();
-        println!("| {} | {a} | {b} | {} | {c} | {} |", sizes.join(" | "), word(&answers[1].1), word(&answers[2].1));
-    }
+    tasks.iter().for_each(|task| task.print(&solvers));
 }

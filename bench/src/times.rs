@@ -6,7 +6,7 @@ use crate::stages::{Buffers, Stage, STAGES};
 use std::hint::black_box;
 use std::time::Instant;
 
-/// A stage on an input, how many calls make a round of some 200 microseconds, and the least times so far of one call by the library and in plain Rust.
+/// A stage on an input, how many calls make a round of some 200 microseconds, and the least times so far of a call by the library and in plain Rust.
 struct Task {
     stage: &'static Stage,
     input: Input,
