@@ -41,7 +41,7 @@ fn clause_fits(literals: &[u16], variables: usize, marks: &mut [usize; 276], mar
 }
 
 // Whether every clause is all there and fits. A clause's mark is the place of its first literal.
-pub fn list_fits(list: &[u16], variables: usize) -> bool
+pub(crate) fn list_fits(list: &[u16], variables: usize) -> bool
     requires { ⌜ variables ≤ 276 ⌝ }
     ensures { λ r. ⌜ r ≡ (whole (now (list .entry)) && all (clauseFits variables) (clausesIn (now (list .entry)))) ⌝ }
 {
