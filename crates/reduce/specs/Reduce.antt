@@ -61,7 +61,7 @@ module _ (L : Limits) (b list map out : List ℕ) where
     | false ↦ refusedLater (quotientNumber L b m out)
   ]
 
-  -- what the search's end leads to: "13 spent"; that none exists does not happen (proofs/Demands)
+  -- what the search's end leads to: "13 spent"; that none exists does not happen (proofs/Theorems, never-none)
   unfoldable pub afterSearch : Outcome → Reduced
   afterSearch (solved v k) = deliver (mapOf v (count (tableOf b))) k
   afterSearch (none-exists k) = refusedLater 12
