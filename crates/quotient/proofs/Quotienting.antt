@@ -26,7 +26,9 @@ use Rattle.tops.specs.Tops.{live, liveReturns}
 use Rattle.maps.specs.Check.{checkNumber}
 use Rattle.quotient.specs.Quotient.{image, images, memberHas, classByte, quotientTable, quotientBytes, quotientNumber, QuotientDone, quotientOf}
 use Rattle.quotient.specs.Demands.{WritesQuotient, WritesSameWords}
-use Rattle.quotient.specs.Keys.{key, lastBytes, Holds, kept}
+use Rattle.table.specs.Keys.{key}
+use Rattle.table.proofs.Keys.{part-bytes}
+use Rattle.quotient.specs.Keys.{lastBytes, Holds, kept}
 use Rattle.quotient.specs.Sections.{ofStates, classBytes, keyedTable, Known, Sized, imageKeys, partedQuotient, writtenFor}
 use Rattle.quotient.specs.declared.Written.{Written}
 use Rattle.quotient.specs.declared.Written.the-variants.{Length, Refused}
@@ -34,7 +36,7 @@ use Rattle.quotient.proofs.Image.{images-mem, images-length, image-leng
 use Rattle.quotient.proofs.Theorems.{writes-quotient, writes-same-words}
 use Rattle.quotient.proofs.ClassBytes.{length-bytes}
 use Rattle.quotient.proofs.Keys.{Same, last-key}
-use Rattle.quotient.proofs.Collecting.{part-bytes, image-bytes, move-kept, return-kept}
+use Rattle.quotient.proofs.Collecting.{image-bytes, move-kept, return-kept}
 use Rattle.quotient.proofs.Whole.{bytes-long}
 
 -- ---- counts

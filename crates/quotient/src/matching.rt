@@ -63,7 +63,7 @@ pub(crate) fn looks_agree(states: &[u8], map: &[u8]) -> bool
 
 // Some record that starts with the key goes to a target joined to this one.
 fn reaches(section: &[u8], width: usize, key: &[u8], map: &[u8], target: usize) -> bool
-    requires { ⌜ (width ≡ length (now key) + 1) × (ascend (records width (now section)) ≡ true) ⌝ }
+    requires { ⌜ (width ≡ length (now key) + 1) × (width ≤ 4) × (ascend (records width (now section)) ≡ true) ⌝ }
     ensures { λ r. ⌜ r ≡ any (joins (now (map .entry)) target) (targets (records width (now (section .entry))) (now (key .entry))) ⌝ }
 {
     let found = table::starting(section, width, key);

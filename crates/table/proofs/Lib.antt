@@ -1,6 +1,7 @@
 pub mod Passed
 pub mod Bytes
 pub mod Order
+pub mod Keys
 pub mod Facts
 pub mod Spans
 pub mod Examples

@@ -1,75 +1,61 @@
 -- The records that start with a key are found by halves and passed one by one: what is still to come at each turn, and the part of the section
 -- that they are. One law for every width. Assumes nothing.
-use mathlib.Core.Path.{_≡_, refl, sym, ap, _∙_}
-use mathlib.Core.Logic.{_≢_}
+use mathlib.Core.Path.{_≡_, refl, sym, ap, _∙_, subst}
 use mathlib.Core.Bool.{Bool, true, false}
 use mathlib.Core.List.{List, [], _∷_}
 use Prim.Native.Nat.{ℕ, zero, suc, _+_, _-_, _*_, _/_, _≤_, _<_, suc-le-suc, zero-le}
 use native.Mathlib.Omega.{arith}
 use native.Mathlib.Numerals.{add-one}
-use native.Mathlib.Nat.{zero-add, suc-add, suc-mul, zero-mul, mul-le-mul-right, div-mul-le-self, div-zero, mul-div-cancel, add-mul}
-use lib.ListN.{length, getD, take, drop, length-take, length-drop, drop-of-length-le}
-use lib.Seq.{take-nil, drop-cons, drop-drop, getD-take, length-take-le, take-take}
-use borrow.Author.Tests.{eq-eqb, ne-eqb}
-use Rattle.lists.specs.Lists.{keep, parts, same}
+use native.Mathlib.Nat.{zero-add, suc-add, suc-mul, zero-mul, mul-le-mul-right, div-mul-le-self, mul-div-cancel, add-mul}
+use lib.ListN.{length, getD, take, drop, length-drop, drop-of-length-le}
+use lib.Seq.{take-nil, drop-cons, drop-drop, length-take-le, take-take}
+use lib.Dec.{eqb, ltb}
+use Rattle.lists.specs.Lists.{keep, parts}
 use Rattle.lists.proofs.Parts.{length-parts, getD-parts}
 use Rattle.table.specs.File.{records}
 use Rattle.table.specs.Reading.{before, ascend}
 use Rattle.table.specs.Sections.{firstAt}
 use Rattle.table.specs.Spans.{startsWith, leading}
+use Rattle.table.specs.Keys.{key}
+use Rattle.table.proofs.Bytes.{Bytes}
+use Rattle.table.proofs.Keys.{part-bytes, before-key, starts-key}
 use Rattle.table.proofs.Order.{before-transitive, ascend-behind, ascend-rest, getD-mem}
 use Rattle.table.proofs.Spans.{kept-span}
-
-one-on : (s : List ℕ) (i : ℕ) → i < length s → drop i s ≡ getD s i 0 ∷ drop (i + 1) s
-one-on s i h = rw add-one (drop-cons s i 0 h)
-
--- ---- a key and a record's first bytes
-
-pub record Starting (key r : List ℕ) (i : ℕ) : Type 0 where
-  pub left : i ≤ length key
-  pub right : i ≤ length r
-  pub meets : startsWith key r ≡ same (drop i key) (drop i (take (length key) r))
-
-pub begun : (key r : List ℕ) → Starting key r 0
-unfolding startsWith
-begun key r = record { left = omega arith; right = omega arith; meets = refl }
-
-module _ {key r : List ℕ} {i : ℕ} (w : Starting key r i) where
-  pub too-short : i < length key → length r ≤ i → false ≡ startsWith key r
-  unfolding same
-  too-short h k =
-      let l : length (take (length key) r) ≤ i = omega (arith, length-take (length key) r) in
-      sym (w .meets ∙ rw (one-on key i h, drop-of-length-le (take (length key) r) l))
-
-  first : i < length key → i < length r → drop i (take (length key) r) ≡ getD r i 0 ∷ drop (i + 1) (take (length key) r)
-  first h k = one-on (take (length key) r) i (omega (arith, length-take (length key) r)) ∙ ap (λ b. b ∷ drop (i + 1) (take (length key) r)) (getD-take (length key) r i 0 h)
-
-  pub another : i < length key → i < length r → getD key i 0 ≢ getD r i 0 → false ≡ startsWith key r
-  unfolding same
-  another h k d = sym (w .meets ∙ rw (one-on key i h, first h k, ne-eqb _ _ d))
-
-  pub start-on : i < length key → i < length r → getD key i 0 ≡ getD r i 0 → Starting key r (i + 1)
-  unfolding same
-  start-on h k e = record { left = omega arith; right = omega arith; meets = w .meets ∙ rw (one-on key i h, first h k, eq-eqb _ _ e) }
-
-  pub starts : length key ≤ i → true ≡ startsWith key r
-  unfolding same
-  starts h =
-      let l : length (take (length key) r) ≤ i = omega (arith, length-take (length key) r) in
-      sym (w .meets ∙ rw (drop-of-length-le key h, drop-of-length-le (take (length key) r) l))
 
 -- ---- record i
 
 pub record-inside : (w : ℕ) (s : List ℕ) (i : ℕ) → i < length s / w → i * w + w ≤ length s
 record-inside w s i h = omega (arith, mul-le-mul-right w h, suc-mul i w, div-mul-le-self (length s) w)
 
-pub record-is : (w : ℕ) (s : List ℕ) (i : ℕ) → i < length s / w → take (i * w + w - i * w) (drop (i * w) s) ≡ getD (records w s) i []
+record-at : (w : ℕ) (s : List ℕ) (i : ℕ) → i < length s / w → getD (records w s) i [] ≡ take w (drop (i * w) s)
 unfolding records
-record-is w s i h = let e : i * w + w - i * w ≡ w = omega arith in ap (λ k. take k (drop (i * w) s)) e ∙ sym (getD-parts (length s / w) w s i h)
+record-at w s i h = getD-parts (length s / w) w s i h
+
+-- its first bytes, as they are lent
+pub first-bytes : (w n : ℕ) (s : List ℕ) (i : ℕ) → n < w → i < length s / w → take (i * w + n - i * w) (drop (i * w) s) ≡ take n (getD (records w s) i [])
+first-bytes w n s i l h =
+    let e : i * w + n - i * w ≡ n = omega arith in
+    rw e (sym (ap (take n) (record-at w s i h) ∙ take-take n w (drop (i * w) s) (omega arith)))
 
 pub length-records : (w : ℕ) (s : List ℕ) → length (records w s) ≡ length s / w
 unfolding records
 length-records w s = length-parts (length s / w) w s
+
+-- the numbers of its first bytes and of the key tell whether it stands before the key, and whether it starts with it
+module _ (w : ℕ) (s k : List ℕ) (bs : Bytes s) (bk : Bytes k) (l : length k < w) {i m n : ℕ} (h : i < length s / w) (e : m ≡ key (take (length k) (getD (records w s) i []))) (f : n ≡ key k) where
+  long : length k ≤ length (getD (records w s) i [])
+  long =
+      let inside : w ≤ length (drop (i * w) s) = omega (arith, length-drop (i * w) s, record-inside w s i h) in
+      omega (arith, ap length (record-at w s i h), length-take-le w (drop (i * w) s) inside)
+
+  bytes : Bytes (getD (records w s) i [])
+  bytes = subst Bytes (sym (record-at w s i h)) (part-bytes s bs (i * w) w)
+
+  pub stands : before (getD (records w s) i []) k ≡ ltb m n
+  stands = before-key (getD (records w s) i []) k long bytes bk ∙ λ j. ltb (sym e j) (sym f j)
+
+  pub starts : startsWith k (getD (records w s) i []) ≡ eqb m n
+  starts = starts-key (getD (records w s) i []) k long bytes bk ∙ λ j. eqb (sym e j) (sym f j)
 
 -- ---- the first record that does not stand before the key
 
@@ -112,15 +98,12 @@ pub record Halving (rs : List (List ℕ)) (key : List ℕ) (n low high : ℕ) : 
 pub halving : (rs : List (List ℕ)) (key : List ℕ) {n : ℕ} → length rs ≡ n → Halving rs key n 0 n
 halving rs key e = record { count = e; ordered = omega arith; within = omega arith; above = λ a. zero-le; below = omega (arith, first-within rs key) }
 
-module _ {rs : List (List ℕ)} {key : List ℕ} {n low high middle : ℕ} (w : Halving rs key n low high) (l : low ≤ middle) (h : middle < high) {b : Bool} {r : List ℕ} (e : r ≡ getD rs middle []) (f : b ≡ before r key) where
-  told : {v : Bool} → b ≡ v → before (getD rs middle []) key ≡ v
-  told g = ap (λ x. before x key) (sym e) ∙ sym f ∙ g
+module _ {rs : List (List ℕ)} {key : List ℕ} {n low high middle : ℕ} (w : Halving rs key n low high) (l : low ≤ middle) (h : middle < high) where
+  pub upper-half : before (getD rs middle []) key ≡ true → Halving rs key n (middle + 1) high
+  upper-half t = record { count = w .count; ordered = omega arith; within = w .within; above = λ a. let k = past-it rs key middle a (omega (arith, w)) t in omega arith; below = w .below }
 
-  pub upper-half : b ≡ true → Halving rs key n (middle + 1) high
-  upper-half g = record { count = w .count; ordered = omega arith; within = w .within; above = λ a. let k = past-it rs key middle a (omega (arith, w)) (told g) in omega arith; below = w .below }
-
-  pub lower-half : b ≡ false → Halving rs key n low middle
-  lower-half g = record { count = w .count; ordered = l; within = omega (arith, w); above = w .above; below = not-past rs key middle (omega (arith, w)) (told g) }
+  pub lower-half : before (getD rs middle []) key ≡ false → Halving rs key n low middle
+  lower-half t = record { count = w .count; ordered = l; within = omega (arith, w); above = w .above; below = not-past rs key middle (omega (arith, w)) t }
 
 pub halved : {rs : List (List ℕ)} {key : List ℕ} {n low high : ℕ} → Halving rs key n low high → high ≤ low → ascend rs ≡ true → low ≡ firstAt rs key
 halved w h a = let k = w .above a in omega (arith, w)
@@ -136,19 +119,18 @@ pub passing : (rs : List (List ℕ)) (key : List ℕ) {n from : ℕ} → length 
 passing rs key e h = record { count = e; inside = h; meets = refl }
 
 module _ {rs : List (List ℕ)} {key : List ℕ} {n from i : ℕ} (w : Passing rs key n from i) where
-  module _ (h : i < n) {b : Bool} {r : List ℕ} (e : r ≡ getD rs i []) (f : b ≡ startsWith key r) where
-    here : {v : Bool} → b ≡ v → leading (drop i rs) key ≡ elim v [ true ↦ suc (leading (drop (i + 1) rs) key) | false ↦ 0 ]
+  module _ (h : i < n) where
+    here : {v : Bool} → startsWith key (getD rs i []) ≡ v → leading (drop i rs) key ≡ elim v [ true ↦ suc (leading (drop (i + 1) rs) key) | false ↦ 0 ]
     unfolding leading
-    here {v} g =
-        let t : startsWith key (getD rs i []) ≡ v = ap (startsWith key) (sym e) ∙ sym f ∙ g in
+    here {v} t =
         ap (λ x. leading x key) (drop-cons rs i [] (omega (arith, w)))
         ∙ (λ j. elim (t j) as (λ _. ℕ) [ true ↦ suc (leading (drop (sym (add-one i) j) rs) key) | false ↦ 0 ])
 
-    pub pass-on : b ≡ true → Passing rs key n from (i + 1)
-    pass-on g = record { count = w .count; inside = omega arith; meets = w .meets ∙ omega (arith, here g) }
+    pub pass-on : startsWith key (getD rs i []) ≡ true → Passing rs key n from (i + 1)
+    pass-on t = record { count = w .count; inside = omega arith; meets = w .meets ∙ omega (arith, here t) }
 
-    pub pass-end : b ≡ false → i ≡ from + leading (drop from rs) key
-    pass-end g = omega (arith, w .meets, here g)
+    pub pass-end : startsWith key (getD rs i []) ≡ false → i ≡ from + leading (drop from rs) key
+    pass-end t = omega (arith, w .meets, here t)
 
   pub passed-all : n ≤ i → i ≡ from + leading (drop from rs) key
   unfolding leading
@@ -236,8 +218,3 @@ module _ {w : ℕ} {s key : List ℕ} {from to : ℕ} (i : Span w s key from to)
       ∙ span-records w s from m (i .some-width) (omega (arith, few, i .last))
       ∙ ap (λ k. take (leading (drop k (records w s)) key) (drop k (records w s))) (i .first a)
       ∙ sym (kept-span key (records w s) a)
-
--- records of no width are none
-pub no-width : {w : ℕ} (s key : List ℕ) → w ≡ 0 → records w [] ≡ keep (startsWith key) (records w s)
-unfolding records keep parts
-no-width s key e = ap (λ w. records w []) e ∙ sym (ap (λ w. keep (startsWith key) (records w s)) e ∙ ap (λ k. keep (startsWith key) (parts k 0 s)) (div-zero (length s)))

@@ -1,20 +1,22 @@
 -- What is still to come of a walk over bytes or records: one invariant for every loop of src/, and a law for each way through its body. The
 -- records' width is a variable. Assumes nothing.
 use mathlib.Core.Path.{_≡_, refl, sym, ap, _∙_}
-use mathlib.Core.Bool.{Bool, true, false, _&&_}
+use mathlib.Core.Bool.{Bool, true, false}
 use mathlib.Core.List.{List, [], _∷_}
 use Prim.Native.Nat.{ℕ, suc, _+_, _-_, _/_, _≤_, _<_}
 use native.Mathlib.Nat.{div-eq-sub-div, div-eq-of-lt}
 use native.Mathlib.Numerals.{add-one}
 use native.Mathlib.Omega.{arith}
 use lib.ListN.{length, getD, take, drop, length-drop, drop-of-length-le}
-use lib.Seq.{drop-cons, drop-drop}
-use native.Mathlib.Decide.{decLt}
-use lib.Dec.{ltb, eqb}
-use borrow.Author.Tests.{lt-ltb, le-ltb, eq-eqb, ne-eqb}
-use Rattle.lists.specs.Lists.{any, all, same, parts}
+use lib.Seq.{drop-cons, drop-drop, length-take-le}
+use lib.Dec.{ltb}
+use borrow.Author.Tests.{lt-ltb, le-ltb}
+use Rattle.lists.specs.Lists.{any, all, parts}
 use Rattle.table.specs.File.{records}
 use Rattle.table.specs.Reading.{before, ascendFrom, ascend}
+use Rattle.table.specs.Keys.{key}
+use Rattle.table.proofs.Bytes.{Bytes}
+use Rattle.table.proofs.Keys.{part-bytes, order-key}
 
 -- the answer over the whole list is the answer over what is still to come
 pub record Still (f : List ℕ → Bool) (s : List ℕ) (at : ℕ) : Type 0 where
@@ -53,81 +55,6 @@ module _ (f : ℕ → Bool) {s : List ℕ} {i : ℕ} where
   pub any-done : Still (any f) s i → length s ≤ i → false ≡ any f s
   unfolding any
   any-done w h = sym (w .meets ∙ rw (drop-of-length-le s h))
-
--- ---- two byte strings, side by side
-
-pub record Abreast (x y : List ℕ) (i : ℕ) : Type 0 where
-  pub left : i ≤ length x
-  pub right : i ≤ length y
-  pub meets : before x y ≡ before (drop i x) (drop i y)
-
-pub abreast : (x y : List ℕ) → Abreast x y 0
-abreast x y = record { left = omega arith; right = omega arith; meets = refl }
-
-module _ {x y : List ℕ} {i : ℕ} (w : Abreast x y i) where
-  pub longer : i < length x → length y ≤ i → false ≡ before x y
-  unfolding before
-  longer h k = sym (w .meets ∙ rw (one-on x i h, drop-of-length-le y k))
-
-  pub less : i < length x → i < length y → getD x i 0 < getD y i 0 → true ≡ before x y
-  unfolding before
-  less h k l = sym (w .meets ∙ rw (one-on x i h, one-on y i k, lt-ltb _ _ l))
-
-  pub more : i < length x → i < length y → getD y i 0 < getD x i 0 → false ≡ before x y
-  unfolding before
-  more h k l =
-      let g : getD y i 0 ≤ getD x i 0 = omega arith in
-      let d : getD x i 0 ≡ getD y i 0 → ⊥ = λ e. omega arith in
-      sym (w .meets ∙ rw (one-on x i h, one-on y i k, le-ltb _ _ g, ne-eqb _ _ d))
-
-  pub equal : i < length x → i < length y → getD y i 0 ≤ getD x i 0 → getD x i 0 ≤ getD y i 0 → Abreast x y (i + 1)
-  unfolding before
-  equal h k g l =
-      let e : getD x i 0 ≡ getD y i 0 = omega arith in
-      record { left = omega arith; right = omega arith; meets = w .meets ∙ rw (one-on x i h, one-on y i k, le-ltb _ _ g, eq-eqb _ _ e) }
-
-  pub ended : length x ≤ i → ltb i (length y) ≡ before x y
-  unfolding before
-  ended h = sym (w .meets ∙ ap (λ z. before z (drop i y)) (drop-of-length-le x h) ∙ go (decLt i (length y)))
-    where
-      go : Dec (i < length y) → before [] (drop i y) ≡ ltb i (length y)
-      go (yes l) = rw (one-on y i l, lt-ltb _ _ l)
-      go (no l) = let k : length y ≤ i = omega arith in rw (drop-of-length-le y k, le-ltb _ _ k)
-
--- equal so far
-pub record Matching (x y : List ℕ) (i : ℕ) : Type 0 where
-  pub long : length x ≡ length y
-  pub inside : i ≤ length x
-  pub meets : same x y ≡ same (drop i x) (drop i y)
-
-pub unlike : (x y : List ℕ) → (length x ≡ length y → ⊥) → false ≡ same x y
-unfolding same
-unlike [] [] h = absurd (h refl)
-unlike [] (y ∷ ys) h = refl
-unlike (x ∷ xs) [] h = refl
-unlike (x ∷ xs) (y ∷ ys) h = go (eqb x y) (unlike xs ys (λ e. h (ap suc e)))
-  where
-    go : (t : Bool) → false ≡ same xs ys → false ≡ t && same xs ys
-    go true e = e
-    go false e = refl
-
-pub matching : (x y : List ℕ) → length x ≡ length y → Matching x y 0
-matching x y e = record { long = e; inside = omega arith; meets = refl }
-
-module _ {x y : List ℕ} {i : ℕ} (w : Matching x y i) where
-  pub differ : i < length x → (getD x i 0 ≡ getD y i 0 → ⊥) → false ≡ same x y
-  unfolding same
-  differ h d = let k : i < length y = omega (arith, w .long) in sym (w .meets ∙ rw (one-on x i h, one-on y i k, ne-eqb _ _ d))
-
-  pub match : i < length x → getD x i 0 ≡ getD y i 0 → Matching x y (i + 1)
-  unfolding same
-  match h e =
-      let k : i < length y = omega (arith, w .long) in
-      record { long = w .long; inside = omega arith; meets = w .meets ∙ rw (one-on x i h, one-on y i k, eq-eqb _ _ e) }
-
-  pub matched : length x ≤ i → true ≡ same x y
-  unfolding same
-  matched h = let k : length y ≤ i = omega (arith, w .long) in sym (w .meets ∙ rw (drop-of-length-le x h, drop-of-length-le y k))
 
 -- ---- records
 
@@ -179,39 +106,63 @@ module _ (g : List ℕ → Bool) (w : ℕ) {s : List ℕ} {at : ℕ} where
 
 -- ---- records that ascend
 
--- the first of the records still to come ends at next
-pub record Rising (w : ℕ) (s : List ℕ) (at next : ℕ) : Type 0 where
-  pub here : next ≡ at + w
-  pub inside : next ≤ length s
-  pub meets : ascend (records w s) ≡ ascend (records w (drop at s))
+-- the last record passed ends at `at`, and this is its number
+pub record Rising (w : ℕ) (s : List ℕ) (last at : ℕ) : Type 0 where
+  pub behind : w ≤ at
+  pub inside : at ≤ length s
+  pub number : last ≡ key (take w (drop (at - w) s))
+  pub meets : ascend (records w s) ≡ ascend (records w (drop (at - w) s))
 
-pub rising : (w : ℕ) (s : List ℕ) → w ≤ length s → Rising w s 0 w
-rising w s h = record { here = omega arith; inside = h; meets = refl }
+pub rising : (w : ℕ) (s : List ℕ) {last : ℕ} → w ≤ length s → last ≡ key (take w s) → Rising w s last w
+rising w s h e =
+    let z : 0 ≡ w - w = omega arith in
+    record { behind = omega arith; inside = h; number = e ∙ ap (λ i. key (take w (drop i s))) z; meets = ap (λ i. ascend (records w (drop i s))) z }
 
 pub too-few : (w : ℕ) (s : List ℕ) → length s < w → true ≡ ascend (records w s)
 unfolding ascend
 too-few w s h = sym (ap ascend (records-none w s h))
 
-module _ {w : ℕ} {s : List ℕ} {at next : ℕ} where
-  two-on : 0 < w → Rising w s at next → w ≤ length s - next → records w (drop at s) ≡ take (next - at) (drop at s) ∷ take (next + w - next) (drop next s) ∷ records w (drop (next + w) s)
-  two-on p i h =
-      let e = i .here in
-      ap (λ n. records w (drop at s)) e
-      ∙ record-on w s at p (omega (arith, i))
-      ∙ ap (λ n. take (n - at) (drop at s) ∷ records w (drop n s)) (sym e)
-      ∙ ap (λ rs. take (next - at) (drop at s) ∷ rs) (record-on w s next p h)
+module _ {w : ℕ} {s : List ℕ} {last at : ℕ} (p : 0 < w) (i : Rising w s last at) where
+  -- the last record, and those behind it
+  last-on : records w (drop (at - w) s) ≡ take w (drop (at - w) s) ∷ records w (drop at s)
+  last-on =
+      let e : at - w + w ≡ at = omega (arith, i) in
+      let f : at - w + w - (at - w) ≡ w = omega arith in
+      record-on w s (at - w) p (omega (arith, i)) ∙ λ j. take (f j) (drop (at - w) s) ∷ records w (drop (e j) s)
 
-  pub rises : 0 < w → Rising w s at next → w ≤ length s - next → before (take (next - at) (drop at s)) (take (next + w - next) (drop next s)) ≡ true → Rising w s next (next + w)
+  pub risen : length s - at < w → true ≡ ascend (records w s)
   unfolding ascend ascendFrom
-  rises p i h e = record { here = refl; inside = omega (arith, i); meets = i .meets ∙ ap ascend (two-on p i h) ∙ rw e (ap ascend (sym (record-on w s next p h))) }
+  risen h = sym (i .meets ∙ ap ascend (last-on ∙ ap (λ rs. take w (drop (at - w) s) ∷ rs) (record-none w s at h)))
 
-  pub falls : 0 < w → Rising w s at next → w ≤ length s - next → before (take (next - at) (drop at s)) (take (next + w - next) (drop next s)) ≡ false → false ≡ ascend (records w s)
-  unfolding ascend ascendFrom
-  falls p i h e = sym (i .meets ∙ ap ascend (two-on p i h) ∙ rw e)
+  module _ (b : Bytes s) {number : ℕ} (h : w ≤ length s - at) (e : number ≡ key (take (at + w - at) (drop at s))) where
+    wide : at + w - at ≡ w
+    wide = omega arith
 
-  pub risen : 0 < w → Rising w s at next → length s - next < w → true ≡ ascend (records w s)
-  unfolding ascend ascendFrom
-  risen p i h =
-      let e = i .here in
-      let last : length s - (at + w) < w = omega (arith, i) in
-      sym (i .meets ∙ ap ascend (record-on w s at p (omega (arith, i)) ∙ ap (λ rs. take (at + w - at) (drop at s) ∷ rs) (record-none w s (at + w) last)))
+    next-on : ascend (records w s) ≡ ascend (take w (drop (at - w) s) ∷ take w (drop at s) ∷ records w (drop (at + w) s))
+    next-on =
+        i .meets
+        ∙ ap ascend (last-on ∙ ap (λ rs. take w (drop (at - w) s) ∷ rs) (record-on w s at p h ∙ ap (λ n. take n (drop at s) ∷ records w (drop (at + w) s)) wide))
+
+    compared : before (take w (drop (at - w) s)) (take w (drop at s)) ≡ ltb last number
+    compared =
+        let l = length-take-le w (drop (at - w) s) (omega (arith, i, length-drop (at - w) s)) in
+        let n = length-take-le w (drop at s) (omega (arith, length-drop at s)) in
+        order-key (take w (drop (at - w) s)) (take w (drop at s)) (omega arith) (part-bytes s b (at - w) w) (part-bytes s b at w)
+        ∙ λ j. ltb (sym (i .number) j) (sym (e ∙ ap (λ n. key (take n (drop at s))) wide) j)
+
+    pub rises : last < number → Rising w s number (at + w)
+    unfolding ascend ascendFrom
+    rises l =
+        let z : at ≡ at + w - w = omega arith in
+        record {
+          behind = omega arith;
+          inside = omega (arith, i);
+          number = e ∙ (λ j. key (take (wide j) (drop (z j) s)));
+          meets =
+              next-on ∙ rw (compared ∙ lt-ltb _ _ l) (ap ascend (sym (record-on w s at p h ∙ ap (λ n. take n (drop at s) ∷ records w (drop (at + w) s)) wide)))
+              ∙ ap (λ n. ascend (records w (drop n s))) z;
+        }
+
+    pub falls : number ≤ last → false ≡ ascend (records w s)
+    unfolding ascend ascendFrom
+    falls l = sym (next-on ∙ rw (compared ∙ le-ltb last number l))

@@ -5,3 +5,4 @@ pub mod Language
 pub mod Maps
 pub mod Sections
 pub mod Spans
+pub mod Keys

@@ -8,12 +8,13 @@ ghost use lib.Dec.{ltb};
 ghost use Rattle.lists.specs.Lists.{any, all, firstFailed};
 ghost use Rattle.table.specs.Limits.{standard};
 ghost use Rattle.table.specs.File.{word16, records, tableOf};
-ghost use Rattle.table.specs.Reading.{distancesFit, countsFit, bytesFit, isInitial, recordFits, recordsFit, before, ascend, orderFits, tableTests, startsOf, readOf};
+ghost use Rattle.table.specs.Reading.{distancesFit, countsFit, bytesFit, isInitial, recordFits, recordsFit, ascend, orderFits, tableTests, startsOf, readOf};
 ghost use Rattle.table.specs.Sections.{sectioned};
 
 mod keyed;
 mod view;
 
+use keyed::number_of;
 pub use keyed::starting;
 pub use view::Section;
 pub use view::TableView;
@@ -127,43 +128,24 @@ fn records_fit(symbols: &[u8], states: &[u8], kind: u8, width: usize, section: &
     true
 }
 
-// One byte string stands before the other.
-fn stands_before(x: &[u8], y: &[u8]) -> bool
-    ensures { λ r. ⌜ r ≡ before (now (x .entry)) (now (y .entry)) ⌝ }
-{
-    let mut i: usize = 0;
-    'bytes: while i < x.len() {
-        if y.len() <= i {
-            return false;
-        }
-        if x[i] < y[i] {
-            return true;
-        }
-        if y[i] < x[i] {
-            return false;
-        }
-        i += 1;
-    }
-    i < y.len()
-}
-
-// The records of a section ascend, of any width.
+// The records of a section ascend, of any width that a number holds: each number is above the one before it.
 fn ascends(width: usize, section: &[u8]) -> bool
-    requires { ⌜ 0 < width ⌝ }
+    requires { ⌜ (0 < width) × (width ≤ 4) ⌝ }
     ensures { λ r. ⌜ r ≡ ascend (records width (now (section .entry))) ⌝ }
 {
     if section.len() < width {
         return true;
     }
-    let mut at: usize = 0;
-    let mut next = width;
-    'records: while width <= section.len() - next {
-        let end = next + width;
-        if !stands_before(&section[at..next], &section[next..end]) {
+    let mut last = number_of(&section[..width]);
+    let mut at = width;
+    'records: while width <= section.len() - at {
+        let next = at + width;
+        let number = number_of(&section[at..next]);
+        if number <= last {
             return false;
         }
+        last = number;
         at = next;
-        next = end;
     }
     true
 }

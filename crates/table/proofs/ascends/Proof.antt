@@ -1,63 +1,61 @@
 -- `table::ascends` meets its contract: the records so far ascend. Assumes nothing.
+use mathlib.Core.Path.{sym}
 use Prim.Native.Nat.{_-_}
-use mathlib.Core.Path.{sym, _∙_}
+use native.Mathlib.Omega.{arith}
 use lib.ListN.{length}
-use borrow.Author.Tests.{not-true, not-false}
-use Rattle.table.proofs.Walks as walks
+use lib.Seq.{length-take-le}
+use Rattle.table.proofs.Walks.{Rising, rising, too-few, risen, rises, falls}
 use borrow.Author.Needs.{needs}
 use Rattle.table.proofs.ascends.Statement.{statement}
 use Rattle.table.proofs.ascends.Tie as tie
 
 abbrev Inv-records : tie.InvT-records
-Inv-records width section at₀ next₀ at next = walks.Rising width section at next
+Inv-records width section last₀ at₀ last at = Rising width section last at
 
 abbrev μ-records : tie.MeasureT-records
-μ-records width section at₀ next₀ at next = length section - at
+μ-records width section last₀ at₀ last at = length section - at
 
 returns : tie.Need-returns Inv-records μ-records
-returns c = walks.too-few _ _ (c .if1 .taken)
+returns c = too-few _ _ (c .if1 .taken)
+
+slice-aggregate-number-of : tie.Need-slice-aggregate-number-of Inv-records μ-records
+slice-aggregate-number-of c = sym (length-take-le (c .before .before .before .args .width) (c .before .before .before .args .section .now) (c .before .if1 .left))
+
+number-of-requires : tie.Need-number-of-requires Inv-records μ-records
+number-of-requires c κs = omega (arith, c .before .before .before .pre, length-take-le (c .before .before .before .args .width) (c .before .before .before .args .section .now) (c .before .if1 .left))
 
 records-holds : tie.Need-records-holds Inv-records μ-records
-records-holds c = walks.rising _ _ (c .if1 .left)
+records-holds c = rising _ _ (c .before .before .if1 .left) (c .number-of .ensures)
 
 sub-records : tie.Need-sub-records Inv-records μ-records
 sub-records c = search needs
 
-add-end : tie.Need-add-end Inv-records μ-records
-add-end c = search needs
+add-next : tie.Need-add-next Inv-records μ-records
+add-next c = search needs
 
-sub-stands-before : tie.Need-sub-stands-before Inv-records μ-records
-sub-stands-before c = search needs
+sub-number-of : tie.Need-sub-number-of Inv-records μ-records
+sub-number-of c = search needs
 
-part-stands-before-start : tie.Need-part-stands-before-start Inv-records μ-records
-part-stands-before-start c = search needs
+part-number-of-start : tie.Need-part-number-of-start Inv-records μ-records
+part-number-of-start c = search needs
 
-part-stands-before-end : tie.Need-part-stands-before-end Inv-records μ-records
-part-stands-before-end c = search needs
+part-number-of-end : tie.Need-part-number-of-end Inv-records μ-records
+part-number-of-end c = search needs
 
-sub-stands-before-2 : tie.Need-sub-stands-before-2 Inv-records μ-records
-sub-stands-before-2 c = search needs
-
-part-stands-before-start-2 : tie.Need-part-stands-before-start-2 Inv-records μ-records
-part-stands-before-start-2 c = search needs
-
-part-stands-before-end-2 : tie.Need-part-stands-before-end-2 Inv-records μ-records
-part-stands-before-end-2 c = search needs
-
-stands-before-requires : tie.Need-stands-before-requires Inv-records μ-records
-stands-before-requires c κs = search needs
+number-of-requires-2 : tie.Need-number-of-requires-2 Inv-records μ-records
+number-of-requires-2 c κs = omega (arith, c .before .before .before .before .before .before .before .pre, c .number-of-arg2 .given)
 
 returns-2 : tie.Need-returns-2 Inv-records μ-records
-returns-2 c = walks.falls (c .before .before .before .before .before .before .before .before .pre) (c .before .before .before .before .before .records .inv) (c .before .before .before .before .records-test .taken) (sym (c .before .stands-before .ensures) ∙ not-true _ (c .if2 .taken))
+returns-2 c = falls (c .before .before .before .before .before .before .before .before .before .pre .0) (c .before .before .before .before .records .inv) (λ i. c .before .before .before .before .before .before .before .before .shared-slice-known .given i .fits) (c .before .before .before .records-test .taken) (c .before .number-of2 .ensures) (c .if2 .taken)
 
 records-less : tie.Need-records-less Inv-records μ-records
-records-less c = search needs
+records-less c = omega (arith, c .before .before .before .before .before .before .before .before .before .pre .0, c .before .before .before .before .records .inv, c .before .before .before .records-test .taken)
 
 records-again : tie.Need-records-again Inv-records μ-records
-records-again c = walks.rises (c .before .before .before .before .before .before .before .before .pre) (c .before .before .before .before .before .records .inv) (c .before .before .before .before .records-test .taken) (sym (c .before .stands-before .ensures) ∙ not-false _ (c .if2 .left))
+records-again c = rises (c .before .before .before .before .before .before .before .before .before .pre .0) (c .before .before .before .before .records .inv) (λ i. c .before .before .before .before .before .before .before .before .shared-slice-known .given i .fits) (c .before .before .before .records-test .taken) (c .before .number-of2 .ensures) (c .if2 .left)
 
 returns-3 : tie.Need-returns-3 Inv-records μ-records
-returns-3 c = walks.risen (c .before .before .before .before .pre) (c .before .records .inv) (c .records-test .left)
+returns-3 c = risen (c .before .before .before .before .before .before .pre .0) (c .before .records .inv) (c .records-test .left)
 
 pub ascends-spec : {M : Type 1} → statement M
 ascends-spec =
@@ -66,16 +64,15 @@ ascends-spec =
     Inv-records
     μ-records
     returns
+    slice-aggregate-number-of
+    number-of-requires
     records-holds
     sub-records
-    add-end
-    sub-stands-before
-    part-stands-before-start
-    part-stands-before-end
-    sub-stands-before-2
-    part-stands-before-start-2
-    part-stands-before-end-2
-    stands-before-requires
+    add-next
+    sub-number-of
+    part-number-of-start
+    part-number-of-end
+    number-of-requires-2
     returns-2
     records-less
     records-again

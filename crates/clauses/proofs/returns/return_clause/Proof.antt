@@ -28,13 +28,13 @@ with-premise-requires-2 : tie.Need-with-premise-requires-2
 with-premise-requires-2 c κs = omega (arith, premise-more (c .before .no-literals .result) (c .before .before .before .before .before .before .before .before .args .x .from) (c .before .before .before .before .before .before .before .before .args .q) (c .with-premise .ensures), c .before .no-literals .ensures .count)
 
 matched-requires : tie.Need-matched-requires
-matched-requires c κs = (omega arith, return-room (c .before .before .before .before .before .before .before .before .before .before .args .section .now) (c .before .before .before .before .before .before .before .before .before .before .args .x) (c .before .before .before .before .before .before .before .before .before .before .args .q) (c .before .before .before .before .before .before .before .before .before .before .args .u) (c .before .before .before .before .starting .result .now) (c .before .before .before .before .starting .ensures (c .before .before .before .before .before .before .before .before .before .before .pre .0 .ascends)) (c .before .before .before .no-literals .ensures) (c .before .before .with-premise .ensures) (c .before .with-premise2 .ensures) (c .before .before .before .before .before .before .before .before .before .before .pre .0), c .before .before .before .before .before .before .before .before .before .before .pre .1)
+matched-requires c κs = (omega arith, return-room (c .before .before .before .before .before .before .before .before .before .before .args .section .now) (c .before .before .before .before .before .before .before .before .before .before .args .x) (c .before .before .before .before .before .before .before .before .before .before .args .q) (c .before .before .before .before .before .before .before .before .before .before .args .u) (c .before .before .before .before .starting .result .now) (c .before .before .before .before .starting .ensures (omega arith) (omega arith) (c .before .before .before .before .before .before .before .before .before .before .pre .0 .ascends)) (c .before .before .before .no-literals .ensures) (c .before .before .with-premise .ensures) (c .before .with-premise2 .ensures) (c .before .before .before .before .before .before .before .before .before .before .pre .0), c .before .before .before .before .before .before .before .before .before .before .pre .1)
 
 same-length : tie.Need-same-length
 same-length c = search needs
 
 returns-2 : tie.Need-returns-2
-returns-2 c = return-other (c .before .before .before .before .before .before .before .before .before .before .before .before .before .args .section .now) (c .before .before .before .before .before .before .before .before .before .before .before .before .before .args .x) (c .before .before .before .before .before .before .before .before .before .before .before .before .before .args .q) (c .before .before .before .before .before .before .before .before .before .before .before .before .before .args .u) (c .before .before .before .before .before .before .before .starting .result .now) (c .before .before .before .before .before .before .before .starting .ensures (c .before .before .before .before .before .before .before .before .before .before .before .before .before .pre .0 .ascends)) (c .before .before .before .before .before .before .no-literals .ensures) (c .before .before .before .before .before .with-premise .ensures) (c .before .before .before .before .with-premise2 .ensures) _ (c .before .before .before .before .before .before .before .before .before .before .same-place .ensures) (c .before .before .before .before .before .before .before .before .before .if1 .left) (c .before .before .matched .ensures)
+returns-2 c = return-other (c .before .before .before .before .before .before .before .before .before .before .before .before .before .args .section .now) (c .before .before .before .before .before .before .before .before .before .before .before .before .before .args .x) (c .before .before .before .before .before .before .before .before .before .before .before .before .before .args .q) (c .before .before .before .before .before .before .before .before .before .before .before .before .before .args .u) (c .before .before .before .before .before .before .before .starting .result .now) (c .before .before .before .before .before .before .before .starting .ensures (omega arith) (omega arith) (c .before .before .before .before .before .before .before .before .before .before .before .before .before .pre .0 .ascends)) (c .before .before .before .before .before .before .no-literals .ensures) (c .before .before .before .before .before .with-premise .ensures) (c .before .before .before .before .with-premise2 .ensures) _ (c .before .before .before .before .before .before .before .before .before .before .same-place .ensures) (c .before .before .before .before .before .before .before .before .before .if1 .left) (c .before .before .matched .ensures)
 
 pub return-clause-spec : {M : Type 1} → statement M
 return-clause-spec =

@@ -29,7 +29,7 @@ wide-requires : tie.Need-wide-requires
 wide-requires c κs = search needs
 
 reaches-requires : tie.Need-reaches-requires
-reaches-requires c κs = (refl, c .before .before .before .before .before .before .before .before .before .pre .0)
+reaches-requires c κs = (refl, omega arith, c .before .before .before .before .before .before .before .before .before .pre .0)
 
 returns-2 : tie.Need-returns-2
 returns-2 c = c .reaches .ensures ∙ move-by _ _ _ _ _ _ (c .before .wide .ensures) (by-class _ _ _ (c .before .before .before .before .before .before .before .before .before .before .pre .3) (c .before .before .before .before .before .before .is-in .ensures) (not-false _ (c .before .before .before .before .before .if1 .left)))

@@ -48,7 +48,7 @@ joined-requires : tie.Need-joined-requires Inv-records μ-records
 joined-requires c κs = search needs
 
 returns : tie.Need-returns Inv-records μ-records
-returns c = over-targets (c .before .before .before .before .before .before .before .before .before .before .args .width) (c .before .before .before .before .before .before .before .before .before .before .args .section .now) (c .before .before .before .before .before .before .before .before .before .before .args .key .now) (c .before .before .before .before .before .before .starting .result .now) (c .before .before .before .before .before .before .before .before .before .before .args .map .now) (c .before .before .before .before .before .before .before .before .before .before .args .target) (c .before .before .before .before .before .before .starting .ensures (c .before .before .before .before .before .before .before .before .before .before .pre .1)) (met (c .before .before .before .before .before .before .before .before .before .before .args .map .now) (c .before .before .before .before .before .before .before .before .before .before .args .target) (length (c .before .before .before .before .before .before .before .before .before .before .args .key .now)) (c .before .before .before .before .before .before .before .before .before .before .pre .0) (c .before .before .before .before .before .records .inv) (c .before .before .before .before .records-test .taken) (sym (ap (joins (c .before .before .before .before .before .before .before .before .before .before .args .map .now) (c .before .before .before .before .before .before .before .before .before .before .args .target)) (c .before .before .wide .ensures)) ∙ sym (c .before .joined .ensures) ∙ c .if1 .taken))
+returns c = over-targets (c .before .before .before .before .before .before .before .before .before .before .args .width) (c .before .before .before .before .before .before .before .before .before .before .args .section .now) (c .before .before .before .before .before .before .before .before .before .before .args .key .now) (c .before .before .before .before .before .before .starting .result .now) (c .before .before .before .before .before .before .before .before .before .before .args .map .now) (c .before .before .before .before .before .before .before .before .before .before .args .target) (c .before .before .before .before .before .before .starting .ensures (omega (arith, c .before .before .before .before .before .before .before .before .before .before .pre .0)) (c .before .before .before .before .before .before .before .before .before .before .pre .1) (c .before .before .before .before .before .before .before .before .before .before .pre .2)) (met (c .before .before .before .before .before .before .before .before .before .before .args .map .now) (c .before .before .before .before .before .before .before .before .before .before .args .target) (length (c .before .before .before .before .before .before .before .before .before .before .args .key .now)) (c .before .before .before .before .before .before .before .before .before .before .pre .0) (c .before .before .before .before .before .records .inv) (c .before .before .before .before .records-test .taken) (sym (ap (joins (c .before .before .before .before .before .before .before .before .before .before .args .map .now) (c .before .before .before .before .before .before .before .before .before .before .args .target)) (c .before .before .wide .ensures)) ∙ sym (c .before .joined .ensures) ∙ c .if1 .taken))
 
 records-less : tie.Need-records-less Inv-records μ-records
 records-less c = search needs
@@ -57,7 +57,7 @@ records-again : tie.Need-records-again Inv-records μ-records
 records-again c = missed (c .before .before .before .before .before .before .before .before .before .before .args .map .now) (c .before .before .before .before .before .before .before .before .before .before .args .target) (length (c .before .before .before .before .before .before .before .before .before .before .args .key .now)) (c .before .before .before .before .before .before .before .before .before .before .pre .0) (c .before .before .before .before .before .records .inv) (c .before .before .before .before .records-test .taken) (sym (ap (joins (c .before .before .before .before .before .before .before .before .before .before .args .map .now) (c .before .before .before .before .before .before .before .before .before .before .args .target)) (c .before .before .wide .ensures)) ∙ sym (c .before .joined .ensures) ∙ c .if1 .left)
 
 returns-2 : tie.Need-returns-2 Inv-records μ-records
-returns-2 c = over-targets (c .before .before .before .before .before .before .args .width) (c .before .before .before .before .before .before .args .section .now) (c .before .before .before .before .before .before .args .key .now) (c .before .before .starting .result .now) (c .before .before .before .before .before .before .args .map .now) (c .before .before .before .before .before .before .args .target) (c .before .before .starting .ensures (c .before .before .before .before .before .before .pre .1)) (none-met (c .before .before .before .before .before .before .args .map .now) (c .before .before .before .before .before .before .args .target) (length (c .before .before .before .before .before .before .args .key .now)) (c .before .before .before .before .before .before .pre .0) (c .before .records .inv) (c .records-test .left))
+returns-2 c = over-targets (c .before .before .before .before .before .before .args .width) (c .before .before .before .before .before .before .args .section .now) (c .before .before .before .before .before .before .args .key .now) (c .before .before .starting .result .now) (c .before .before .before .before .before .before .args .map .now) (c .before .before .before .before .before .before .args .target) (c .before .before .starting .ensures (omega (arith, c .before .before .before .before .before .before .pre .0)) (c .before .before .before .before .before .before .pre .1) (c .before .before .before .before .before .before .pre .2)) (none-met (c .before .before .before .before .before .before .args .map .now) (c .before .before .before .before .before .before .args .target) (length (c .before .before .before .before .before .before .args .key .now)) (c .before .before .before .before .before .before .pre .0) (c .before .records .inv) (c .records-test .left))
 
 pub reaches-spec : {M : Type 1} → statement M
 reaches-spec =

@@ -38,7 +38,7 @@ wide-requires : tie.Need-wide-requires
 wide-requires c κs = search needs
 
 reaches-requires : tie.Need-reaches-requires
-reaches-requires c κs = (refl, c .before .before .before .before .before .before .before .before .before .before .before .before .pre .0 .0)
+reaches-requires c κs = (refl, omega arith, c .before .before .before .before .before .before .before .before .before .before .before .before .pre .0 .0)
 
 returns-3 : tie.Need-returns-3
 returns-3 c = let a = c .before .before .before .before .before .before .before .before .before .before .before .before .before in c .reaches .ensures ∙ return-by _ _ _ _ _ _ _ _ _ (a .pre .1 .0) (a .pre .1 .1) (by-class _ _ _ (c .before .before .before .before .before .before .before .before .before .before .before .before .before .pre .0 .4) (c .before .before .before .before .before .before .before .before .is-in .ensures) (not-false _ (c .before .before .before .before .before .before .before .if1 .left))) (sym (c .before .before .before .before .before .before .has-top .ensures) ∙ not-false _ (c .before .before .before .before .before .if2 .left)) (c .before .wide .ensures)

@@ -1,44 +1,45 @@
 -- `table::keyed::last_at` meets its contract: the records so far start with the key. Assumes nothing.
+use mathlib.Core.Path.{_∙_}
 use Prim.Native.Nat.{_-_, _/_}
 use native.Mathlib.Omega.{arith}
 use native.Mathlib.Nat.{div-le-self}
 use lib.ListN.{length}
-use borrow.Author.Tests.{not-true, not-false}
-use borrow.Author.Needs.{needs}
+use borrow.Author.Tests.{eq-eqb, ne-eqb}
 use Rattle.table.specs.File.{records}
-use Rattle.table.proofs.Spanning.{length-records, Passing, passing, pass-on, pass-end, passed-all}
+use Rattle.table.proofs.Spanning.{length-records, starts, Passing, passing, pass-on, pass-end, passed-all}
+use borrow.Author.Needs.{needs}
 use Rattle.table.proofs.keyed.last_at.Statement.{statement}
 use Rattle.table.proofs.keyed.last_at.Tie as tie
 
 abbrev Inv-records : tie.InvT-records
-Inv-records section width key from i₀ i = Passing (records width section) key (length section / width) from i
+Inv-records section width key from wanted i₀ i = Passing (records width section) key (length section / width) from i
 
 abbrev μ-records : tie.MeasureT-records
-μ-records section width key from i₀ i = length section / width - i
+μ-records section width key from wanted i₀ i = length section / width - i
+
+number-of-requires : tie.Need-number-of-requires Inv-records μ-records
+number-of-requires c κs = omega (arith, c .before .before .pre)
 
 records-holds : tie.Need-records-holds Inv-records μ-records
-records-holds c = passing _ _ (length-records _ _) (c .before .before .pre .1)
+records-holds c = passing _ _ (length-records _ _) (c .before .before .before .pre .2)
 
 div-records : tie.Need-div-records Inv-records μ-records
-div-records c = search needs
+div-records c = omega (arith, c .before .before .before .before .pre)
 
-record-at-requires : tie.Need-record-at-requires Inv-records μ-records
-record-at-requires c κs = search needs
-
-starts-with-requires : tie.Need-starts-with-requires Inv-records μ-records
-starts-with-requires c κs = search needs
+number-at-requires : tie.Need-number-at-requires Inv-records μ-records
+number-at-requires c κs = (c .before .before .before .before .before .pre .0, c .before .before .before .before .before .pre .1, c .records-test .taken)
 
 returns : tie.Need-returns Inv-records μ-records
-returns c = pass-end (c .before .before .before .before .records .inv) (c .before .before .before .records-test .taken) (c .before .before .record-at .ensures) (c .before .starts-with .ensures) (not-true _ (c .if1 .taken))
+returns c = pass-end (c .before .before .before .records .inv) (c .before .before .records-test .taken) (starts (c .before .before .before .before .before .before .before .args .width) (c .before .before .before .before .before .before .before .args .section .now) (c .before .before .before .before .before .before .before .args .key .now) (λ i. c .before .before .before .before .before .before .shared-slice-known .given i .fits) (λ i. c .before .before .before .before .before .shared-slice-known2 .given i .fits) (c .before .before .before .before .before .before .before .pre .0) (c .before .before .records-test .taken) (c .before .number-at .ensures) (c .before .before .before .before .number-of .ensures) ∙ ne-eqb _ _ (c .if1 .taken))
 
 add-i : tie.Need-add-i Inv-records μ-records
-add-i c = omega (arith, c .before .before .before .before .records .inv, c .before .before .before .records-test .taken, div-le-self (length (c .before .before .before .before .before .before .before .args .section .now)) (c .before .before .before .before .before .before .before .args .width), c .before .before .before .before .before .before .before .good .0 .0)
+add-i c = omega (arith, c .before .before .before .records .inv, c .before .before .records-test .taken, div-le-self (length (c .before .before .before .before .before .before .before .args .section .now)) (c .before .before .before .before .before .before .before .args .width), c .before .before .before .before .before .before .before .good .0 .0)
 
 records-less : tie.Need-records-less Inv-records μ-records
 records-less c = search needs
 
 records-again : tie.Need-records-again Inv-records μ-records
-records-again c = pass-on (c .before .before .before .before .records .inv) (c .before .before .before .records-test .taken) (c .before .before .record-at .ensures) (c .before .starts-with .ensures) (not-false _ (c .if1 .left))
+records-again c = pass-on (c .before .before .before .records .inv) (c .before .before .records-test .taken) (starts (c .before .before .before .before .before .before .before .args .width) (c .before .before .before .before .before .before .before .args .section .now) (c .before .before .before .before .before .before .before .args .key .now) (λ i. c .before .before .before .before .before .before .shared-slice-known .given i .fits) (λ i. c .before .before .before .before .before .shared-slice-known2 .given i .fits) (c .before .before .before .before .before .before .before .pre .0) (c .before .before .records-test .taken) (c .before .number-at .ensures) (c .before .before .before .before .number-of .ensures) ∙ eq-eqb _ _ (c .if1 .left))
 
 returns-2 : tie.Need-returns-2 Inv-records μ-records
 returns-2 c = passed-all (c .before .records .inv) (c .records-test .left)
@@ -49,10 +50,10 @@ last-at-spec =
     (tie.spec
     Inv-records
     μ-records
+    number-of-requires
     records-holds
     div-records
-    record-at-requires
-    starts-with-requires
+    number-at-requires
     returns
     add-i
     records-less
