@@ -3,7 +3,7 @@ use mathlib.Core.Path.{_≡_, refl, sym, ap, _∙_, subst}
 use mathlib.Core.Logic.{_↔_}
 use mathlib.Core.Bool.{Bool, true, false}
 use mathlib.Core.List.{List, [], _∷_}
-use Prim.Native.Nat.{ℕ}
+use Prim.Native.Nat.{ℕ, _≤_}
 use native.Mathlib.Omega.{arith}
 use lib.ListN.{length}
 use lib.Dec.{eqb}
@@ -28,7 +28,7 @@ use Rattle.maps.specs.declared.Checked.the-variants.{Accepted, Refused}
 use Rattle.maps.specs.Check.{looksAgree, movesMatched, returnsMatched, mapTests, checkNumber, checkOf}
 use Rattle.maps.proofs.Accepted.{accepted, accepts}
 use Rattle.maps.specs.Accepting.{IsAccepted, AcceptsExactly, examinedFor}
-use Rattle.maps.specs.Sections.{ofStates, Known, Parted, partTests}
+use Rattle.maps.specs.Sections.{ofStates, recordMatched, recordsMatched, Known, Parted, partTests}
 
 -- ---- 15 to 20, over the parts of a table
 
@@ -48,21 +48,21 @@ module _ (s i c r f m : List ℕ) where
       number-17 h = sym (passes 15 _ (eq-eqb _ _ p15) ∙ passes 16 _ p16 ∙ fails 17 _ h)
 
       module _ (p17 : looksAgree (ofStates s) m ≡ true) where
-        pub number-18 : movesMatched (records 3 i) (length s) m ≡ false → 18 ≡ firstFailed (partTests s i c r f m)
+        pub number-18 : recordsMatched 3 f (records 3 i) (length s) m ≡ false → 18 ≡ firstFailed (partTests s i c r f m)
         unfolding partTests
         number-18 h = sym (passes 15 _ (eq-eqb _ _ p15) ∙ passes 16 _ p16 ∙ passes 17 _ p17 ∙ fails 18 _ h)
 
-        module _ (p18 : movesMatched (records 3 i) (length s) m ≡ true) where
-          pub number-19 : movesMatched (records 3 c) (length s) m ≡ false → 19 ≡ firstFailed (partTests s i c r f m)
+        module _ (p18 : recordsMatched 3 f (records 3 i) (length s) m ≡ true) where
+          pub number-19 : recordsMatched 3 f (records 3 c) (length s) m ≡ false → 19 ≡ firstFailed (partTests s i c r f m)
           unfolding partTests
           number-19 h = sym (passes 15 _ (eq-eqb _ _ p15) ∙ passes 16 _ p16 ∙ passes 17 _ p17 ∙ passes 18 _ p18 ∙ fails 19 _ h)
 
-          module _ (p19 : movesMatched (records 3 c) (length s) m ≡ true) where
-            pub number-20 : returnsMatched f (records 4 r) (length s) m ≡ false → 20 ≡ firstFailed (partTests s i c r f m)
+          module _ (p19 : recordsMatched 3 f (records 3 c) (length s) m ≡ true) where
+            pub number-20 : recordsMatched 4 f (records 4 r) (length s) m ≡ false → 20 ≡ firstFailed (partTests s i c r f m)
             unfolding partTests
             number-20 h = sym (passes 15 _ (eq-eqb _ _ p15) ∙ passes 16 _ p16 ∙ passes 17 _ p17 ∙ passes 18 _ p18 ∙ passes 19 _ p19 ∙ fails 20 _ h)
 
-            pub number-0 : returnsMatched f (records 4 r) (length s) m ≡ true → 0 ≡ firstFailed (partTests s i c r f m)
+            pub number-0 : recordsMatched 4 f (records 4 r) (length s) m ≡ true → 0 ≡ firstFailed (partTests s i c r f m)
             unfolding partTests
             number-0 h = sym (passes 15 _ (eq-eqb _ _ p15) ∙ passes 16 _ p16 ∙ passes 17 _ p17 ∙ passes 18 _ p18 ∙ passes 19 _ p19 ∙ passes 20 _ h ∙ no-test)
 
@@ -73,24 +73,25 @@ module _ {b f : List ℕ} {s : Starts} (k : Known b s f) {states internals calls
   pub known-parts : Parted states internals calls returns
   known-parts =
       let wf = read-well-formed standard b (k .read .readable) in
+      let few : length states ≤ 256 = omega (arith, ap length (states-read (k .read) e1), few-states wf) in
       record {
-        few = omega (arith, ap length (states-read (k .read) e1), few-states wf);
-        internals-ascend = ap ascend (internals-read (k .read) e2) ∙ formed-tested wf .internals-ascend;
-        calls-ascend = ap ascend (calls-read (k .read) e3) ∙ formed-tested wf .calls-ascend;
-        returns-ascend = ap ascend (returns-read (k .read) e4) ∙ formed-tested wf .returns-ascend;
+        internals-lent = record { moves = omega arith; returns = omega arith; in-order = ap ascend (internals-read (k .read) e2) ∙ formed-tested wf .internals-ascend; few = few };
+        calls-lent = record { moves = omega arith; returns = omega arith; in-order = ap ascend (calls-read (k .read) e3) ∙ formed-tested wf .calls-ascend; few = few };
+        returns-lent = record { moves = omega arith; returns = omega arith; in-order = ap ascend (returns-read (k .read) e4) ∙ formed-tested wf .returns-ascend; few = few };
       }
 
+  -- of records of 3 and 4 bytes the conditions over the width are (ii) to (iv)
   pub parts-tests : (m : List ℕ) → firstFailed (partTests states internals calls returns f m) ≡ firstFailed (mapTests standard (tableOf b) m)
-  unfolding partTests mapTests looksAgree
+  unfolding partTests mapTests looksAgree recordMatched movesMatched returnsMatched
   parts-tests m =
       let n = states-read (k .read) e1 in
       λ j. firstFailed
       ((15, eqb (length m) (length (n j)))
       ∷ (16, numbered m)
       ∷ (17, looksAgree (ofStates (n j)) m)
-      ∷ (18, movesMatched (internals-read (k .read) e2 j) (length (n j)) m)
-      ∷ (19, movesMatched (calls-read (k .read) e3 j) (length (n j)) m)
-      ∷ (20, returnsMatched (k .words j) (returns-read (k .read) e4 j) (length (n j)) m)
+      ∷ (18, recordsMatched 3 (k .words j) (internals-read (k .read) e2 j) (length (n j)) m)
+      ∷ (19, recordsMatched 3 (k .words j) (calls-read (k .read) e3 j) (length (n j)) m)
+      ∷ (20, recordsMatched 4 (k .words j) (returns-read (k .read) e4 j) (length (n j)) m)
       ∷ [])
 
 -- ---- the answer

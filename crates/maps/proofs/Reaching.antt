@@ -11,7 +11,7 @@ use Rattle.table.specs.File.{records}
 use Rattle.table.specs.Language.{targets}
 use Rattle.table.specs.Maps.{joins}
 use Rattle.table.specs.Spans.{startsWith}
-use Rattle.table.proofs.Walks.{Still, begin, records-missed, records-met, records-none-met}
+use Rattle.table.proofs.Walks.{Still, records-missed, records-met, records-none-met}
 
 any-map : (f : ℕ → Bool) (g : List ℕ → ℕ) (rs : List (List ℕ)) → any f (map g rs) ≡ any (λ r. f (g r)) rs
 unfolding any

@@ -10,10 +10,9 @@ ghost use Rattle.maps.specs.Sections.{Known, Parted, partTests};
 mod matching;
 mod numbering;
 
-pub use matching::has_top;
+pub use matching::keeps;
 use matching::looks_agree;
-use matching::moves_matched;
-use matching::returns_matched;
+use matching::records_matched;
 pub use numbering::class_count;
 pub use numbering::class_of;
 use numbering::numbered;
@@ -51,13 +50,13 @@ fn tests_number(
     if !looks_agree(states, map) {
         return 17;
     }
-    if !moves_matched(internals, n, map) {
+    if !records_matched(internals, 3, words, n, map) {
         return 18;
     }
-    if !moves_matched(calls, n, map) {
+    if !records_matched(calls, 3, words, n, map) {
         return 19;
     }
-    if !returns_matched(returns, words, n, map) {
+    if !records_matched(returns, 4, words, n, map) {
         return 20;
     }
     0

@@ -1,7 +1,7 @@
 // Whether a map's relation meets the conditions (i) to (iv) of Definition 1.
 ghost use mathlib.Core.Path.{_≡_};
 ghost use mathlib.Core.Bool.{true};
-ghost use Prim.Native.Nat.{_+_, _<_, _≤_};
+ghost use Prim.Native.Nat.{_+_, _<_};
 ghost use lib.ListN.{length, getD};
 ghost use lib.Dec.{eqb};
 ghost use Rattle.lists.specs.Lists.{any};
@@ -10,13 +10,13 @@ ghost use Rattle.table.specs.File.{records};
 ghost use Rattle.table.specs.Reading.{ascend};
 ghost use Rattle.table.specs.Language.{targets};
 ghost use Rattle.table.specs.Maps.{classOf, joins};
-ghost use Rattle.maps.specs.Check.{looksAgree, moveMatched, movesMatched, returnMatched, returnsMatched};
-ghost use Rattle.maps.specs.Sections.{ofStates, agreesAt, moveMet, returnMetAt, returnMet};
+ghost use Rattle.maps.specs.Check.{looksAgree, returnMatched};
+ghost use Rattle.maps.specs.Sections.{ofStates, agreesAt, kept, returnMet, recordMatched, recordMet, recordsMatched, Lent};
 use super::numbering::class_of;
 use super::numbering::wide;
 
 // Top x is in word q.
-pub fn has_top(words: &[u32], q: usize, x: usize) -> bool
+fn has_top(words: &[u32], q: usize, x: usize) -> bool
     ensures { λ r. ⌜ r ≡ has (now (words .entry)) q x ⌝ }
 {
     if words.len() <= q {
@@ -27,6 +27,16 @@ pub fn has_top(words: &[u32], q: usize, x: usize) -> bool
         return false;
     }
     (word >> x) % 2 == 1
+}
+
+// A move, or a return that is live.
+pub fn keeps(words: &[u32], fields: &[u8]) -> bool
+    ensures { λ r. ⌜ r ≡ kept (now (words .entry)) (now (fields .entry)) ⌝ }
+{
+    if fields.len() < 4 {
+        return true;
+    }
+    has_top(words, wide(fields[0]), wide(fields[2]))
 }
 
 // "The map joins two states where their class numbers are equal."
@@ -91,50 +101,6 @@ fn reaches(section: &[u8], width: usize, key: &[u8], map: &[u8], target: usize) 
     false
 }
 
-// (ii) and (iii) for a record (p, a, p') and a state q, by the class of p.
-fn move_matched(section: &[u8], map: &[u8], fields: &[u8], class: u8, q: usize) -> bool
-    requires { ⌜ (ascend (records 3 (now section)) ≡ true) × (length (now fields) ≡ 3) × (q < 256) × (class ≡ classOf (now map) (getD (now fields) 0 0)) ⌝ }
-    ensures { λ r. ⌜ r ≡ moveMatched (records 3 (now (section .entry))) (now (map .entry)) (getD (now (fields .entry)) 0 0) (getD (now (fields .entry)) 1 0) (getD (now (fields .entry)) 2 0) q ⌝ }
-{
-    if !is_in(map, class, q) {
-        return true;
-    }
-    let key = [q as u8, fields[1]];
-    reaches(section, 3, &key, map, wide(fields[2]))
-}
-
-// .. and every state.
-fn move_met(section: &[u8], map: &[u8], fields: &[u8], n: usize) -> bool
-    requires { ⌜ (ascend (records 3 (now section)) ≡ true) × (length (now fields) ≡ 3) × (n ≤ 256) ⌝ }
-    ensures { λ r. ⌜ r ≡ moveMet (records 3 (now (section .entry))) n (now (map .entry)) (now (fields .entry)) ⌝ }
-{
-    let class = class_of(map, wide(fields[0]));
-    let mut q = 0;
-    'states: while q < n {
-        if !move_matched(section, map, fields, class, q) {
-            return false;
-        }
-        q += 1;
-    }
-    true
-}
-
-// (ii) and (iii) "each internal or call move of one is matched by the other to a joined target"
-pub(crate) fn moves_matched(section: &[u8], n: usize, map: &[u8]) -> bool
-    requires { ⌜ (ascend (records 3 (now section)) ≡ true) × (n ≤ 256) ⌝ }
-    ensures { λ r. ⌜ r ≡ movesMatched (records 3 (now (section .entry))) n (now (map .entry)) ⌝ }
-{
-    let mut at: usize = 0;
-    'records: while 3 <= section.len() - at {
-        let next = at + 3;
-        if !move_met(section, map, &section[at..next], n) {
-            return false;
-        }
-        at = next;
-    }
-    true
-}
-
 // (iv) for a live record (p, r, s, p'), a state q that is joined to p, and a stack state u, by the class of s.
 fn return_matched(
     section: &[u8],
@@ -159,23 +125,12 @@ fn return_matched(
     reaches(section, 4, &key, map, wide(fields[3]))
 }
 
-// .. and every stack state: a state that is not joined to p, by its class, has nothing to match.
-fn return_met_at(
-    section: &[u8],
-    words: &[u32],
-    map: &[u8],
-    fields: &[u8],
-    n: usize,
-    class: u8,
-    q: usize,
-) -> bool
-    requires { ⌜ (ascend (records 4 (now section)) ≡ true) × (length (now fields) ≡ 4) × (n ≤ 256) × (q < 256) × (class ≡ classOf (now map) (getD (now fields) 0 0)) ⌝ }
-    requires { ⌜ has (now words) (getD (now fields) 0 0) (getD (now fields) 2 0) ≡ true ⌝ }
-    ensures { λ r. ⌜ r ≡ returnMetAt (now (words .entry)) (records 4 (now (section .entry))) n (now (map .entry)) (now (fields .entry)) q ⌝ }
+// .. and every stack state.
+fn return_met(section: &[u8], words: &[u32], map: &[u8], fields: &[u8], n: usize, q: usize) -> bool
+    requires { ⌜ Lent 4 (now section) n × (length (now fields) ≡ 4) × (q < 256) ⌝ }
+    requires { ⌜ (has (now words) (getD (now fields) 0 0) (getD (now fields) 2 0) ≡ true) × (joins (now map) (getD (now fields) 0 0) q ≡ true) ⌝ }
+    ensures { λ r. ⌜ r ≡ returnMet (now (words .entry)) (records 4 (now (section .entry))) n (now (map .entry)) (now (fields .entry)) q ⌝ }
 {
-    if !is_in(map, class, q) {
-        return true;
-    }
     let under = class_of(map, wide(fields[2]));
     let mut u: usize = 0;
     'states: while u < n {
@@ -187,19 +142,50 @@ fn return_met_at(
     true
 }
 
-// .. and every state: a dead return asks nothing.
-fn return_met(section: &[u8], words: &[u32], map: &[u8], fields: &[u8], n: usize) -> bool
-    requires { ⌜ (ascend (records 4 (now section)) ≡ true) × (length (now fields) ≡ 4) × (n ≤ 256) ⌝ }
-    ensures { λ r. ⌜ r ≡ returnMet (now (words .entry)) (records 4 (now (section .entry))) n (now (map .entry)) (now (fields .entry)) ⌝ }
+// (ii) to (iv) for a record that is kept and a state q: where it is in the class of the record's first state, it matches a move or a return.
+fn record_matched(
+    section: &[u8],
+    width: usize,
+    words: &[u32],
+    map: &[u8],
+    fields: &[u8],
+    n: usize,
+    class: u8,
+    q: usize,
+) -> bool
+    requires { ⌜ Lent width (now section) n × (length (now fields) ≡ width) × (kept (now words) (now fields) ≡ true) ⌝ }
+    requires { ⌜ (class ≡ classOf (now map) (getD (now fields) 0 0)) × (q < 256) ⌝ }
+    ensures { λ r. ⌜ r ≡ recordMatched width (now (words .entry)) (records width (now (section .entry))) n (now (map .entry)) (now (fields .entry)) q ⌝ }
 {
-    let p = wide(fields[0]);
-    if !has_top(words, p, wide(fields[2])) {
+    if !is_in(map, class, q) {
         return true;
     }
-    let class = class_of(map, p);
-    let mut q: usize = 0;
+    if width == 3 {
+        let key = [q as u8, fields[1]];
+        return reaches(section, width, &key, map, wide(fields[2]));
+    }
+    return_met(section, words, map, fields, n, q)
+}
+
+// .. and every state: a dead return asks nothing.
+fn record_met(
+    section: &[u8],
+    width: usize,
+    words: &[u32],
+    map: &[u8],
+    fields: &[u8],
+    n: usize,
+) -> bool
+    requires { ⌜ Lent width (now section) n × (length (now fields) ≡ width) ⌝ }
+    ensures { λ r. ⌜ r ≡ recordMet width (now (words .entry)) (records width (now (section .entry))) n (now (map .entry)) (now (fields .entry)) ⌝ }
+{
+    if !keeps(words, fields) {
+        return true;
+    }
+    let class = class_of(map, wide(fields[0]));
+    let mut q = 0;
     'states: while q < n {
-        if !return_met_at(section, words, map, fields, n, class, q) {
+        if !record_matched(section, width, words, map, fields, n, class, q) {
             return false;
         }
         q += 1;
@@ -207,15 +193,21 @@ fn return_met(section: &[u8], words: &[u32], map: &[u8], fields: &[u8], n: usize
     true
 }
 
-// (iv) "the same for returns over joined stack states s of p and u of q, wherever s is in tops(p) and u in tops(q)"
-pub(crate) fn returns_matched(section: &[u8], words: &[u32], n: usize, map: &[u8]) -> bool
-    requires { ⌜ (ascend (records 4 (now section)) ≡ true) × (n ≤ 256) ⌝ }
-    ensures { λ r. ⌜ r ≡ returnsMatched (now (words .entry)) (records 4 (now (section .entry))) n (now (map .entry)) ⌝ }
+// (ii) to (iv) "each internal or call move of one is matched by the other to a joined target", and "the same for returns": every record.
+pub(crate) fn records_matched(
+    section: &[u8],
+    width: usize,
+    words: &[u32],
+    n: usize,
+    map: &[u8],
+) -> bool
+    requires { ⌜ Lent width (now section) n ⌝ }
+    ensures { λ r. ⌜ r ≡ recordsMatched width (now (words .entry)) (records width (now (section .entry))) n (now (map .entry)) ⌝ }
 {
     let mut at: usize = 0;
-    'records: while 4 <= section.len() - at {
-        let next = at + 4;
-        if !return_met(section, words, map, &section[at..next], n) {
+    'records: while width <= section.len() - at {
+        let next = at + width;
+        if !record_met(section, width, words, map, &section[at..next], n) {
             return false;
         }
         at = next;

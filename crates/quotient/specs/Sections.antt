@@ -7,9 +7,9 @@ use lib.Dec.{eqb, leb}
 use Rattle.lists.specs.Lists.{keep, gather, upto, over}
 use Rattle.table.specs.File.{Table, records, bytes16}
 use Rattle.table.specs.Maps.{classes}
-use Rattle.maps.specs.Sections.{ofStates}
+use Rattle.maps.specs.Sections.{ofStates, kept}
 use Rattle.quotient.specs.Quotient.{images, classByte, QuotientDone}
-use Rattle.quotient.specs.Keys.{keysOf, lastBytes, kept}
+use Rattle.quotient.specs.Keys.{keysOf, lastBytes}
 use Rattle.quotient.specs.declared.Written.the-variants.{Length, Refused}
 
 -- a state byte has the flag 1 "for initial" or 2 "for accepting"
@@ -44,7 +44,7 @@ pub record Sized (symbols internals calls returns : List ℕ) : Type 0 where
   pub calls-few : length (records 3 calls) ≤ 1024
   pub returns-few : length (records 4 returns) ≤ 4096
 
--- the keys of the images of a section's records
+-- the keys of the images of a section's records: "the images of internals, calls and live returns"
 abbrev pub imageKeys : ℕ → List ℕ → List ℕ → List ℕ → List ℕ
 imageKeys w s f m = keysOf (images m (keep (kept f) (records w s)))
 

@@ -1,7 +1,6 @@
 -- `maps::tests_number` meets its contract, test by test. Assumes nothing.
 use Rattle.maps.proofs.Checking.{number-15, number-16, number-17, number-18, number-19, number-20, number-0}
 use borrow.Author.Tests.{not-true, not-false}
-use native.Mathlib.Omega.{arith}
 use mathlib.Core.Path.{sym, _∙_}
 use borrow.Author.Needs.{needs}
 use Rattle.maps.proofs.tests_number.Statement.{statement}
@@ -22,26 +21,26 @@ looks-agree-requires c κs = search needs
 returns-3 : tie.Need-returns-3
 returns-3 c = number-17 _ _ _ _ _ _ (c .before .before .before .before .if1 .left) (sym (c .before .before .before .numbered .ensures) ∙ not-false _ (c .before .before .if2 .left)) (sym (c .before .looks-agree .ensures) ∙ not-true _ (c .if3 .taken))
 
-moves-matched-requires : tie.Need-moves-matched-requires
-moves-matched-requires c κs = let a = c .before .before .before .before .before .before .before .before .before .before .before in (a .pre .internals-ascend, omega (arith, a .pre .few))
+records-matched-requires : tie.Need-records-matched-requires
+records-matched-requires c κs = c .before .before .before .before .before .before .before .before .before .before .before .pre .internals-lent
 
 returns-4 : tie.Need-returns-4
-returns-4 c = number-18 _ _ _ _ _ _ (c .before .before .before .before .before .before .if1 .left) (sym (c .before .before .before .before .before .numbered .ensures) ∙ not-false _ (c .before .before .before .before .if2 .left)) (sym (c .before .before .before .looks-agree .ensures) ∙ not-false _ (c .before .before .if3 .left)) (sym (c .before .moves-matched .ensures) ∙ not-true _ (c .if4 .taken))
+returns-4 c = number-18 _ _ _ _ _ _ (c .before .before .before .before .before .before .if1 .left) (sym (c .before .before .before .before .before .numbered .ensures) ∙ not-false _ (c .before .before .before .before .if2 .left)) (sym (c .before .before .before .looks-agree .ensures) ∙ not-false _ (c .before .before .if3 .left)) (sym (c .before .records-matched .ensures) ∙ not-true _ (c .if4 .taken))
 
-moves-matched-requires-2 : tie.Need-moves-matched-requires-2
-moves-matched-requires-2 c κs = let a = c .before .before .before .before .before .before .before .before .before .before .before .before .before in (a .pre .calls-ascend, omega (arith, a .pre .few))
+records-matched-requires-2 : tie.Need-records-matched-requires-2
+records-matched-requires-2 c κs = c .before .before .before .before .before .before .before .before .before .before .before .before .before .pre .calls-lent
 
 returns-5 : tie.Need-returns-5
-returns-5 c = number-19 _ _ _ _ _ _ (c .before .before .before .before .before .before .before .before .if1 .left) (sym (c .before .before .before .before .before .before .before .numbered .ensures) ∙ not-false _ (c .before .before .before .before .before .before .if2 .left)) (sym (c .before .before .before .before .before .looks-agree .ensures) ∙ not-false _ (c .before .before .before .before .if3 .left)) (sym (c .before .before .before .moves-matched .ensures) ∙ not-false _ (c .before .before .if4 .left)) (sym (c .before .moves-matched2 .ensures) ∙ not-true _ (c .if5 .taken))
+returns-5 c = number-19 _ _ _ _ _ _ (c .before .before .before .before .before .before .before .before .if1 .left) (sym (c .before .before .before .before .before .before .before .numbered .ensures) ∙ not-false _ (c .before .before .before .before .before .before .if2 .left)) (sym (c .before .before .before .before .before .looks-agree .ensures) ∙ not-false _ (c .before .before .before .before .if3 .left)) (sym (c .before .before .before .records-matched .ensures) ∙ not-false _ (c .before .before .if4 .left)) (sym (c .before .records-matched2 .ensures) ∙ not-true _ (c .if5 .taken))
 
-returns-matched-requires : tie.Need-returns-matched-requires
-returns-matched-requires c κs = let a = c .before .before .before .before .before .before .before .before .before .before .before .before .before .before .before in (a .pre .returns-ascend, omega (arith, a .pre .few))
+records-matched-requires-3 : tie.Need-records-matched-requires-3
+records-matched-requires-3 c κs = c .before .before .before .before .before .before .before .before .before .before .before .before .before .before .before .pre .returns-lent
 
 returns-6 : tie.Need-returns-6
-returns-6 c = number-20 _ _ _ _ _ _ (c .before .before .before .before .before .before .before .before .before .before .if1 .left) (sym (c .before .before .before .before .before .before .before .before .before .numbered .ensures) ∙ not-false _ (c .before .before .before .before .before .before .before .before .if2 .left)) (sym (c .before .before .before .before .before .before .before .looks-agree .ensures) ∙ not-false _ (c .before .before .before .before .before .before .if3 .left)) (sym (c .before .before .before .before .before .moves-matched .ensures) ∙ not-false _ (c .before .before .before .before .if4 .left)) (sym (c .before .before .before .moves-matched2 .ensures) ∙ not-false _ (c .before .before .if5 .left)) (sym (c .before .returns-matched .ensures) ∙ not-true _ (c .if6 .taken))
+returns-6 c = number-20 _ _ _ _ _ _ (c .before .before .before .before .before .before .before .before .before .before .if1 .left) (sym (c .before .before .before .before .before .before .before .before .before .numbered .ensures) ∙ not-false _ (c .before .before .before .before .before .before .before .before .if2 .left)) (sym (c .before .before .before .before .before .before .before .looks-agree .ensures) ∙ not-false _ (c .before .before .before .before .before .before .if3 .left)) (sym (c .before .before .before .before .before .records-matched .ensures) ∙ not-false _ (c .before .before .before .before .if4 .left)) (sym (c .before .before .before .records-matched2 .ensures) ∙ not-false _ (c .before .before .if5 .left)) (sym (c .before .records-matched3 .ensures) ∙ not-true _ (c .if6 .taken))
 
 returns-7 : tie.Need-returns-7
-returns-7 c = number-0 _ _ _ _ _ _ (c .before .before .before .before .before .before .before .before .before .before .if1 .left) (sym (c .before .before .before .before .before .before .before .before .before .numbered .ensures) ∙ not-false _ (c .before .before .before .before .before .before .before .before .if2 .left)) (sym (c .before .before .before .before .before .before .before .looks-agree .ensures) ∙ not-false _ (c .before .before .before .before .before .before .if3 .left)) (sym (c .before .before .before .before .before .moves-matched .ensures) ∙ not-false _ (c .before .before .before .before .if4 .left)) (sym (c .before .before .before .moves-matched2 .ensures) ∙ not-false _ (c .before .before .if5 .left)) (sym (c .before .returns-matched .ensures) ∙ not-false _ (c .if6 .left))
+returns-7 c = number-0 _ _ _ _ _ _ (c .before .before .before .before .before .before .before .before .before .before .if1 .left) (sym (c .before .before .before .before .before .before .before .before .before .numbered .ensures) ∙ not-false _ (c .before .before .before .before .before .before .before .before .if2 .left)) (sym (c .before .before .before .before .before .before .before .looks-agree .ensures) ∙ not-false _ (c .before .before .before .before .before .before .if3 .left)) (sym (c .before .before .before .before .before .records-matched .ensures) ∙ not-false _ (c .before .before .before .before .if4 .left)) (sym (c .before .before .before .records-matched2 .ensures) ∙ not-false _ (c .before .before .if5 .left)) (sym (c .before .records-matched3 .ensures) ∙ not-false _ (c .if6 .left))
 
 pub tests-number-spec : {M : Type 1} → statement M
 tests-number-spec =
@@ -52,10 +51,10 @@ tests-number-spec =
     returns-2
     looks-agree-requires
     returns-3
-    moves-matched-requires
+    records-matched-requires
     returns-4
-    moves-matched-requires-2
+    records-matched-requires-2
     returns-5
-    returns-matched-requires
+    records-matched-requires-3
     returns-6
     returns-7)
