@@ -137,7 +137,7 @@ pub extern "C" fn basilvault_check(table: &[u8], map: &[u8], values: &mut [u64])
         record { number = r; buffers = []; values = now (values .exit) }
         ≡ checkOut (now (values .entry)) (checkOf standard (now (table .entry)) (now (map .entry))) ⌝ }
 {
-    let checked = quotient::check(table, map);
+    let checked = maps::check(table, map);
     match checked {
         Checked::Accepted(classes) => {
             let answer = [classes as u64];

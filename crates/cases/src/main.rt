@@ -214,7 +214,7 @@ fn say_check(rest: &[u8]) -> bool {
     if rest.len() < end {
         return say(b" ?\n");
     }
-    let checked = quotient::check(&rest[end..], &rest[2..end]);
+    let checked = maps::check(&rest[end..], &rest[2..end]);
     match checked {
         Checked::Accepted(classes) => {
             number(0);

@@ -19,7 +19,7 @@ use Rattle.table.specs.Maps.{classOf, numbered, JoinedBy, Proper, RaqMap}
 use Rattle.table.proofs.Bytes.{read-well-formed}
 use Rattle.tops.proofs.Formed.{reachable?}
 use Rattle.maps.specs.Check.{mapTests, checkNumber}
-use Rattle.maps.proofs.Matching.{Passed, passed-matched, matched-passed}
+use Rattle.maps.proofs.Conditions.{Passed, passed-matched, matched-passed}
 
 module _ (L : Limits) (t : Table) (wf : WellFormed L t) (m : List ℕ) where
   tests-raq : firstFailed (mapTests L t m) ≡ 0 → Proper t m × RaqMap t m

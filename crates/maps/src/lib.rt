@@ -1,4 +1,24 @@
 // Checking a state map.
+ghost use mathlib.Core.Path.{_≡_};
+ghost use Rattle.lists.specs.Lists.{firstFailed};
+ghost use Rattle.table.specs.Limits.{standard};
+ghost use Rattle.table.specs.File.{tableOf};
+ghost use Rattle.maps.specs.Check.{mapTests, checkOf};
+ghost use Rattle.maps.specs.Accepting.{examinedFor, AcceptsExactly};
+ghost use Rattle.maps.specs.Sections.{Known, Parted, partTests};
+
+mod matching;
+mod numbering;
+
+pub use matching::keeps;
+use matching::looks_agree;
+use matching::records_matched;
+pub use numbering::class_count;
+pub use numbering::class_of;
+use numbering::numbered;
+use table::Section;
+use table::Starts;
+use tops::Examined;
 
 // What the check answers.
 pub enum Checked {
@@ -6,4 +26,84 @@ pub enum Checked {
     Accepted(usize),
     // 1 to 8, 15 to 20
     Refused(u8),
+}
+
+// The first of 15 to 20 that applies, over the parts of a table; or 0.
+fn tests_number(
+    states: &[u8],
+    internals: &[u8],
+    calls: &[u8],
+    returns: &[u8],
+    words: &[u32],
+    map: &[u8],
+) -> u8
+    requires { ⌜ Parted (now states) (now internals) (now calls) (now returns) ⌝ }
+    ensures { λ r. ⌜ r ≡ firstFailed (partTests (now (states .entry)) (now (internals .entry)) (now (calls .entry)) (now (returns .entry)) (now (words .entry)) (now (map .entry))) ⌝ }
+{
+    let n = states.len();
+    if map.len() != n {
+        return 15;
+    }
+    if !numbered(map) {
+        return 16;
+    }
+    if !looks_agree(states, map) {
+        return 17;
+    }
+    if !records_matched(internals, 3, words, n, map) {
+        return 18;
+    }
+    if !records_matched(calls, 3, words, n, map) {
+        return 19;
+    }
+    if !records_matched(returns, 4, words, n, map) {
+        return 20;
+    }
+    0
+}
+
+// The first of 15 to 20 that applies to a read table: its sections are handed on as parts of the file.
+fn map_number(table: &[u8], starts: Starts, words: &[u32], map: &[u8]) -> u8
+    requires { ⌜ Known (now table) starts (now words) ⌝ }
+    ensures { λ r. ⌜ r ≡ firstFailed (mapTests standard (tableOf (now (table .entry))) (now (map .entry))) ⌝ }
+{
+    tests_number(
+        table::part(table, starts, Section::States),
+        table::part(table, starts, Section::Internals),
+        table::part(table, starts, Section::Calls),
+        table::part(table, starts, Section::Returns),
+        words,
+        map,
+    )
+}
+
+// Reads a table, works out its tops and checks a map: the examined table, its number that of the check.
+pub fn examine(table: &[u8], map: &[u8]) -> Examined
+    ensures { λ r. ⌜ r ≡ examinedFor standard (now (table .entry)) (now (map .entry)) ⌝ }
+{
+    let examined = tops::examine(table);
+    if examined.number != 0 {
+        return examined;
+    }
+    let starts = examined.starts;
+    let words = examined.words;
+    let number = map_number(table, starts, &words, map);
+    Examined {
+        number,
+        starts,
+        words,
+        found: examined.found,
+    }
+}
+
+// Checks a map: the class count, or the first refusal that applies.
+pub fn check(table: &[u8], map: &[u8]) -> Checked
+    ensures { λ r. ⌜ r ≡ checkOf standard (now (table .entry)) (now (map .entry)) ⌝ }
+    ensures exact { λ r. ⌜ AcceptsExactly standard (now (table .entry)) (now (map .entry)) r ⌝ }
+{
+    let examined = examine(table, map);
+    if examined.number != 0 {
+        return Checked::Refused(examined.number);
+    }
+    Checked::Accepted(class_count(map))
 }

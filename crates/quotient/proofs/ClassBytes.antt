@@ -14,8 +14,9 @@ use Rattle.lists.proofs.Upto.{Counting, counting, any-passed, any-found, any-do
 use Rattle.table.specs.File.{Table}
 use Rattle.table.specs.Reading.{isInitial, isAccepting}
 use Rattle.table.specs.Maps.{classOf}
+use Rattle.maps.specs.Sections.{ofStates}
 use Rattle.quotient.specs.Quotient.{memberHas, bitOf, classByte}
-use Rattle.quotient.specs.Sections.{ofStates, flagged, classBytes}
+use Rattle.quotient.specs.Sections.{flagged, classBytes}
 use Rattle.quotient.proofs.States.{getD-map}
 
 -- ---- members

@@ -5,14 +5,10 @@ pub mod States
 pub mod Automaton
 pub mod Table
 pub mod Theorems
-pub mod Numbered
 pub mod ClassBytes
-pub mod Matched
 pub mod Keys
 pub mod Inserting
 pub mod Collecting
-pub mod Reaching
 pub mod Writing
 pub mod Whole
-pub mod Checking
 pub mod Quotienting

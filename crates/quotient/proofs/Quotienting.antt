@@ -24,19 +24,21 @@ use Rattle.table.proofs.Bytes.{Bytes, Small, records-wide, read-well-formed}
 use Rattle.table.proofs.Parts.{symbols-read, states-read, internals-read, calls-read, returns-read}
 use Rattle.tops.specs.Tops.{live, liveReturns}
 use Rattle.maps.specs.Check.{checkNumber}
+use Rattle.maps.specs.Sections.{ofStates, kept, Known}
+use Rattle.maps.proofs.Matched.{move-kept, return-kept}
 use Rattle.quotient.specs.Quotient.{image, images, memberHas, classByte, quotientTable, quotientBytes, quotientNumber, QuotientDone, quotientOf}
 use Rattle.quotient.specs.Demands.{WritesQuotient, WritesSameWords}
 use Rattle.table.specs.Keys.{key}
 use Rattle.table.proofs.Keys.{part-bytes}
-use Rattle.quotient.specs.Keys.{lastBytes, Holds, kept}
-use Rattle.quotient.specs.Sections.{ofStates, classBytes, keyedTable, Known, Sized, imageKeys, partedQuotient, writtenFor}
+use Rattle.quotient.specs.Keys.{lastBytes, Holds}
+use Rattle.quotient.specs.Sections.{classBytes, keyedTable, Sized, imageKeys, partedQuotient, writtenFor}
 use Rattle.quotient.specs.declared.Written.{Written}
 use Rattle.quotient.specs.declared.Written.the-variants.{Length, Refused}
 use Rattle.quotient.proofs.Image.{images-mem, images-length, image-length}
 use Rattle.quotient.proofs.Theorems.{writes-quotient, writes-same-words}
 use Rattle.quotient.proofs.ClassBytes.{length-bytes}
 use Rattle.quotient.proofs.Keys.{Same, last-key}
-use Rattle.quotient.proofs.Collecting.{image-bytes, move-kept, return-kept}
+use Rattle.quotient.proofs.Collecting.{image-bytes}
 use Rattle.quotient.proofs.Whole.{bytes-long}
 
 -- ---- counts

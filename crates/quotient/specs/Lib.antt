@@ -2,4 +2,3 @@ pub mod Quotient
 pub mod Demands
 pub mod Keys
 pub mod Sections
-pub mod Accepting

@@ -1,26 +1,17 @@
-// Checking a map, and writing the quotient of a table under a map.
+// Writing the quotient of a table under a map.
 ghost use mathlib.Core.Path.{_≡_};
-ghost use Rattle.lists.specs.Lists.{firstFailed};
 ghost use Rattle.table.specs.Limits.{standard};
-ghost use Rattle.table.specs.File.{tableOf, bytesOf};
-ghost use Rattle.maps.specs.Check.{mapTests, checkOf};
+ghost use Rattle.table.specs.File.{bytesOf};
+ghost use Rattle.maps.specs.Sections.{Known};
 ghost use Rattle.quotient.specs.Quotient.{quotientBytes, quotientOf};
 ghost use Rattle.quotient.specs.Demands.{WritesQuotient, WritesSameWords};
-ghost use Rattle.quotient.specs.Accepting.{AcceptsExactly};
-ghost use Rattle.quotient.specs.Sections.{Known, Parted, Sized, partTests, partedQuotient, writtenFor};
+ghost use Rattle.quotient.specs.Sections.{Sized, partedQuotient, writtenFor};
 
 mod images;
-mod matching;
-mod numbering;
 mod write;
 
 use images::collect;
-use maps::Checked;
-use matching::looks_agree;
-use matching::moves_matched;
-use matching::returns_matched;
-use numbering::class_count;
-use numbering::numbered;
+use maps::class_count;
 use table::Section;
 use table::Starts;
 use write::put_table;
@@ -31,73 +22,6 @@ pub enum Written {
     Length(usize),
     // 1 to 8, 15 to 21
     Refused(u8),
-}
-
-// The first of 15 to 20 that applies, over the parts of a table; or 0.
-fn tests_number(
-    states: &[u8],
-    internals: &[u8],
-    calls: &[u8],
-    returns: &[u8],
-    words: &[u32],
-    map: &[u8],
-) -> u8
-    requires { ⌜ Parted (now states) (now internals) (now calls) (now returns) ⌝ }
-    ensures { λ r. ⌜ r ≡ firstFailed (partTests (now (states .entry)) (now (internals .entry)) (now (calls .entry)) (now (returns .entry)) (now (words .entry)) (now (map .entry))) ⌝ }
-{
-    let n = states.len();
-    if map.len() != n {
-        return 15;
-    }
-    if !numbered(map) {
-        return 16;
-    }
-    if !looks_agree(states, map) {
-        return 17;
-    }
-    if !moves_matched(internals, n, map) {
-        return 18;
-    }
-    if !moves_matched(calls, n, map) {
-        return 19;
-    }
-    if !returns_matched(returns, words, n, map) {
-        return 20;
-    }
-    0
-}
-
-// The first of 15 to 20 that applies to a read table: its sections are handed on as parts of the file.
-fn map_number(table: &[u8], starts: Starts, words: &[u32], map: &[u8]) -> u8
-    requires { ⌜ Known (now table) starts (now words) ⌝ }
-    ensures { λ r. ⌜ r ≡ firstFailed (mapTests standard (tableOf (now (table .entry))) (now (map .entry))) ⌝ }
-{
-    tests_number(
-        table::part(table, starts, Section::States),
-        table::part(table, starts, Section::Internals),
-        table::part(table, starts, Section::Calls),
-        table::part(table, starts, Section::Returns),
-        words,
-        map,
-    )
-}
-
-// Checks a map: the class count, or the first refusal that applies.
-pub fn check(table: &[u8], map: &[u8]) -> Checked
-    ensures { λ r. ⌜ r ≡ checkOf standard (now (table .entry)) (now (map .entry)) ⌝ }
-    ensures exact { λ r. ⌜ AcceptsExactly standard (now (table .entry)) (now (map .entry)) r ⌝ }
-{
-    let examined = tops::examine(table);
-    if examined.number != 0 {
-        return Checked::Refused(examined.number);
-    }
-    let starts = examined.starts;
-    let words = examined.words;
-    let number = map_number(table, starts, &words, map);
-    if number != 0 {
-        return Checked::Refused(number);
-    }
-    Checked::Accepted(class_count(map))
 }
 
 // The quotient over the parts of a table: its length is known before anything is written.
@@ -161,15 +85,11 @@ pub fn quotient(table: &[u8], map: &[u8], out: &mut [u8]) -> Written
     ensures exact { λ r. ⌜ WritesQuotient standard r (now (table .entry)) (now (map .entry)) (now (out .exit)) ⌝ }
     ensures words { λ r. ⌜ WritesSameWords r (now (table .entry)) (now (out .exit)) ⌝ }
 {
-    let examined = tops::examine(table);
+    let examined = maps::examine(table, map);
     if examined.number != 0 {
         return Written::Refused(examined.number);
     }
     let starts = examined.starts;
     let words = examined.words;
-    let number = map_number(table, starts, &words, map);
-    if number != 0 {
-        return Written::Refused(number);
-    }
     write_read(table, starts, &words, map, out)
 }

@@ -4,10 +4,11 @@ ghost use Prim.Native.Nat.{_+_, _*_, _^_, _<_, _≤_};
 ghost use lib.ListN.{length};
 ghost use Rattle.lists.specs.Lists.{gather, over};
 ghost use Rattle.table.specs.File.{bytes16, bytesOf};
+ghost use Rattle.maps.specs.Sections.{ofStates};
 ghost use Rattle.quotient.specs.Quotient.{memberHas, bitOf, classByte};
 ghost use Rattle.quotient.specs.Keys.{lastBytes};
-ghost use Rattle.quotient.specs.Sections.{ofStates, flagged, classBytes, keyedTable, trailerFrom};
-use super::images::class_of;
+ghost use Rattle.quotient.specs.Sections.{flagged, classBytes, keyedTable, trailerFrom};
+use maps::class_of;
 
 // Bytes to the front of the remaining output.
 pub(crate) fn put_bytes(bytes: &[u8], out: &mut [u8])

@@ -1,6 +1,6 @@
--- `quotient::quotient` meets its contract: refused by reading, refused by a test, or by its length, or written. Assumes nothing.
+-- `quotient::quotient` meets its contract: refused by the check, or by its length, or written. Assumes nothing.
+use Rattle.maps.proofs.Checking.{checked-number, checked-known}
 use Rattle.quotient.proofs.Quotienting.{quotient-refused, quotient-written, quotiented}
-use Rattle.quotient.proofs.Checking.{examined-known, refused-reading, number-tested}
 use mathlib.Core.Path.{_∙_}
 use borrow.Author.Needs.{needs}
 use Rattle.quotient.proofs.quotient.Statement.{statement}
@@ -10,39 +10,19 @@ examine-requires : tie.Need-examine-requires
 examine-requires c κs = search needs
 
 returns : tie.Need-returns
-returns c = quotiented _ _ _ (quotient-refused _ _ _ (refused-reading _ _ (c .before .before .examine .ensures) (c .if1 .taken)) (c .if1 .taken))
-
-slice-aggregate-map-number : tie.Need-slice-aggregate-map-number
-slice-aggregate-map-number c = search needs
-
-map-number-requires : tie.Need-map-number-requires
-map-number-requires c κs = examined-known _ (c .before .before .before .before .before .examine .ensures) (c .before .before .before .if1 .left)
-
-returns-2 : tie.Need-returns-2
-returns-2 c = quotiented _ _ _ (quotient-refused _ _ _ (number-tested _ _ (examined-known _ (c .before .before .before .before .before .before .before .examine .ensures) (c .before .before .before .before .before .if1 .left)) (c .before .map-number .ensures)) (c .if2 .taken))
+returns c = quotiented _ _ _ (quotient-refused _ _ _ (checked-number _ _ (c .before .before .examine .ensures)) (c .if1 .taken))
 
 slice-aggregate-write-read : tie.Need-slice-aggregate-write-read
 slice-aggregate-write-read c = search needs
 
 write-read-requires : tie.Need-write-read-requires
-write-read-requires c κs = examined-known _ (c .before .before .before .before .before .before .before .before .before .examine .ensures) (c .before .before .before .before .before .before .before .if1 .left)
+write-read-requires c κs = checked-known _ _ (c .before .before .before .before .before .before .examine .ensures) (c .before .before .before .before .if1 .left)
 
 same-length : tie.Need-same-length
 same-length c = search needs
 
-returns-3 : tie.Need-returns-3
-returns-3 c = quotiented _ _ _ (c .before .before .write-read .ensures ∙ quotient-written _ _ _ (number-tested _ _ (examined-known _ (c .before .before .before .before .before .before .before .before .before .before .before .before .examine .ensures) (c .before .before .before .before .before .before .before .before .before .before .if1 .left)) (c .before .before .before .before .before .before .map-number .ensures) ∙ c .before .before .before .before .before .if2 .left))
+returns-2 : tie.Need-returns-2
+returns-2 c = quotiented _ _ _ (c .before .before .write-read .ensures ∙ quotient-written _ _ _ (checked-number _ _ (c .before .before .before .before .before .before .before .before .before .examine .ensures) ∙ c .before .before .before .before .before .before .before .if1 .left))
 
 pub quotient-spec : {M : Type 1} → statement M
-quotient-spec =
-    tie.close
-    (tie.spec
-    examine-requires
-    returns
-    slice-aggregate-map-number
-    map-number-requires
-    returns-2
-    slice-aggregate-write-read
-    write-read-requires
-    same-length
-    returns-3)
+quotient-spec = tie.close (tie.spec examine-requires returns slice-aggregate-write-read write-read-requires same-length returns-2)

@@ -1,7 +1,8 @@
 -- `quotient::write::put_states` meets its contract: the bytes of the classes from here on are still to be written. Assumes nothing.
+use Rattle.maps.specs.Sections.{ofStates}
 use Rattle.quotient.proofs.Writing.{Spelling, spelling, byte-room, byte-spelt, spelt, over-length}
 use Rattle.quotient.proofs.ClassBytes.{length-bytes, byte-of-class}
-use Rattle.quotient.specs.Sections.{ofStates, classBytes}
+use Rattle.quotient.specs.Sections.{classBytes}
 use Rattle.lists.specs.Lists.{over}
 use lib.ListN.{length}
 use native.Mathlib.Omega.{arith}

@@ -1,10 +1,11 @@
 -- `quotient::write::put_table` meets its contract: what is still to be written behind each section. Assumes nothing.
+use Rattle.maps.specs.Sections.{ofStates}
 use Rattle.quotient.proofs.Whole.{gather-long, behindReturns, behindCalls, behindInternals, behindStates, behindSymbols, bytes-apart, length-trailer, bytes-long}
 use Rattle.quotient.proofs.Writing.{Writing, begun, written, part-room, finished, part-put, over-length, same-long}
 use Rattle.quotient.proofs.Keys.{length-last}
 use Rattle.quotient.specs.Keys.{lastBytes}
 use Rattle.quotient.proofs.ClassBytes.{length-bytes}
-use Rattle.quotient.specs.Sections.{ofStates, classBytes, keyedTable, trailerFrom}
+use Rattle.quotient.specs.Sections.{classBytes, keyedTable, trailerFrom}
 use Rattle.table.specs.File.{bytesOf}
 use Rattle.lists.specs.Lists.{gather, over}
 use lib.ListN.{length, take, drop}

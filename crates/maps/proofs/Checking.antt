@@ -1,0 +1,158 @@
+-- The numbers that the check answers, one law for each way to a return of src/, and what its answer promises. Assumes nothing.
+use mathlib.Core.Path.{_≡_, refl, sym, ap, _∙_, subst}
+use mathlib.Core.Logic.{_↔_}
+use mathlib.Core.Bool.{Bool, true, false}
+use mathlib.Core.List.{List, [], _∷_}
+use Prim.Native.Nat.{ℕ, _≤_}
+use native.Mathlib.Omega.{arith}
+use lib.ListN.{length}
+use lib.Dec.{eqb}
+use borrow.Author.Tests.{eqb-true, eqb-false, eq-eqb, ne-eqb}
+use Rattle.lists.specs.Lists.{firstFailed}
+use Rattle.lists.proofs.Refusals.{passes, fails}
+use Rattle.table.specs.Limits.{standard}
+use Rattle.table.specs.File.{records, tableOf}
+use Rattle.table.specs.Reading.{readNumber, ascend}
+use Rattle.table.specs.Maps.{classes, numbered, Proper, RaqMap}
+use Rattle.table.specs.Sections.{partOf}
+use Rattle.table.specs.declared.Starts.{Starts}
+use Rattle.table.specs.declared.view.Section.the-variants.{States, Internals, Calls, Returns}
+use Rattle.table.proofs.Passed.{formed-tested, no-test}
+use Rattle.table.proofs.Bytes.{read-well-formed}
+use Rattle.table.proofs.Facts.{few-states}
+use Rattle.table.proofs.Parts.{states-read, internals-read, calls-read, returns-read}
+use Rattle.tops.specs.declared.Examined.{Examined}
+use Rattle.tops.specs.Demands.{examinedOf}
+use Rattle.maps.specs.declared.Checked.{Checked}
+use Rattle.maps.specs.declared.Checked.the-variants.{Accepted, Refused}
+use Rattle.maps.specs.Check.{looksAgree, movesMatched, returnsMatched, mapTests, checkNumber, checkOf}
+use Rattle.maps.proofs.Accepted.{accepted, accepts}
+use Rattle.maps.specs.Accepting.{IsAccepted, AcceptsExactly, examinedFor}
+use Rattle.maps.specs.Sections.{ofStates, recordMatched, recordsMatched, Known, Parted, partTests}
+
+-- ---- 15 to 20, over the parts of a table
+
+module _ (s i c r f m : List ℕ) where
+  pub number-15 : (length m ≡ length s → ⊥) → 15 ≡ firstFailed (partTests s i c r f m)
+  unfolding partTests
+  number-15 h = sym (fails 15 _ (ne-eqb _ _ h))
+
+  module _ (p15 : length m ≡ length s) where
+    pub number-16 : numbered m ≡ false → 16 ≡ firstFailed (partTests s i c r f m)
+    unfolding partTests
+    number-16 h = sym (passes 15 _ (eq-eqb _ _ p15) ∙ fails 16 _ h)
+
+    module _ (p16 : numbered m ≡ true) where
+      pub number-17 : looksAgree (ofStates s) m ≡ false → 17 ≡ firstFailed (partTests s i c r f m)
+      unfolding partTests
+      number-17 h = sym (passes 15 _ (eq-eqb _ _ p15) ∙ passes 16 _ p16 ∙ fails 17 _ h)
+
+      module _ (p17 : looksAgree (ofStates s) m ≡ true) where
+        pub number-18 : recordsMatched 3 f (records 3 i) (length s) m ≡ false → 18 ≡ firstFailed (partTests s i c r f m)
+        unfolding partTests
+        number-18 h = sym (passes 15 _ (eq-eqb _ _ p15) ∙ passes 16 _ p16 ∙ passes 17 _ p17 ∙ fails 18 _ h)
+
+        module _ (p18 : recordsMatched 3 f (records 3 i) (length s) m ≡ true) where
+          pub number-19 : recordsMatched 3 f (records 3 c) (length s) m ≡ false → 19 ≡ firstFailed (partTests s i c r f m)
+          unfolding partTests
+          number-19 h = sym (passes 15 _ (eq-eqb _ _ p15) ∙ passes 16 _ p16 ∙ passes 17 _ p17 ∙ passes 18 _ p18 ∙ fails 19 _ h)
+
+          module _ (p19 : recordsMatched 3 f (records 3 c) (length s) m ≡ true) where
+            pub number-20 : recordsMatched 4 f (records 4 r) (length s) m ≡ false → 20 ≡ firstFailed (partTests s i c r f m)
+            unfolding partTests
+            number-20 h = sym (passes 15 _ (eq-eqb _ _ p15) ∙ passes 16 _ p16 ∙ passes 17 _ p17 ∙ passes 18 _ p18 ∙ passes 19 _ p19 ∙ fails 20 _ h)
+
+            pub number-0 : recordsMatched 4 f (records 4 r) (length s) m ≡ true → 0 ≡ firstFailed (partTests s i c r f m)
+            unfolding partTests
+            number-0 h = sym (passes 15 _ (eq-eqb _ _ p15) ∙ passes 16 _ p16 ∙ passes 17 _ p17 ∙ passes 18 _ p18 ∙ passes 19 _ p19 ∙ passes 20 _ h ∙ no-test)
+
+-- ---- the parts of a read table
+
+module _ {b f : List ℕ} {s : Starts} (k : Known b s f) {states internals calls returns : List ℕ}
+    (e1 : states ≡ partOf b s States) (e2 : internals ≡ partOf b s Internals) (e3 : calls ≡ partOf b s Calls) (e4 : returns ≡ partOf b s Returns) where
+  pub known-parts : Parted states internals calls returns
+  known-parts =
+      let wf = read-well-formed standard b (k .read .readable) in
+      let few : length states ≤ 256 = omega (arith, ap length (states-read (k .read) e1), few-states wf) in
+      record {
+        internals-lent = record { moves = omega arith; returns = omega arith; in-order = ap ascend (internals-read (k .read) e2) ∙ formed-tested wf .internals-ascend; few = few };
+        calls-lent = record { moves = omega arith; returns = omega arith; in-order = ap ascend (calls-read (k .read) e3) ∙ formed-tested wf .calls-ascend; few = few };
+        returns-lent = record { moves = omega arith; returns = omega arith; in-order = ap ascend (returns-read (k .read) e4) ∙ formed-tested wf .returns-ascend; few = few };
+      }
+
+  -- of records of 3 and 4 bytes the conditions over the width are (ii) to (iv)
+  pub parts-tests : (m : List ℕ) → firstFailed (partTests states internals calls returns f m) ≡ firstFailed (mapTests standard (tableOf b) m)
+  unfolding partTests mapTests looksAgree recordMatched movesMatched returnsMatched
+  parts-tests m =
+      let n = states-read (k .read) e1 in
+      λ j. firstFailed
+      ((15, eqb (length m) (length (n j)))
+      ∷ (16, numbered m)
+      ∷ (17, looksAgree (ofStates (n j)) m)
+      ∷ (18, recordsMatched 3 (k .words j) (internals-read (k .read) e2 j) (length (n j)) m)
+      ∷ (19, recordsMatched 3 (k .words j) (calls-read (k .read) e3 j) (length (n j)) m)
+      ∷ (20, recordsMatched 4 (k .words j) (returns-read (k .read) e4 j) (length (n j)) m)
+      ∷ [])
+
+-- ---- the answer
+
+module _ (b : List ℕ) where
+  -- what a readable table is passed on with
+  known : {s : Starts} {f : List ℕ} → readNumber standard b ≡ 0 → s ≡ examinedOf standard b .starts → f ≡ examinedOf standard b .words → Known b s f
+  unfolding examinedOf
+  known p d e = record { read = record { readable = p; starts = d ∙ rw (eq-eqb _ _ p, examinedOf) }; words = e ∙ rw (eq-eqb _ _ p, examinedOf) }
+
+  module _ {x : Examined} (e : x ≡ examinedOf standard b) where
+    examined-number : x .number ≡ readNumber standard b
+    unfolding examinedOf
+    examined-number = ap (λ (y : Examined). y .number) e ∙ go (eqb (readNumber standard b) 0) refl
+      where
+        go : (t : Bool) → eqb (readNumber standard b) 0 ≡ t → examinedOf standard b .number ≡ readNumber standard b
+        go true p = rw (p, examinedOf) (sym (eqb-true _ _ p))
+        go false p = rw (p, examinedOf)
+
+    pub read-known : x .number ≡ 0 → Known b (x .starts) (x .words)
+    read-known n = known (sym examined-number ∙ n) (ap (λ (y : Examined). y .starts) e) (ap (λ (y : Examined). y .words) e)
+
+module _ (b m : List ℕ) where
+  module _ {x : Examined} (e : x ≡ examinedOf standard b) where
+    with-number : {k : ℕ} → k ≡ checkNumber standard b m → record { number = k; starts = x .starts; words = x .words; found = x .found } ≡ examinedFor standard b m
+    unfolding examinedFor
+    with-number g = λ i. record { number = g i; starts = e i .starts; words = e i .words; found = e i .found }
+
+    pub unread : (x .number ≡ 0 → ⊥) → x ≡ examinedFor standard b m
+    unfolding checkNumber
+    unread n = let p = examined-number b e in with-number (p ∙ rw (ne-eqb (readNumber standard b) 0 (λ q. n (p ∙ q)), checkNumber))
+
+    pub tested : {k : ℕ} → x .number ≡ 0 → k ≡ firstFailed (mapTests standard (tableOf b) m) → record { number = k; starts = x .starts; words = x .words; found = x .found } ≡ examinedFor standard b m
+    unfolding checkNumber
+    tested n f = with-number (f ∙ sym (rw (eq-eqb (readNumber standard b) 0 (sym (examined-number b e) ∙ n), checkNumber) refl))
+
+  module _ {y : Examined} (e : y ≡ examinedFor standard b m) where
+    pub checked-number : checkNumber standard b m ≡ y .number
+    unfolding examinedFor
+    checked-number = ap (λ (z : Examined). z .number) (sym e)
+
+    pub checked-known : y .number ≡ 0 → Known b (y .starts) (y .words)
+    unfolding examinedFor
+    checked-known n = known b (accepted standard b m (checked-number ∙ n) .readable) (ap (λ (z : Examined). z .starts) e) (ap (λ (z : Examined). z .words) e)
+
+  pub check-refused : {k : ℕ} → checkNumber standard b m ≡ k → (k ≡ 0 → ⊥) → Refused k ≡ checkOf standard b m
+  unfolding checkOf
+  check-refused e n = sym (rw (ne-eqb (checkNumber standard b m) 0 (λ q. n (sym e ∙ q)), checkOf) (ap (λ k. Refused k) e))
+
+  pub check-accepted : {k n : ℕ} → checkNumber standard b m ≡ k → k ≡ 0 → n ≡ classes m → Accepted n ≡ checkOf standard b m
+  unfolding checkOf
+  check-accepted e z l = sym (rw (eq-eqb (checkNumber standard b m) 0 (e ∙ z), checkOf) (ap (λ n. Accepted n) (sym l)))
+
+  -- demand 2
+  exactly : AcceptsExactly standard b m (checkOf standard b m)
+  unfolding checkOf
+  exactly readable = go (eqb (checkNumber standard b m) 0) refl
+    where
+      go : (t : Bool) → eqb (checkNumber standard b m) 0 ≡ t → IsAccepted (elim t as (λ _. Checked) [ true ↦ Accepted (classes m) | false ↦ Refused (checkNumber standard b m) ]) ↔ (Proper (tableOf b) m × RaqMap (tableOf b) m)
+      go true p = (λ z. let a = accepted standard b m (eqb-true _ _ p) in (a .proper, a .raq), λ z. tt)
+      go false p = (λ z. absurd z, λ z. eqb-false (checkNumber standard b m) 0 p (accepts standard b m (record { readable = readable; proper = z .0; raq = z .1 })))
+
+  pub checked : {r : Checked} → r ≡ checkOf standard b m → (r ≡ checkOf standard b m) × AcceptsExactly standard b m r
+  checked {r} e = (e, subst (λ (y : Checked). AcceptsExactly standard b m y) (sym e) exactly)

@@ -1,0 +1,41 @@
+-- `maps::map_number` meets its contract: the parts that are handed on are the sections. Assumes nothing.
+use mathlib.Core.Path.{_∙_}
+use Rattle.maps.proofs.Checking.{known-parts, parts-tests}
+use borrow.Author.Needs.{needs}
+use Rattle.maps.proofs.map_number.Statement.{statement}
+use Rattle.maps.proofs.map_number.Tie as tie
+
+part-requires : tie.Need-part-requires
+part-requires c κs = search needs
+
+part-requires-2 : tie.Need-part-requires-2
+part-requires-2 c κs = search needs
+
+part-requires-3 : tie.Need-part-requires-3
+part-requires-3 c κs = search needs
+
+part-requires-4 : tie.Need-part-requires-4
+part-requires-4 c κs = search needs
+
+tests-number-requires : tie.Need-tests-number-requires
+tests-number-requires c κs =
+    known-parts (c .before .before .before .before .before .before .before .pre)
+    (c .before .before .before .part .ensures) (c .before .before .part2 .ensures) (c .before .part3 .ensures) (c .part4 .ensures)
+
+returns : tie.Need-returns
+returns c =
+    c .tests-number .ensures
+    ∙ parts-tests (c .before .before .before .before .before .before .before .before .pre)
+    (c .before .before .before .before .part .ensures) (c .before .before .before .part2 .ensures) (c .before .before .part3 .ensures) (c .before .part4 .ensures)
+    (c .before .before .before .before .before .before .before .before .args .map .now)
+
+pub map-number-spec : {M : Type 1} → statement M
+map-number-spec =
+    tie.close
+    (tie.spec
+    part-requires
+    part-requires-2
+    part-requires-3
+    part-requires-4
+    tests-number-requires
+    returns)

@@ -1,0 +1,79 @@
+-- `maps::matching::record_met` meets its contract: the states before this one match the return. Assumes nothing.
+use Rattle.maps.specs.Sections.{recordMatched}
+use Rattle.table.specs.File.{records}
+use Rattle.table.specs.Maps.{classOf}
+use Rattle.maps.proofs.Matched.{record-dead}
+use Rattle.lists.proofs.Upto.{Counting, counting, all-passed, all-failed, all-done}
+use Rattle.lists.specs.Lists.{all}
+use borrow.Author.Tests.{not-true, not-false}
+use native.Mathlib.Omega.{arith}
+use Prim.Native.Nat.{_-_}
+use mathlib.Core.Path.{sym, ap, _∙_}
+use borrow.Author.Needs.{needs}
+use Rattle.maps.proofs.matching.record_met.Statement.{statement}
+use Rattle.maps.proofs.matching.record_met.Tie as tie
+
+abbrev Inv-states : tie.InvT-states
+Inv-states section width words map fields n class q₀ q = Counting (all (recordMatched width words (records width section) n map fields)) n q
+
+abbrev μ-states : tie.MeasureT-states
+μ-states section width words map fields n class q₀ q = n - q
+
+keeps-requires : tie.Need-keeps-requires Inv-states μ-states
+keeps-requires c κs = search needs
+
+returns : tie.Need-returns Inv-states μ-states
+returns c = let a = c .before .before .before .before .before .before in record-dead _ _ _ _ _ (a .pre .1) (sym (c .before .keeps .ensures) ∙ not-true _ (c .if1 .taken))
+
+shared-slice-read-wide : tie.Need-shared-slice-read-wide Inv-states μ-states
+shared-slice-read-wide c = let a = c .before .before .before .before .before .before .before in omega (arith, a .pre .0 .moves, a .pre .1)
+
+wide-requires : tie.Need-wide-requires Inv-states μ-states
+wide-requires c κs = search needs
+
+class-of-requires : tie.Need-class-of-requires Inv-states μ-states
+class-of-requires c κs = search needs
+
+states-holds : tie.Need-states-holds Inv-states μ-states
+states-holds c = counting _ _
+
+record-matched-requires : tie.Need-record-matched-requires Inv-states μ-states
+record-matched-requires c κs =
+    let a = c .before .before .before .before .before .before .before .before .before .before .before in
+    let k = sym (c .before .before .before .before .before .before .keeps .ensures) ∙ not-false _ (c .before .before .before .before .before .if1 .left) in
+    let e = c .before .before .class-of .ensures ∙ ap (classOf (a .args .map .now)) (c .before .before .before .wide .ensures) in
+    ((a .pre .0, a .pre .1, k), (e, omega (arith, a .pre .0 .few, c .states-test .taken)))
+
+returns-2 : tie.Need-returns-2 Inv-states μ-states
+returns-2 c = all-failed _ (c .before .before .before .states .inv) (c .before .before .states-test .taken) (sym (c .before .record-matched .ensures) ∙ not-true _ (c .if2 .taken))
+
+add-q : tie.Need-add-q Inv-states μ-states
+add-q c = search needs
+
+states-less : tie.Need-states-less Inv-states μ-states
+states-less c = search needs
+
+states-again : tie.Need-states-again Inv-states μ-states
+states-again c = all-passed _ (c .before .before .before .states .inv) (c .before .before .states-test .taken) (sym (c .before .record-matched .ensures) ∙ not-false _ (c .if2 .left))
+
+returns-3 : tie.Need-returns-3 Inv-states μ-states
+returns-3 c = all-done _ (c .before .states .inv) (c .states-test .left)
+
+pub record-met-spec : {M : Type 1} → statement M
+record-met-spec =
+    tie.close
+    (tie.spec
+    Inv-states
+    μ-states
+    keeps-requires
+    returns
+    shared-slice-read-wide
+    wide-requires
+    class-of-requires
+    states-holds
+    record-matched-requires
+    returns-2
+    add-q
+    states-less
+    states-again
+    returns-3)
