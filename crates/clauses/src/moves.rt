@@ -9,6 +9,7 @@ use super::emit::Tally;
 use super::literals::no_literals;
 use super::matched::matched;
 use super::matched::with_premise;
+use table::move_key;
 use table::starting;
 
 // The clause of a record (p, a, p') and a state q.
@@ -27,8 +28,7 @@ fn move_clause(
     if q == p {
         return tally;
     }
-    let key = [q, a];
-    let found = starting(section, 3, &key);
+    let found = starting(section, 3, move_key(q, a));
     let premises = with_premise(no_literals(), p, q);
     matched(found, 3, target, premises, tally, list)
 }

@@ -13,6 +13,7 @@ use super::emit::Tally;
 use super::literals::no_literals;
 use super::matched::matched;
 use super::matched::with_premise;
+use table::return_key;
 use table::starting;
 use tops::later_tops;
 use tops::next_top;
@@ -49,8 +50,7 @@ fn return_clause(section: &[u8], x: Return, q: u8, u: u8, tally: Tally, list: &m
     if same_place(x, q, u) {
         return tally;
     }
-    let key = [q, x.symbol, u];
-    let found = starting(section, 4, &key);
+    let found = starting(section, 4, return_key(q, x.symbol, u));
     let premises = with_premise(with_premise(no_literals(), x.from, q), x.under, u);
     matched(found, 4, x.to, premises, tally, list)
 }

@@ -1,7 +1,8 @@
 // Whether a map's relation meets the conditions (i) to (iv) of Definition 1.
 ghost use mathlib.Core.Path.{_≡_};
 ghost use mathlib.Core.Bool.{true};
-ghost use Prim.Native.Nat.{_+_, _<_};
+ghost use mathlib.Core.List.{List};
+ghost use Prim.Native.Nat.{ℕ, _<_, _≤_};
 ghost use lib.ListN.{length, getD};
 ghost use lib.Dec.{eqb};
 ghost use Rattle.lists.specs.Lists.{any};
@@ -9,6 +10,7 @@ ghost use Rattle.lists.specs.Bits.{has};
 ghost use Rattle.table.specs.File.{records};
 ghost use Rattle.table.specs.Reading.{ascend};
 ghost use Rattle.table.specs.Language.{targets};
+ghost use Rattle.table.specs.Keys.{Keyed};
 ghost use Rattle.table.specs.Maps.{classOf, joins};
 ghost use Rattle.maps.specs.Check.{looksAgree, returnMatched};
 ghost use Rattle.maps.specs.Sections.{ofStates, agreesAt, kept, returnMet, recordMatched, recordMet, recordsMatched, Lent};
@@ -84,12 +86,12 @@ pub(crate) fn looks_agree(states: &[u8], map: &[u8]) -> bool
     true
 }
 
-// Some record that starts with the key goes to a target joined to this one.
-fn reaches(section: &[u8], width: usize, key: &[u8], map: &[u8], target: usize) -> bool
-    requires { ⌜ (width ≡ length (now key) + 1) × (width ≤ 4) × (ascend (records width (now section)) ≡ true) ⌝ }
-    ensures { λ r. ⌜ r ≡ any (joins (now (map .entry)) target) (targets (records width (now (section .entry))) (now (key .entry))) ⌝ }
+// Some record that starts with a key, by its number, goes to a target joined to this one.
+fn reaches(section: &[u8], width: usize, wanted: u32, map: &[u8], target: usize) -> bool
+    requires { ⌜ (3 ≤ width) × (ascend (records width (now section)) ≡ true) ⌝ }
+    ensures { λ r. ⌜ ((k : List ℕ) → Keyed width k wanted → r ≡ any (joins (now (map .entry)) target) (targets (records width (now (section .entry))) k)) ⌝ }
 {
-    let found = table::starting(section, width, key);
+    let found = table::starting(section, width, wanted);
     let mut at: usize = 0;
     'records: while width <= found.len() - at {
         let next = at + width;
@@ -121,8 +123,8 @@ fn return_matched(
     if !has_top(words, q, u) {
         return true;
     }
-    let key = [q as u8, fields[1], u as u8];
-    reaches(section, 4, &key, map, wide(fields[3]))
+    let wanted = table::return_key(q as u8, fields[1], u as u8);
+    reaches(section, 4, wanted, map, wide(fields[3]))
 }
 
 // .. and every stack state.
@@ -161,8 +163,8 @@ fn record_matched(
         return true;
     }
     if width == 3 {
-        let key = [q as u8, fields[1]];
-        return reaches(section, width, &key, map, wide(fields[2]));
+        let wanted = table::move_key(q as u8, fields[1]);
+        return reaches(section, width, wanted, map, wide(fields[2]));
     }
     return_met(section, words, map, fields, n, q)
 }

@@ -3,47 +3,66 @@
 use mathlib.Core.Path.{_≡_, refl, sym, ap, _∙_}
 use mathlib.Core.Bool.{Bool, true, false, _&&_, _||_, true≢false}
 use mathlib.Core.List.{List, [], _∷_}
-use Prim.Native.Nat.{ℕ, zero, suc, _+_, _*_, _^_, _≤_, _<_}
-use native.Mathlib.Nat.{pow-suc, pow-le-pow-right}
-use native.Mathlib.Numerals.{add-one}
+use Prim.Native.Nat.{ℕ, zero, suc, _+_, _*_, _/_, _≤_, _<_}
+use native.Mathlib.Nat.{add-zero}
 use native.Mathlib.Omega.{arith}
 use native.Mathlib.Decide.{decLt}
-use lib.ListN.{length, getD, take, drop, drop-of-length-le, List·getD-eq-default}
-use lib.Seq.{drop-cons, getD-take, getD-drop, length-take-le, take-all}
+use lib.ListN.{length, getD, take, drop, length-drop, List·getD-eq-default}
+use lib.Seq.{getD-take, getD-drop, length-take-le, take-all}
 use lib.Dec.{eqb, ltb}
 use borrow.Author.Tests.{lt-ltb, le-ltb, eq-eqb, ne-eqb, ltb-true}
 use Rattle.lists.specs.Lists.{same}
 use Rattle.lists.proofs.Members.{same-true, same-of}
 use Rattle.table.specs.Reading.{before}
 use Rattle.table.specs.Spans.{startsWith}
-use Rattle.table.specs.Keys.{keyFrom, key}
+use Rattle.table.specs.Keys.{keyFrom, key, Keyed}
 use Rattle.table.proofs.Bytes.{Bytes}
 
 -- ---- bytes as a number, byte by byte
 
-pub record Keying (bytes : List ℕ) (k i : ℕ) : Type 0 where
-  pub small : k < 256 ^ i
-  pub meets : key bytes ≡ keyFrom k (drop i bytes)
+from-next : (n : ℕ) (s : List ℕ) (k : ℕ) → n < length s → keyFrom k (take (suc n) s) ≡ keyFrom k (take n s) * 256 + getD s n 0
+unfolding keyFrom
+from-next n [] k h = absurd (omega arith)
+from-next zero (x ∷ s) k h = refl
+from-next (suc n) (x ∷ s) k h = from-next n s (k * 256 + x) (omega arith)
 
-pub keying : (bytes : List ℕ) → Keying bytes 0 0
-keying bytes = record { small = omega arith; meets = refl }
+-- the first byte at a place
+pub first-byte : (s : List ℕ) (at : ℕ) {l : ℕ} → at < length s → l ≡ 0 * 256 + getD s at 0 → l ≡ key (take 1 (drop at s))
+unfolding keyFrom
+first-byte s at h e =
+    let inside : 0 < length (drop at s) = omega (arith, length-drop at s) in
+    let f : getD (drop at s) 0 0 ≡ getD s at 0 = getD-drop at s 0 0 ∙ ap (λ (i : ℕ). getD s i 0) (add-zero at) in
+    e ∙ ap (λ (b : ℕ). 0 * 256 + b) (sym f) ∙ sym (from-next 0 (drop at s) 0 inside)
 
-module _ {bytes : List ℕ} {k i : ℕ} (w : Keying bytes k i) where
-  pub key-fits : i ≤ 3 → k < 16777216
-  key-fits h = omega (arith, w .small, pow-le-pow-right {n = 256} (omega arith) {i = i} {j = 3} h)
+-- one byte more of those at a place
+pub next-byte : (s : List ℕ) (at n : ℕ) {m b l : ℕ} → m ≡ key (take n (drop at s)) → at + n < length s → b ≡ getD s (at + n) 0 → l ≡ m * 256 + b → l ≡ key (take (suc n) (drop at s))
+next-byte s at n {m} {b} {l} e h f g =
+    let inside : n < length (drop at s) = omega (arith, length-drop at s) in
+    g ∙ (λ j. e j * 256 + (f ∙ sym (getD-drop at s n 0)) j) ∙ sym (from-next n (drop at s) 0 inside)
 
-  pub key-byte : {b l : ℕ} → i < length bytes → b < 256 → b ≡ getD bytes i 0 → l ≡ k * 256 + b → Keying bytes l (i + 1)
-  unfolding keyFrom
-  key-byte {b} {l} h s e f = record {
-    small = rw (add-one i, pow-suc 256 i) (omega (arith, w .small));
-    meets =
-        w .meets ∙ ap (keyFrom k) (drop-cons bytes i 0 h)
-        ∙ λ j. keyFrom (sym (f ∙ ap (λ x. k * 256 + x) e) j) (drop (sym (add-one i) j) bytes);
-  }
+-- the keys of a move and of a return
+pub two-keyed : {q a n : ℕ} → q < 256 → a < 256 → n ≡ (0 * 256 + q) * 256 + a → Keyed 3 (q ∷ a ∷ []) n
+unfolding keyFrom
+two-keyed {q} {a} h i e = record { least = omega arith; most = omega arith; long = refl; bytes = go; number = e }
+  where
+    go : Bytes (q ∷ a ∷ [])
+    go zero = h
+    go (suc zero) = i
+    go (suc (suc j)) = omega arith
 
-  pub keyed : length bytes ≤ i → k ≡ key bytes
-  unfolding keyFrom
-  keyed h = sym (w .meets ∙ ap (keyFrom k) (drop-of-length-le bytes h))
+pub three-keyed : {q a s n : ℕ} → q < 256 → a < 256 → s < 256 → n ≡ ((0 * 256 + q) * 256 + a) * 256 + s → Keyed 4 (q ∷ a ∷ s ∷ []) n
+unfolding keyFrom
+three-keyed {q} {a} {s} h i j e = record { least = omega arith; most = omega arith; long = refl; bytes = go; number = e }
+  where
+    go : Bytes (q ∷ a ∷ s ∷ [])
+    go zero = h
+    go (suc zero) = i
+    go (suc (suc zero)) = j
+    go (suc (suc (suc k))) = omega arith
+
+-- without the last byte
+pub but-last : (n : ℕ) (s : List ℕ) → Bytes s → n < length s → key (take (suc n) s) / 256 ≡ key (take n s)
+but-last n s b h = let p = b n in let e = from-next n s 0 h in omega arith
 
 -- ---- parts of bytes
 

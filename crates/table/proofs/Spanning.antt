@@ -8,17 +8,18 @@ use native.Mathlib.Omega.{arith}
 use native.Mathlib.Numerals.{add-one}
 use native.Mathlib.Nat.{zero-add, suc-add, suc-mul, zero-mul, mul-le-mul-right, div-mul-le-self, mul-div-cancel, add-mul}
 use lib.ListN.{length, getD, take, drop, length-drop, drop-of-length-le}
-use lib.Seq.{take-nil, drop-cons, drop-drop, length-take-le, take-take}
+use lib.Seq.{take-nil, drop-cons, drop-drop, getD-drop, length-take-le, take-take}
 use lib.Dec.{eqb, ltb}
+use borrow.Author.Tests.{lt-ltb, le-ltb, eq-eqb, ne-eqb}
 use Rattle.lists.specs.Lists.{keep, parts}
 use Rattle.lists.proofs.Parts.{length-parts, getD-parts}
 use Rattle.table.specs.File.{records}
 use Rattle.table.specs.Reading.{before, ascend}
 use Rattle.table.specs.Sections.{firstAt}
 use Rattle.table.specs.Spans.{startsWith, leading}
-use Rattle.table.specs.Keys.{key}
+use Rattle.table.specs.Keys.{key, Keyed}
 use Rattle.table.proofs.Bytes.{Bytes}
-use Rattle.table.proofs.Keys.{part-bytes, before-key, starts-key}
+use Rattle.table.proofs.Keys.{part-bytes, but-last, before-key, starts-key}
 use Rattle.table.proofs.Order.{before-transitive, ascend-behind, ascend-rest, getD-mem}
 use Rattle.table.proofs.Spans.{kept-span}
 
@@ -31,31 +32,35 @@ record-at : (w : ℕ) (s : List ℕ) (i : ℕ) → i < length s / w → getD (re
 unfolding records
 record-at w s i h = getD-parts (length s / w) w s i h
 
--- its first bytes, as they are lent
-pub first-bytes : (w n : ℕ) (s : List ℕ) (i : ℕ) → n < w → i < length s / w → take (i * w + n - i * w) (drop (i * w) s) ≡ take n (getD (records w s) i [])
-first-bytes w n s i l h =
-    let e : i * w + n - i * w ≡ n = omega arith in
-    rw e (sym (ap (take n) (record-at w s i h) ∙ take-take n w (drop (i * w) s) (omega arith)))
-
 pub length-records : (w : ℕ) (s : List ℕ) → length (records w s) ≡ length s / w
 unfolding records
 length-records w s = length-parts (length s / w) w s
 
--- the numbers of its first bytes and of the key tell whether it stands before the key, and whether it starts with it
-module _ (w : ℕ) (s k : List ℕ) (bs : Bytes s) (bk : Bytes k) (l : length k < w) {i m n : ℕ} (h : i < length s / w) (e : m ≡ key (take (length k) (getD (records w s) i []))) (f : n ≡ key k) where
-  long : length k ≤ length (getD (records w s) i [])
-  long =
-      let inside : w ≤ length (drop (i * w) s) = omega (arith, length-drop (i * w) s, record-inside w s i h) in
-      omega (arith, ap length (record-at w s i h), length-take-le w (drop (i * w) s) inside)
+-- its number without the last byte, beside the key's, tells whether it stands before the key and whether it starts with it
+module _ (s : List ℕ) {w : ℕ} {k : List ℕ} {n : ℕ} (b : Bytes s) (d : Keyed w k n) {i m : ℕ} (h : i < length s / w) (e : m ≡ key (take w (drop (i * w) s)) / 256) where
+  inside : w ≤ length (drop (i * w) s)
+  inside = omega (arith, length-drop (i * w) s, record-inside w s i h)
+
+  long : length (getD (records w s) i []) ≡ w
+  long = ap length (record-at w s i h) ∙ length-take-le w (drop (i * w) s) inside
 
   bytes : Bytes (getD (records w s) i [])
-  bytes = subst Bytes (sym (record-at w s i h)) (part-bytes s bs (i * w) w)
+  bytes = subst Bytes (sym (record-at w s i h)) (part-bytes s b (i * w) w)
+
+  behind : Bytes (drop (i * w) s)
+  behind j = subst (λ x. x < 256) (sym (getD-drop (i * w) s j 0)) (b (i * w + j))
+
+  first : key (take (length k) (getD (records w s) i [])) ≡ m
+  first =
+      let l : w ≡ suc (length k) = omega (arith, d .long) in
+      ap (λ r. key (take (length k) r)) (record-at w s i h) ∙ ap key (take-take (length k) w (drop (i * w) s) (omega (arith, d .long)))
+      ∙ sym (e ∙ ap (λ v. key (take v (drop (i * w) s)) / 256) l ∙ but-last (length k) (drop (i * w) s) behind (omega (arith, inside)))
 
   pub stands : before (getD (records w s) i []) k ≡ ltb m n
-  stands = before-key (getD (records w s) i []) k long bytes bk ∙ λ j. ltb (sym e j) (sym f j)
+  stands = before-key (getD (records w s) i []) k (omega (arith, long, d .long)) bytes (d .bytes) ∙ λ j. ltb (first j) (sym (d .number) j)
 
   pub starts : startsWith k (getD (records w s) i []) ≡ eqb m n
-  starts = starts-key (getD (records w s) i []) k long bytes bk ∙ λ j. eqb (sym e j) (sym f j)
+  starts = starts-key (getD (records w s) i []) k (omega (arith, long, d .long)) bytes (d .bytes) ∙ λ j. eqb (first j) (sym (d .number) j)
 
 -- ---- the first record that does not stand before the key
 
@@ -87,54 +92,76 @@ not-past (r ∷ rs) key (suc i) h e = go (before r key) (not-past rs key i (omeg
     go true k = suc-le-suc k
     go false k = zero-le
 
--- it stands between the two ends
-pub record Halving (rs : List (List ℕ)) (key : List ℕ) (n low high : ℕ) : Type 0 where
-  pub count : length rs ≡ n
+-- it stands between the two ends, for the key that a number is of
+pub record Halving (w : ℕ) (s : List ℕ) (wanted low high : ℕ) : Type 0 where
   pub ordered : low ≤ high
-  pub within : high ≤ n
-  pub above : ascend rs ≡ true → low ≤ firstAt rs key
-  pub below : firstAt rs key ≤ high
+  pub within : high ≤ length s / w
+  pub above : (k : List ℕ) → Keyed w k wanted → ascend (records w s) ≡ true → low ≤ firstAt (records w s) k
+  pub below : (k : List ℕ) → Keyed w k wanted → firstAt (records w s) k ≤ high
 
-pub halving : (rs : List (List ℕ)) (key : List ℕ) {n : ℕ} → length rs ≡ n → Halving rs key n 0 n
-halving rs key e = record { count = e; ordered = omega arith; within = omega arith; above = λ a. zero-le; below = omega (arith, first-within rs key) }
+pub halving : (w : ℕ) (s : List ℕ) {wanted : ℕ} → Halving w s wanted 0 (length s / w)
+halving w s = record { ordered = omega arith; within = omega arith; above = λ k d a. zero-le; below = λ k d. omega (arith, first-within (records w s) k, length-records w s) }
 
-module _ {rs : List (List ℕ)} {key : List ℕ} {n low high middle : ℕ} (w : Halving rs key n low high) (l : low ≤ middle) (h : middle < high) where
-  pub upper-half : before (getD rs middle []) key ≡ true → Halving rs key n (middle + 1) high
-  upper-half t = record { count = w .count; ordered = omega arith; within = w .within; above = λ a. let k = past-it rs key middle a (omega (arith, w)) t in omega arith; below = w .below }
+module _ {w : ℕ} {s : List ℕ} {wanted low high middle m : ℕ} (b : Bytes s) (i : Halving w s wanted low high) (l : low ≤ middle) (h : middle < high) (e : m ≡ key (take w (drop (middle * w) s)) / 256) where
+  there : middle < length s / w
+  there = omega (arith, i)
 
-  pub lower-half : before (getD rs middle []) key ≡ false → Halving rs key n low middle
-  lower-half t = record { count = w .count; ordered = l; within = omega (arith, w); above = w .above; below = not-past rs key middle (omega (arith, w)) t }
+  counted : middle < length (records w s)
+  counted = omega (arith, there, length-records w s)
 
-pub halved : {rs : List (List ℕ)} {key : List ℕ} {n low high : ℕ} → Halving rs key n low high → high ≤ low → ascend rs ≡ true → low ≡ firstAt rs key
-halved w h a = let k = w .above a in omega (arith, w)
+  pub upper-half : m < wanted → Halving w s wanted (middle + 1) high
+  upper-half t = record {
+    ordered = omega arith;
+    within = i .within;
+    above = λ k d a. let g = past-it (records w s) k middle a counted (stands s b d there e ∙ lt-ltb _ _ t) in omega arith;
+    below = i .below;
+  }
+
+  pub lower-half : wanted ≤ m → Halving w s wanted low middle
+  lower-half t = record {
+    ordered = l;
+    within = omega (arith, i);
+    above = i .above;
+    below = λ k d. not-past (records w s) k middle counted (stands s b d there e ∙ le-ltb _ _ t);
+  }
+
+pub halved : {w : ℕ} {s : List ℕ} {wanted low high : ℕ} → Halving w s wanted low high → high ≤ low → (k : List ℕ) → Keyed w k wanted → ascend (records w s) ≡ true → low ≡ firstAt (records w s) k
+halved i h k d a = let g = i .above k d a in let f = i .below k d in omega (arith, i)
 
 -- ---- those that start with the key
 
-pub record Passing (rs : List (List ℕ)) (key : List ℕ) (n from i : ℕ) : Type 0 where
-  pub count : length rs ≡ n
-  pub inside : i ≤ n
-  pub meets : from + leading (drop from rs) key ≡ i + leading (drop i rs) key
+pub record Passing (w : ℕ) (s : List ℕ) (wanted from i : ℕ) : Type 0 where
+  pub ordered : from ≤ i
+  pub within : i ≤ length s / w
+  pub meets : (k : List ℕ) → Keyed w k wanted → from + leading (drop from (records w s)) k ≡ i + leading (drop i (records w s)) k
 
-pub passing : (rs : List (List ℕ)) (key : List ℕ) {n from : ℕ} → length rs ≡ n → from ≤ n → Passing rs key n from from
-passing rs key e h = record { count = e; inside = h; meets = refl }
+pub passing : (w : ℕ) (s : List ℕ) {wanted from : ℕ} → from ≤ length s / w → Passing w s wanted from from
+passing w s h = record { ordered = omega arith; within = h; meets = λ k d. refl }
 
-module _ {rs : List (List ℕ)} {key : List ℕ} {n from i : ℕ} (w : Passing rs key n from i) where
-  module _ (h : i < n) where
-    here : {v : Bool} → startsWith key (getD rs i []) ≡ v → leading (drop i rs) key ≡ elim v [ true ↦ suc (leading (drop (i + 1) rs) key) | false ↦ 0 ]
-    unfolding leading
-    here {v} t =
-        ap (λ x. leading x key) (drop-cons rs i [] (omega (arith, w)))
-        ∙ (λ j. elim (t j) as (λ _. ℕ) [ true ↦ suc (leading (drop (sym (add-one i) j) rs) key) | false ↦ 0 ])
+here : (rs : List (List ℕ)) (k : List ℕ) (i : ℕ) {v : Bool} → i < length rs → startsWith k (getD rs i []) ≡ v → leading (drop i rs) k ≡ elim v [ true ↦ suc (leading (drop (i + 1) rs) k) | false ↦ 0 ]
+unfolding leading
+here rs k i {v} h t =
+    ap (λ x. leading x k) (drop-cons rs i [] h)
+    ∙ (λ j. elim (t j) as (λ _. ℕ) [ true ↦ suc (leading (drop (sym (add-one i) j) rs) k) | false ↦ 0 ])
 
-    pub pass-on : startsWith key (getD rs i []) ≡ true → Passing rs key n from (i + 1)
-    pass-on t = record { count = w .count; inside = omega arith; meets = w .meets ∙ omega (arith, here t) }
+module _ {w : ℕ} {s : List ℕ} {wanted from i : ℕ} (p : Passing w s wanted from i) where
+  module _ {m : ℕ} (b : Bytes s) (h : i < length s / w) (e : m ≡ key (take w (drop (i * w) s)) / 256) where
+    in-records : i < length (records w s)
+    in-records = omega (arith, length-records w s)
 
-    pub pass-end : startsWith key (getD rs i []) ≡ false → i ≡ from + leading (drop from rs) key
-    pass-end t = omega (arith, w .meets, here t)
+    pub pass-on : m ≡ wanted → Passing w s wanted from (i + 1)
+    pass-on t = record {
+      ordered = omega (arith, p);
+      within = omega arith;
+      meets = λ k d. p .meets k d ∙ (let g = here (records w s) k i in-records (starts s b d h e ∙ eq-eqb m wanted t) in omega arith);
+    }
 
-  pub passed-all : n ≤ i → i ≡ from + leading (drop from rs) key
+    pub pass-end : (m ≡ wanted → ⊥) → (k : List ℕ) → Keyed w k wanted → i ≡ from + leading (drop from (records w s)) k
+    pass-end t k d = let g = here (records w s) k i in-records (starts s b d h e ∙ ne-eqb m wanted t) in omega (arith, p .meets k d)
+
+  pub passed-all : length s / w ≤ i → (k : List ℕ) → Keyed w k wanted → i ≡ from + leading (drop from (records w s)) k
   unfolding leading
-  passed-all h = let e = ap (λ x. leading x key) (drop-of-length-le rs {i = i} (omega (arith, w))) in omega (arith, w .meets, e)
+  passed-all h k d = let g = ap (λ x. leading x k) (drop-of-length-le (records w s) {i = i} (omega (arith, length-records w s))) in omega (arith, p .meets k d)
 
 -- ---- the part that they are
 
@@ -191,30 +218,26 @@ module _ (w : ℕ) (s : List ℕ) (from m : ℕ) (p : 0 < w) (h : from + m ≤ l
       ∙ sym (ap (take m) (drop-parts from (length s / w) w s) ∙ take-parts m (length s / w - from) w (drop (from * w) s) (omega arith))
 
 -- from the first record found to behind the last
-pub record Span (w : ℕ) (s key : List ℕ) (from to : ℕ) : Type 0 where
-  pub some-width : 0 < w
-  pub within : from ≤ length s / w
-  pub first : ascend (records w s) ≡ true → from ≡ firstAt (records w s) key
-  pub last : to ≡ from + leading (drop from (records w s)) key
+pub record Span (w : ℕ) (s : List ℕ) (wanted from to : ℕ) : Type 0 where
+  pub some-width : 3 ≤ w
+  pub ordered : from ≤ to
+  pub within : to ≤ length s / w
+  pub first : (k : List ℕ) → Keyed w k wanted → ascend (records w s) ≡ true → from ≡ firstAt (records w s) k
+  pub last : (k : List ℕ) → Keyed w k wanted → to ≡ from + leading (drop from (records w s)) k
 
-module _ {w : ℕ} {s key : List ℕ} {from to : ℕ} (i : Span w s key from to) where
-  few : to ≤ length s / w
-  few = omega (arith, i .last, i .within, leading-within (drop from (records w s)) key, length-drop from (records w s), length-records w s)
-
-  ordered : from ≤ to
-  ordered = omega (arith, i .last)
-
+module _ {w : ℕ} {s : List ℕ} {wanted from to : ℕ} (i : Span w s wanted from to) where
   pub starts-before : from * w ≤ to * w
-  starts-before = mul-le-mul-right w ordered
+  starts-before = mul-le-mul-right w (i .ordered)
 
   pub ends-within : to * w ≤ length s
-  ends-within = omega (arith, mul-le-mul-right w few, div-mul-le-self (length s) w)
+  ends-within = omega (arith, mul-le-mul-right w (i .within), div-mul-le-self (length s) w)
 
-  pub found : ascend (records w s) ≡ true → records w (take (to * w - from * w) (drop (from * w) s)) ≡ keep (startsWith key) (records w s)
-  found a =
-      let m = leading (drop from (records w s)) key in
-      let e : to * w - from * w ≡ m * w = ap (λ k. k * w - from * w) (i .last) ∙ omega (arith, add-mul from m w) in
-      ap (λ k. records w (take k (drop (from * w) s))) e
-      ∙ span-records w s from m (i .some-width) (omega (arith, few, i .last))
-      ∙ ap (λ k. take (leading (drop k (records w s)) key) (drop k (records w s))) (i .first a)
-      ∙ sym (kept-span key (records w s) a)
+  pub found : (k : List ℕ) → Keyed w k wanted → ascend (records w s) ≡ true → records w (take (to * w - from * w) (drop (from * w) s)) ≡ keep (startsWith k) (records w s)
+  found k d a =
+      let m = leading (drop from (records w s)) k in
+      let l = i .last k d in
+      let e : to * w - from * w ≡ m * w = ap (λ v. v * w - from * w) l ∙ omega (arith, add-mul from m w) in
+      ap (λ v. records w (take v (drop (from * w) s))) e
+      ∙ span-records w s from m (omega (arith, i .some-width)) (omega (arith, i .within, l))
+      ∙ ap (λ v. take (leading (drop v (records w s)) k) (drop v (records w s))) (i .first k d a)
+      ∙ sym (kept-span k (records w s) a)

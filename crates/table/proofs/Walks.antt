@@ -113,7 +113,7 @@ pub record Rising (w : ℕ) (s : List ℕ) (last at : ℕ) : Type 0 where
   pub number : last ≡ key (take w (drop (at - w) s))
   pub meets : ascend (records w s) ≡ ascend (records w (drop (at - w) s))
 
-pub rising : (w : ℕ) (s : List ℕ) {last : ℕ} → w ≤ length s → last ≡ key (take w s) → Rising w s last w
+pub rising : (w : ℕ) (s : List ℕ) {last : ℕ} → w ≤ length s → last ≡ key (take w (drop 0 s)) → Rising w s last w
 rising w s h e =
     let z : 0 ≡ w - w = omega arith in
     record { behind = omega arith; inside = h; number = e ∙ ap (λ i. key (take w (drop i s))) z; meets = ap (λ i. ascend (records w (drop i s))) z }
@@ -122,33 +122,33 @@ pub too-few : (w : ℕ) (s : List ℕ) → length s < w → true ≡ ascend (rec
 unfolding ascend
 too-few w s h = sym (ap ascend (records-none w s h))
 
-module _ {w : ℕ} {s : List ℕ} {last at : ℕ} (p : 0 < w) (i : Rising w s last at) where
+module _ {w : ℕ} {s : List ℕ} {last at : ℕ} (p : 3 ≤ w) (i : Rising w s last at) where
   -- the last record, and those behind it
   last-on : records w (drop (at - w) s) ≡ take w (drop (at - w) s) ∷ records w (drop at s)
   last-on =
       let e : at - w + w ≡ at = omega (arith, i) in
       let f : at - w + w - (at - w) ≡ w = omega arith in
-      record-on w s (at - w) p (omega (arith, i)) ∙ λ j. take (f j) (drop (at - w) s) ∷ records w (drop (e j) s)
+      record-on w s (at - w) (omega arith) (omega (arith, i)) ∙ λ j. take (f j) (drop (at - w) s) ∷ records w (drop (e j) s)
 
   pub risen : length s - at < w → true ≡ ascend (records w s)
   unfolding ascend ascendFrom
   risen h = sym (i .meets ∙ ap ascend (last-on ∙ ap (λ rs. take w (drop (at - w) s) ∷ rs) (record-none w s at h)))
 
-  module _ (b : Bytes s) {number : ℕ} (h : w ≤ length s - at) (e : number ≡ key (take (at + w - at) (drop at s))) where
+  module _ (b : Bytes s) {number : ℕ} (h : w ≤ length s - at) (e : number ≡ key (take w (drop at s))) where
     wide : at + w - at ≡ w
     wide = omega arith
 
     next-on : ascend (records w s) ≡ ascend (take w (drop (at - w) s) ∷ take w (drop at s) ∷ records w (drop (at + w) s))
     next-on =
         i .meets
-        ∙ ap ascend (last-on ∙ ap (λ rs. take w (drop (at - w) s) ∷ rs) (record-on w s at p h ∙ ap (λ n. take n (drop at s) ∷ records w (drop (at + w) s)) wide))
+        ∙ ap ascend (last-on ∙ ap (λ rs. take w (drop (at - w) s) ∷ rs) (record-on w s at (omega arith) h ∙ ap (λ n. take n (drop at s) ∷ records w (drop (at + w) s)) wide))
 
     compared : before (take w (drop (at - w) s)) (take w (drop at s)) ≡ ltb last number
     compared =
         let l = length-take-le w (drop (at - w) s) (omega (arith, i, length-drop (at - w) s)) in
         let n = length-take-le w (drop at s) (omega (arith, length-drop at s)) in
         order-key (take w (drop (at - w) s)) (take w (drop at s)) (omega arith) (part-bytes s b (at - w) w) (part-bytes s b at w)
-        ∙ λ j. ltb (sym (i .number) j) (sym (e ∙ ap (λ n. key (take n (drop at s))) wide) j)
+        ∙ λ j. ltb (sym (i .number) j) (sym e j)
 
     pub rises : last < number → Rising w s number (at + w)
     unfolding ascend ascendFrom
@@ -157,9 +157,9 @@ module _ {w : ℕ} {s : List ℕ} {last at : ℕ} (p : 0 < w) (i : Rising w s la
         record {
           behind = omega arith;
           inside = omega (arith, i);
-          number = e ∙ (λ j. key (take (wide j) (drop (z j) s)));
+          number = e ∙ ap (λ n. key (take w (drop n s))) z;
           meets =
-              next-on ∙ rw (compared ∙ lt-ltb _ _ l) (ap ascend (sym (record-on w s at p h ∙ ap (λ n. take n (drop at s) ∷ records w (drop (at + w) s)) wide)))
+              next-on ∙ rw (compared ∙ lt-ltb _ _ l) (ap ascend (sym (record-on w s at (omega arith) h ∙ ap (λ n. take n (drop at s) ∷ records w (drop (at + w) s)) wide)))
               ∙ ap (λ n. ascend (records w (drop n s))) z;
         }
 

@@ -1,13 +1,13 @@
-// The records of a section that start with a key, found through the file's order.
+// The records of a section that start with a key, found through the file's order. Records and keys are compared as numbers.
 ghost use mathlib.Core.Path.{_≡_};
 ghost use mathlib.Core.Bool.{true};
-ghost use mathlib.Core.List.{[]};
-ghost use Prim.Native.Nat.{_+_, _*_, _/_, _<_, _≤_};
-ghost use lib.ListN.{length, getD, take, drop};
+ghost use mathlib.Core.List.{List, [], _∷_};
+ghost use Prim.Native.Nat.{ℕ, _+_, _*_, _/_, _<_, _≤_};
+ghost use lib.ListN.{length, take, drop};
 ghost use Rattle.lists.specs.Lists.{keep};
 ghost use Rattle.table.specs.File.{records};
 ghost use Rattle.table.specs.Reading.{ascend};
-ghost use Rattle.table.specs.Keys.{key};
+ghost use Rattle.table.specs.Keys.{key, Keyed};
 ghost use Rattle.table.specs.Sections.{firstAt};
 ghost use Rattle.table.specs.Spans.{startsWith, leading};
 
@@ -19,42 +19,52 @@ fn with_byte(number: u32, byte: u8) -> u32
     number * 256 + byte as u32
 }
 
-// Bytes as one number, the first the highest.
-pub(crate) fn number_of(bytes: &[u8]) -> u32
-    requires { ⌜ length (now bytes) ≤ 4 ⌝ }
-    ensures { λ r. ⌜ r ≡ key (now (bytes .entry)) ⌝ }
+// The key of the moves of a state by a symbol.
+pub fn move_key(q: u8, a: u8) -> u32
+    ensures { λ r. ⌜ Keyed 3 (q ∷ a ∷ []) r ⌝ }
 {
-    let mut number: u32 = 0;
-    let mut i: usize = 0;
-    'bytes: while i < bytes.len() {
-        number = with_byte(number, bytes[i]);
-        i += 1;
-    }
-    number
+    with_byte(with_byte(0, q), a)
 }
 
-// The first bytes of record i, as many as a key has, as a number.
-fn number_at(section: &[u8], width: usize, long: usize, i: usize) -> u32
-    requires { ⌜ (long < width) × (width ≤ 4) × (i < length (now section) / width) ⌝ }
-    ensures { λ r. ⌜ r ≡ key (take long (getD (records width (now (section .entry))) i [])) ⌝ }
+// The key of the returns of a state by a symbol over a stack state.
+pub fn return_key(q: u8, a: u8, s: u8) -> u32
+    ensures { λ r. ⌜ Keyed 4 (q ∷ a ∷ s ∷ []) r ⌝ }
 {
-    let at = i * width;
-    let end = at + long;
-    number_of(&section[at..end])
+    with_byte(with_byte(with_byte(0, q), a), s)
+}
+
+// The number of a record of 3 or 4 bytes, its first byte the highest.
+pub(crate) fn number_at(section: &[u8], width: usize, at: usize) -> u32
+    requires { ⌜ (3 ≤ width) × (width ≤ 4) × (at + width ≤ length (now section)) ⌝ }
+    ensures { λ r. ⌜ r ≡ key (take width (drop at (now (section .entry)))) ⌝ }
+{
+    let two = with_byte(with_byte(0, section[at]), section[at + 1]);
+    let three = with_byte(two, section[at + 2]);
+    if width == 3 {
+        return three;
+    }
+    with_byte(three, section[at + 3])
+}
+
+// The number of record i without its last byte.
+fn key_at(section: &[u8], width: usize, i: usize) -> u32
+    requires { ⌜ (3 ≤ width) × (width ≤ 4) × (i < length (now section) / width) ⌝ }
+    ensures { λ r. ⌜ r ≡ key (take width (drop (i * width) (now (section .entry)))) / 256 ⌝ }
+{
+    number_at(section, width, i * width) / 256
 }
 
 // The first record that does not stand before the key, by halves; their count where there is none.
-fn first_at(section: &[u8], width: usize, key: &[u8]) -> usize
-    requires { ⌜ (length (now key) < width) × (width ≤ 4) ⌝ }
+fn first_at(section: &[u8], width: usize, wanted: u32) -> usize
+    requires { ⌜ (3 ≤ width) × (width ≤ 4) ⌝ }
     ensures within { λ r. ⌜ r ≤ length (now (section .entry)) / width ⌝ }
-    ensures first { λ r. ⌜ (ascend (records width (now (section .entry))) ≡ true → r ≡ firstAt (records width (now (section .entry))) (now (key .entry))) ⌝ }
+    ensures first { λ r. ⌜ ((k : List ℕ) → Keyed width k wanted → ascend (records width (now (section .entry))) ≡ true → r ≡ firstAt (records width (now (section .entry))) k) ⌝ }
 {
-    let wanted = number_of(key);
     let mut low: usize = 0;
     let mut high = section.len() / width;
     'halves: while low < high {
         let middle = low + (high - low) / 2;
-        if number_at(section, width, key.len(), middle) < wanted {
+        if key_at(section, width, middle) < wanted {
             low = middle + 1;
         } else {
             high = middle;
@@ -64,14 +74,14 @@ fn first_at(section: &[u8], width: usize, key: &[u8]) -> usize
 }
 
 // Behind the last of the records that start with the key, from one of them on.
-fn last_at(section: &[u8], width: usize, key: &[u8], from: usize) -> usize
-    requires { ⌜ (length (now key) < width) × (width ≤ 4) × (from ≤ length (now section) / width) ⌝ }
-    ensures { λ r. ⌜ r ≡ from + leading (drop from (records width (now (section .entry)))) (now (key .entry)) ⌝ }
+fn last_at(section: &[u8], width: usize, wanted: u32, from: usize) -> usize
+    requires { ⌜ (3 ≤ width) × (width ≤ 4) × (from ≤ length (now section) / width) ⌝ }
+    ensures within { λ r. ⌜ (from ≤ r) × (r ≤ length (now (section .entry)) / width) ⌝ }
+    ensures last { λ r. ⌜ ((k : List ℕ) → Keyed width k wanted → r ≡ from + leading (drop from (records width (now (section .entry)))) k) ⌝ }
 {
-    let wanted = number_of(key);
     let mut i = from;
     'records: while i < section.len() / width {
-        if number_at(section, width, key.len(), i) != wanted {
+        if key_at(section, width, i) != wanted {
             return i;
         }
         i += 1;
@@ -79,18 +89,18 @@ fn last_at(section: &[u8], width: usize, key: &[u8], from: usize) -> usize
     i
 }
 
-// The part of the section whose records start with the key: a key shorter than a record, a record that a number holds.
-pub fn starting<'a>(section: &'a [u8], width: usize, key: &[u8]) -> &'a [u8]
-    ensures { λ r. ⌜ (length (now (key .entry)) < width → width ≤ 4 → ascend (records width (now (section .entry))) ≡ true → records width (now r) ≡ keep (startsWith (now (key .entry))) (records width (now (section .entry)))) ⌝ }
+// The part of the section whose records start with the key, by the key's number.
+pub fn starting<'a>(section: &'a [u8], width: usize, wanted: u32) -> &'a [u8]
+    ensures { λ r. ⌜ ((k : List ℕ) → Keyed width k wanted → ascend (records width (now (section .entry))) ≡ true → records width (now r) ≡ keep (startsWith k) (records width (now (section .entry)))) ⌝ }
 {
-    if width <= key.len() {
+    if width < 3 {
         return &section[..0];
     }
     if 4 < width {
         return &section[..0];
     }
-    let from = first_at(section, width, key);
-    let to = last_at(section, width, key, from);
+    let from = first_at(section, width, wanted);
+    let to = last_at(section, width, wanted, from);
     let at = from * width;
     let end = to * width;
     &section[at..end]

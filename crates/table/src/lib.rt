@@ -14,7 +14,9 @@ ghost use Rattle.table.specs.Sections.{sectioned};
 mod keyed;
 mod view;
 
-use keyed::number_of;
+pub use keyed::move_key;
+use keyed::number_at;
+pub use keyed::return_key;
 pub use keyed::starting;
 pub use view::Section;
 pub use view::TableView;
@@ -128,24 +130,23 @@ fn records_fit(symbols: &[u8], states: &[u8], kind: u8, width: usize, section: &
     true
 }
 
-// The records of a section ascend, of any width that a number holds: each number is above the one before it.
+// The records of a section ascend, of 3 or 4 bytes each: each number is above the one before it.
 fn ascends(width: usize, section: &[u8]) -> bool
-    requires { ⌜ (0 < width) × (width ≤ 4) ⌝ }
+    requires { ⌜ (3 ≤ width) × (width ≤ 4) ⌝ }
     ensures { λ r. ⌜ r ≡ ascend (records width (now (section .entry))) ⌝ }
 {
     if section.len() < width {
         return true;
     }
-    let mut last = number_of(&section[..width]);
+    let mut last = number_at(section, width, 0);
     let mut at = width;
     'records: while width <= section.len() - at {
-        let next = at + width;
-        let number = number_of(&section[at..next]);
+        let number = number_at(section, width, at);
         if number <= last {
             return false;
         }
         last = number;
-        at = next;
+        at += width;
     }
     true
 }

@@ -1,4 +1,5 @@
 -- `clauses::returns::return_clause` meets its contract. Assumes nothing.
+use mathlib.Core.List.{[], _∷_}
 use native.Mathlib.Omega.{arith}
 use Rattle.clauses.proofs.Moving.{premise-more}
 use Rattle.clauses.proofs.Returning.{return-self, return-room, return-other}
@@ -12,8 +13,8 @@ same-place-requires c κs = search needs
 returns : tie.Need-returns
 returns c = return-self _ _ _ _ _ (c .before .same-place .ensures) (c .if1 .taken)
 
-slice-aggregate-starting : tie.Need-slice-aggregate-starting
-slice-aggregate-starting c = search needs
+return-key-requires : tie.Need-return-key-requires
+return-key-requires c κs = search needs
 
 starting-requires : tie.Need-starting-requires
 starting-requires c κs = search needs
@@ -25,16 +26,16 @@ with-premise-requires : tie.Need-with-premise-requires
 with-premise-requires c κs = search needs
 
 with-premise-requires-2 : tie.Need-with-premise-requires-2
-with-premise-requires-2 c κs = omega (arith, premise-more (c .before .no-literals .result) (c .before .before .before .before .before .before .before .before .args .x .from) (c .before .before .before .before .before .before .before .before .args .q) (c .with-premise .ensures), c .before .no-literals .ensures .count)
+with-premise-requires-2 c κs = omega (arith, premise-more (c .before .no-literals .result) (c .before .before .before .before .before .before .before .before .args .x .from) (c .before .before .before .before .before .before .before .before .args .q) (c .with-premise .ensures), c .before .no-literals .ensures)
 
 matched-requires : tie.Need-matched-requires
-matched-requires c κs = (omega arith, return-room (c .before .before .before .before .before .before .before .before .before .before .args .section .now) (c .before .before .before .before .before .before .before .before .before .before .args .x) (c .before .before .before .before .before .before .before .before .before .before .args .q) (c .before .before .before .before .before .before .before .before .before .before .args .u) (c .before .before .before .before .starting .result .now) (c .before .before .before .before .starting .ensures (omega arith) (omega arith) (c .before .before .before .before .before .before .before .before .before .before .pre .0 .ascends)) (c .before .before .before .no-literals .ensures) (c .before .before .with-premise .ensures) (c .before .with-premise2 .ensures) (c .before .before .before .before .before .before .before .before .before .before .pre .0), c .before .before .before .before .before .before .before .before .before .before .pre .1)
+matched-requires c κs = (omega arith, return-room (c .before .before .before .before .before .before .before .before .before .before .args .section .now) (c .before .before .before .before .before .before .before .before .before .before .args .x) (c .before .before .before .before .before .before .before .before .before .before .args .q) (c .before .before .before .before .before .before .before .before .before .before .args .u) (c .before .before .before .before .starting .result .now) (c .before .before .before .before .starting .ensures (c .before .before .before .before .before .before .before .before .before .before .args .q ∷ c .before .before .before .before .before .before .before .before .before .before .args .x .symbol ∷ c .before .before .before .before .before .before .before .before .before .before .args .u ∷ []) (c .before .before .before .before .before .return-key .ensures) (c .before .before .before .before .before .before .before .before .before .before .pre .0 .ascends)) (c .before .before .before .no-literals .ensures) (c .before .before .with-premise .ensures) (c .before .with-premise2 .ensures) (c .before .before .before .before .before .before .before .before .before .before .pre .0), c .before .before .before .before .before .before .before .before .before .before .pre .1)
 
 same-length : tie.Need-same-length
 same-length c = search needs
 
 returns-2 : tie.Need-returns-2
-returns-2 c = return-other (c .before .before .before .before .before .before .before .before .before .before .before .before .before .args .section .now) (c .before .before .before .before .before .before .before .before .before .before .before .before .before .args .x) (c .before .before .before .before .before .before .before .before .before .before .before .before .before .args .q) (c .before .before .before .before .before .before .before .before .before .before .before .before .before .args .u) (c .before .before .before .before .before .before .before .starting .result .now) (c .before .before .before .before .before .before .before .starting .ensures (omega arith) (omega arith) (c .before .before .before .before .before .before .before .before .before .before .before .before .before .pre .0 .ascends)) (c .before .before .before .before .before .before .no-literals .ensures) (c .before .before .before .before .before .with-premise .ensures) (c .before .before .before .before .with-premise2 .ensures) _ (c .before .before .before .before .before .before .before .before .before .before .same-place .ensures) (c .before .before .before .before .before .before .before .before .before .if1 .left) (c .before .before .matched .ensures)
+returns-2 c = return-other (c .before .before .before .before .before .before .before .before .before .before .before .before .before .args .section .now) (c .before .before .before .before .before .before .before .before .before .before .before .before .before .args .x) (c .before .before .before .before .before .before .before .before .before .before .before .before .before .args .q) (c .before .before .before .before .before .before .before .before .before .before .before .before .before .args .u) (c .before .before .before .before .before .before .before .starting .result .now) (c .before .before .before .before .before .before .before .starting .ensures (c .before .before .before .before .before .before .before .before .before .before .before .before .before .args .q ∷ c .before .before .before .before .before .before .before .before .before .before .before .before .before .args .x .symbol ∷ c .before .before .before .before .before .before .before .before .before .before .before .before .before .args .u ∷ []) (c .before .before .before .before .before .before .before .before .return-key .ensures) (c .before .before .before .before .before .before .before .before .before .before .before .before .before .pre .0 .ascends)) (c .before .before .before .before .before .before .no-literals .ensures) (c .before .before .before .before .before .with-premise .ensures) (c .before .before .before .before .with-premise2 .ensures) _ (c .before .before .before .before .before .before .before .before .before .before .same-place .ensures) (c .before .before .before .before .before .before .before .before .before .if1 .left) (c .before .before .matched .ensures)
 
 pub return-clause-spec : {M : Type 1} → statement M
 return-clause-spec =
@@ -42,7 +43,7 @@ return-clause-spec =
     (tie.spec
     same-place-requires
     returns
-    slice-aggregate-starting
+    return-key-requires
     starting-requires
     no-literals-requires
     with-premise-requires

@@ -1,7 +1,10 @@
 -- `maps::matching::return_matched` meets its contract, test by test. Assumes nothing.
-use Rattle.maps.proofs.Matched.{by-class, stack-apart, not-under, return-by}
-use borrow.Author.Tests.{not-true, not-false}
 use mathlib.Core.Path.{refl, sym, _∙_}
+use mathlib.Core.List.{[], _∷_}
+use native.Mathlib.Omega.{arith}
+use lib.ListN.{getD}
+use borrow.Author.Tests.{not-true, not-false}
+use Rattle.maps.proofs.Matched.{by-class, stack-apart, not-under, return-by}
 use borrow.Author.Needs.{needs}
 use Rattle.maps.proofs.matching.return_matched.Statement.{statement}
 use Rattle.maps.proofs.matching.return_matched.Tie as tie
@@ -10,25 +13,25 @@ is-in-requires : tie.Need-is-in-requires
 is-in-requires c κs = search needs
 
 returns : tie.Need-returns
-returns c = let a = c .before .before .before .before .before .before in stack-apart _ _ _ _ _ _ _ _ _ (a .pre .1 .0) (a .pre .1 .1) (by-class _ _ _ (c .before .before .before .before .before .before .pre .0 .4) (c .before .is-in .ensures) (not-true _ (c .if1 .taken)))
+returns c = stack-apart _ _ _ _ _ _ _ _ _ (c .before .before .before .before .before .before .pre .1 .0) (c .before .before .before .before .before .before .pre .1 .1) (by-class _ _ _ (c .before .before .before .before .before .before .pre .0 .4) (c .before .is-in .ensures) (not-true _ (c .if1 .taken)))
 
 has-top-requires : tie.Need-has-top-requires
 has-top-requires c κs = search needs
 
 returns-2 : tie.Need-returns-2
-returns-2 c = let a = c .before .before .before .before .before .before .before .before in not-under _ _ _ _ _ _ _ _ _ (a .pre .1 .0) (a .pre .1 .1) (by-class _ _ _ (c .before .before .before .before .before .before .before .before .pre .0 .4) (c .before .before .before .is-in .ensures) (not-false _ (c .before .before .if1 .left))) (sym (c .before .has-top .ensures) ∙ not-true _ (c .if2 .taken))
+returns-2 c = not-under _ _ _ _ _ _ _ _ _ (c .before .before .before .before .before .before .before .before .pre .1 .0) (c .before .before .before .before .before .before .before .before .pre .1 .1) (by-class _ _ _ (c .before .before .before .before .before .before .before .before .pre .0 .4) (c .before .before .before .is-in .ensures) (not-false _ (c .before .before .if1 .left))) (sym (c .before .has-top .ensures) ∙ not-true _ (c .if2 .taken))
 
-cast-wide : tie.Need-cast-wide
-cast-wide c = search needs
+cast-return-key : tie.Need-cast-return-key
+cast-return-key c = search needs
 
-shared-slice-read-t13 : tie.Need-shared-slice-read-t13
-shared-slice-read-t13 c = search needs
+shared-slice-read-return-key : tie.Need-shared-slice-read-return-key
+shared-slice-read-return-key c = search needs
 
-cast-t14 : tie.Need-cast-t14
-cast-t14 c = search needs
+cast-return-key-2 : tie.Need-cast-return-key-2
+cast-return-key-2 c = search needs
 
-slice-aggregate-reaches : tie.Need-slice-aggregate-reaches
-slice-aggregate-reaches c = search needs
+return-key-requires : tie.Need-return-key-requires
+return-key-requires c κs = search needs
 
 shared-slice-read-wide : tie.Need-shared-slice-read-wide
 shared-slice-read-wide c = search needs
@@ -37,10 +40,10 @@ wide-requires : tie.Need-wide-requires
 wide-requires c κs = search needs
 
 reaches-requires : tie.Need-reaches-requires
-reaches-requires c κs = (refl, omega arith, c .before .before .before .before .before .before .before .before .before .before .before .before .pre .0 .0)
+reaches-requires c κs = (omega arith, c .before .before .before .before .before .before .before .before .before .before .before .before .pre .0 .0)
 
 returns-3 : tie.Need-returns-3
-returns-3 c = let a = c .before .before .before .before .before .before .before .before .before .before .before .before .before in c .reaches .ensures ∙ return-by _ _ _ _ _ _ _ _ _ (a .pre .1 .0) (a .pre .1 .1) (by-class _ _ _ (c .before .before .before .before .before .before .before .before .before .before .before .before .before .pre .0 .4) (c .before .before .before .before .before .before .before .before .is-in .ensures) (not-false _ (c .before .before .before .before .before .before .before .if1 .left))) (sym (c .before .before .before .before .before .before .has-top .ensures) ∙ not-false _ (c .before .before .before .before .before .if2 .left)) (c .before .wide .ensures)
+returns-3 c = c .reaches .ensures (c .before .before .before .before .before .before .before .before .before .before .before .before .before .args .q ∷ getD (c .before .before .before .before .before .before .before .before .before .before .before .before .before .args .fields .now) 1 0 ∷ c .before .before .before .before .before .before .before .before .before .before .before .before .before .args .u ∷ []) (c .before .before .before .return-key .ensures) ∙ return-by _ _ _ _ _ _ _ _ _ (c .before .before .before .before .before .before .before .before .before .before .before .before .before .pre .1 .0) (c .before .before .before .before .before .before .before .before .before .before .before .before .before .pre .1 .1) (by-class _ _ _ (c .before .before .before .before .before .before .before .before .before .before .before .before .before .pre .0 .4) (c .before .before .before .before .before .before .before .before .is-in .ensures) (not-false _ (c .before .before .before .before .before .before .before .if1 .left))) (sym (c .before .before .before .before .before .before .has-top .ensures) ∙ not-false _ (c .before .before .before .before .before .if2 .left)) (c .before .wide .ensures)
 
 pub return-matched-spec : {M : Type 1} → statement M
 return-matched-spec =
@@ -50,10 +53,10 @@ return-matched-spec =
     returns
     has-top-requires
     returns-2
-    cast-wide
-    shared-slice-read-t13
-    cast-t14
-    slice-aggregate-reaches
+    cast-return-key
+    shared-slice-read-return-key
+    cast-return-key-2
+    return-key-requires
     shared-slice-read-wide
     wide-requires
     reaches-requires

@@ -1,54 +1,48 @@
 -- `table::keyed::first_at` meets its contract: the first record at the key stands between the two ends. Assumes nothing.
-use mathlib.Core.Path.{_≡_, refl, _∙_}
-use Prim.Native.Nat.{ℕ, _+_, _-_, _/_, _<_}
+use Prim.Native.Nat.{_-_}
 use native.Mathlib.Omega.{arith}
 use native.Mathlib.Nat.{div-le-self}
 use lib.ListN.{length}
-use borrow.Author.Tests.{lt-ltb, le-ltb}
-use Rattle.table.specs.File.{records}
-use Rattle.table.proofs.Spanning.{length-records, stands, Halving, halving, upper-half, lower-half, halved}
+use Rattle.table.proofs.Spanning.{Halving, halving, upper-half, lower-half, halved}
 use borrow.Author.Needs.{needs}
 use Rattle.table.proofs.keyed.first_at.Statement.{statement}
 use Rattle.table.proofs.keyed.first_at.Tie as tie
 
 abbrev Inv-halves : tie.InvT-halves
-Inv-halves section width key wanted low₀ high₀ low high = Halving (records width section) key (length section / width) low high
+Inv-halves section width wanted low₀ high₀ low high = Halving width section wanted low high
 
 abbrev μ-halves : tie.MeasureT-halves
-μ-halves section width key wanted low₀ high₀ low high = high - low
-
-number-of-requires : tie.Need-number-of-requires Inv-halves μ-halves
-number-of-requires c κs = omega (arith, c .before .before .pre)
+μ-halves section width wanted low₀ high₀ low high = high - low
 
 div-high : tie.Need-div-high Inv-halves μ-halves
-div-high c = omega (arith, c .before .before .before .pre)
+div-high c = omega (arith, c .before .pre)
 
 halves-holds : tie.Need-halves-holds Inv-halves μ-halves
-halves-holds c = halving _ _ (length-records _ _)
+halves-holds c = halving _ _
 
 sub-middle : tie.Need-sub-middle Inv-halves μ-halves
 sub-middle c = search needs
 
 add-middle : tie.Need-add-middle Inv-halves μ-halves
-add-middle c = omega (arith, c .before .halves .inv, c .halves-test .taken, div-le-self (length (c .before .before .before .before .before .args .section .now)) (c .before .before .before .before .before .args .width), c .before .before .before .before .before .good .0 .0)
+add-middle c = omega (arith, c .before .halves .inv, c .halves-test .taken, div-le-self (length (c .before .before .before .args .section .now)) (c .before .before .before .args .width), c .before .before .before .good .0 .0)
 
-number-at-requires : tie.Need-number-at-requires Inv-halves μ-halves
-number-at-requires c κs = (c .before .before .before .before .before .pre .0, c .before .before .before .before .before .pre .1, omega (arith, c .before .halves .inv, c .halves-test .taken))
+key-at-requires : tie.Need-key-at-requires Inv-halves μ-halves
+key-at-requires c κs = (c .before .before .before .pre .0, c .before .before .before .pre .1, omega (arith, c .before .halves .inv, c .halves-test .taken))
 
 add-low : tie.Need-add-low Inv-halves μ-halves
-add-low c = omega (arith, c .before .before .before .halves .inv, c .before .before .halves-test .taken, div-le-self (length (c .before .before .before .before .before .before .before .args .section .now)) (c .before .before .before .before .before .before .before .args .width), c .before .before .before .before .before .before .before .good .0 .0)
+add-low c = omega (arith, c .before .before .before .halves .inv, c .before .before .halves-test .taken, div-le-self (length (c .before .before .before .before .before .args .section .now)) (c .before .before .before .before .before .args .width), c .before .before .before .before .before .good .0 .0)
 
 halves-less : tie.Need-halves-less Inv-halves μ-halves
 halves-less c = search needs
 
 halves-again : tie.Need-halves-again Inv-halves μ-halves
-halves-again c = upper-half (c .before .before .before .halves .inv) (omega arith) (omega (arith, c .before .before .halves-test .taken)) (stands (c .before .before .before .before .before .before .before .args .width) (c .before .before .before .before .before .before .before .args .section .now) (c .before .before .before .before .before .before .before .args .key .now) (λ i. c .before .before .before .before .before .before .shared-slice-known .given i .fits) (λ i. c .before .before .before .before .before .shared-slice-known2 .given i .fits) (c .before .before .before .before .before .before .before .pre .0) (omega (arith, c .before .before .before .halves .inv, c .before .before .halves-test .taken)) (c .before .number-at .ensures) (c .before .before .before .before .number-of .ensures) ∙ lt-ltb _ _ (c .if1 .taken))
+halves-again c = upper-half (λ i. c .before .before .before .before .shared-slice-known .given i .fits) (c .before .before .before .halves .inv) (omega arith) (omega (arith, c .before .before .halves-test .taken)) (c .before .key-at .ensures) (c .if1 .taken)
 
 halves-less-2 : tie.Need-halves-less-2 Inv-halves μ-halves
 halves-less-2 c = search needs
 
 halves-again-2 : tie.Need-halves-again-2 Inv-halves μ-halves
-halves-again-2 c = lower-half (c .before .before .before .halves .inv) (omega arith) (omega (arith, c .before .before .halves-test .taken)) (stands (c .before .before .before .before .before .before .before .args .width) (c .before .before .before .before .before .before .before .args .section .now) (c .before .before .before .before .before .before .before .args .key .now) (λ i. c .before .before .before .before .before .before .shared-slice-known .given i .fits) (λ i. c .before .before .before .before .before .shared-slice-known2 .given i .fits) (c .before .before .before .before .before .before .before .pre .0) (omega (arith, c .before .before .before .halves .inv, c .before .before .halves-test .taken)) (c .before .number-at .ensures) (c .before .before .before .before .number-of .ensures) ∙ le-ltb _ _ (c .if1 .left))
+halves-again-2 c = lower-half (λ i. c .before .before .before .before .shared-slice-known .given i .fits) (c .before .before .before .halves .inv) (omega arith) (omega (arith, c .before .before .halves-test .taken)) (c .before .key-at .ensures) (c .if1 .left)
 
 returns : tie.Need-returns Inv-halves μ-halves
 returns c = (omega (arith, c .before .halves .inv), halved (c .before .halves .inv) (c .halves-test .left))
@@ -59,12 +53,11 @@ first-at-spec =
     (tie.spec
     Inv-halves
     μ-halves
-    number-of-requires
     div-high
     halves-holds
     sub-middle
     add-middle
-    number-at-requires
+    key-at-requires
     add-low
     halves-less
     halves-again

@@ -1,48 +1,42 @@
 -- `table::keyed::last_at` meets its contract: the records so far start with the key. Assumes nothing.
-use mathlib.Core.Path.{_∙_}
 use Prim.Native.Nat.{_-_, _/_}
 use native.Mathlib.Omega.{arith}
 use native.Mathlib.Nat.{div-le-self}
 use lib.ListN.{length}
-use borrow.Author.Tests.{eq-eqb, ne-eqb}
-use Rattle.table.specs.File.{records}
-use Rattle.table.proofs.Spanning.{length-records, starts, Passing, passing, pass-on, pass-end, passed-all}
+use Rattle.table.proofs.Spanning.{Passing, passing, pass-on, pass-end, passed-all}
 use borrow.Author.Needs.{needs}
 use Rattle.table.proofs.keyed.last_at.Statement.{statement}
 use Rattle.table.proofs.keyed.last_at.Tie as tie
 
 abbrev Inv-records : tie.InvT-records
-Inv-records section width key from wanted i₀ i = Passing (records width section) key (length section / width) from i
+Inv-records section width wanted from i₀ i = Passing width section wanted from i
 
 abbrev μ-records : tie.MeasureT-records
-μ-records section width key from wanted i₀ i = length section / width - i
-
-number-of-requires : tie.Need-number-of-requires Inv-records μ-records
-number-of-requires c κs = omega (arith, c .before .before .pre)
+μ-records section width wanted from i₀ i = length section / width - i
 
 records-holds : tie.Need-records-holds Inv-records μ-records
-records-holds c = passing _ _ (length-records _ _) (c .before .before .before .pre .2)
+records-holds c = passing _ _ (c .before .pre .2)
 
 div-records : tie.Need-div-records Inv-records μ-records
-div-records c = omega (arith, c .before .before .before .before .pre)
+div-records c = omega (arith, c .before .before .pre)
 
-number-at-requires : tie.Need-number-at-requires Inv-records μ-records
-number-at-requires c κs = (c .before .before .before .before .before .pre .0, c .before .before .before .before .before .pre .1, c .records-test .taken)
+key-at-requires : tie.Need-key-at-requires Inv-records μ-records
+key-at-requires c κs = (c .before .before .before .pre .0, c .before .before .before .pre .1, c .records-test .taken)
 
 returns : tie.Need-returns Inv-records μ-records
-returns c = pass-end (c .before .before .before .records .inv) (c .before .before .records-test .taken) (starts (c .before .before .before .before .before .before .before .args .width) (c .before .before .before .before .before .before .before .args .section .now) (c .before .before .before .before .before .before .before .args .key .now) (λ i. c .before .before .before .before .before .before .shared-slice-known .given i .fits) (λ i. c .before .before .before .before .before .shared-slice-known2 .given i .fits) (c .before .before .before .before .before .before .before .pre .0) (c .before .before .records-test .taken) (c .before .number-at .ensures) (c .before .before .before .before .number-of .ensures) ∙ ne-eqb _ _ (c .if1 .taken))
+returns c = ((c .before .before .before .records .inv .ordered, c .before .before .before .records .inv .within), pass-end (c .before .before .before .records .inv) (λ i. c .before .before .before .before .shared-slice-known .given i .fits) (c .before .before .records-test .taken) (c .before .key-at .ensures) (c .if1 .taken))
 
 add-i : tie.Need-add-i Inv-records μ-records
-add-i c = omega (arith, c .before .before .before .records .inv, c .before .before .records-test .taken, div-le-self (length (c .before .before .before .before .before .before .before .args .section .now)) (c .before .before .before .before .before .before .before .args .width), c .before .before .before .before .before .before .before .good .0 .0)
+add-i c = omega (arith, c .before .before .records-test .taken, div-le-self (length (c .before .before .before .before .before .args .section .now)) (c .before .before .before .before .before .args .width), c .before .before .before .before .before .good .0 .0)
 
 records-less : tie.Need-records-less Inv-records μ-records
 records-less c = search needs
 
 records-again : tie.Need-records-again Inv-records μ-records
-records-again c = pass-on (c .before .before .before .records .inv) (c .before .before .records-test .taken) (starts (c .before .before .before .before .before .before .before .args .width) (c .before .before .before .before .before .before .before .args .section .now) (c .before .before .before .before .before .before .before .args .key .now) (λ i. c .before .before .before .before .before .before .shared-slice-known .given i .fits) (λ i. c .before .before .before .before .before .shared-slice-known2 .given i .fits) (c .before .before .before .before .before .before .before .pre .0) (c .before .before .records-test .taken) (c .before .number-at .ensures) (c .before .before .before .before .number-of .ensures) ∙ eq-eqb _ _ (c .if1 .left))
+records-again c = pass-on (c .before .before .before .records .inv) (λ i. c .before .before .before .before .shared-slice-known .given i .fits) (c .before .before .records-test .taken) (c .before .key-at .ensures) (c .if1 .left)
 
 returns-2 : tie.Need-returns-2 Inv-records μ-records
-returns-2 c = passed-all (c .before .records .inv) (c .records-test .left)
+returns-2 c = ((c .before .records .inv .ordered, c .before .records .inv .within), passed-all (c .before .records .inv) (c .records-test .left))
 
 pub last-at-spec : {M : Type 1} → statement M
 last-at-spec =
@@ -50,10 +44,9 @@ last-at-spec =
     (tie.spec
     Inv-records
     μ-records
-    number-of-requires
     records-holds
     div-records
-    number-at-requires
+    key-at-requires
     returns
     add-i
     records-less

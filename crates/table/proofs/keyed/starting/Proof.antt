@@ -6,32 +6,32 @@ use Rattle.table.proofs.keyed.starting.Statement.{statement}
 use Rattle.table.proofs.keyed.starting.Tie as tie
 
 -- the span found
-spanned : (c : tie.After-last-at) → Span (c .before .before .before .before .before .before .args .width) (c .before .before .before .before .before .before .args .section .now) (c .before .before .before .before .before .before .args .key .now) (c .before .first-at .result) (c .last-at .result)
-spanned c = record { some-width = omega (arith, c .before .before .before .if1 .left); within = c .before .first-at .ensures .0; first = c .before .first-at .ensures .1; last = c .last-at .ensures }
+spanned : (c : tie.After-last-at) → Span (c .before .before .before .before .before .args .width) (c .before .before .before .before .before .args .section .now) (c .before .before .before .before .before .args .wanted) (c .before .first-at .result) (c .last-at .result)
+spanned c = record { some-width = c .before .before .before .if1 .left; ordered = c .last-at .ensures .0 .0; within = c .last-at .ensures .0 .1; first = c .before .first-at .ensures .1; last = c .last-at .ensures .1 }
 
 slice-aggregate-result : tie.Need-slice-aggregate-result
 slice-aggregate-result c = search needs
 
 returns : tie.Need-returns
-returns c = λ h l a. absurd (omega (arith, h, c .before .if1 .taken))
+returns c = λ k d a. absurd (omega (arith, d .least, c .before .if1 .taken))
 
 slice-aggregate-result-2 : tie.Need-slice-aggregate-result-2
 slice-aggregate-result-2 c = search needs
 
 returns-2 : tie.Need-returns-2
-returns-2 c = λ h l a. absurd (omega (arith, l, c .before .if2 .taken))
+returns-2 c = λ k d a. absurd (omega (arith, d .most, c .before .if2 .taken))
 
 first-at-requires : tie.Need-first-at-requires
-first-at-requires c κs = (omega (arith, c .before .if1 .left), omega (arith, c .if2 .left))
+first-at-requires c κs = (c .before .if1 .left, omega (arith, c .if2 .left))
 
 last-at-requires : tie.Need-last-at-requires
-last-at-requires c κs = (omega (arith, c .before .before .if1 .left), omega (arith, c .before .if2 .left), c .first-at .ensures .0)
+last-at-requires c κs = (c .before .before .if1 .left, omega (arith, c .before .if2 .left), c .first-at .ensures .0)
 
 mul-at : tie.Need-mul-at
-mul-at c = let w = spanned c in omega (arith, starts-before w, ends-within w, c .before .before .before .before .before .before .good .0 .0)
+mul-at c = let w = spanned c in omega (arith, starts-before w, ends-within w, c .before .before .before .before .before .good .0 .0)
 
 mul-end : tie.Need-mul-end
-mul-end c = let w = spanned c in omega (arith, ends-within w, c .before .before .before .before .before .before .good .0 .0)
+mul-end c = let w = spanned c in omega (arith, ends-within w, c .before .before .before .before .before .good .0 .0)
 
 sub-result : tie.Need-sub-result
 sub-result c = starts-before (spanned c)
@@ -43,7 +43,7 @@ part-result-end : tie.Need-part-result-end
 part-result-end c = ends-within (spanned c)
 
 returns-3 : tie.Need-returns-3
-returns-3 c = λ h l a. found (spanned (c .before)) a
+returns-3 c = found (spanned (c .before))
 
 pub starting-spec : {M : Type 1} → statement M
 starting-spec =
