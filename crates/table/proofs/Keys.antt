@@ -7,7 +7,7 @@ use Prim.Native.Nat.{ℕ, zero, suc, _+_, _*_, _/_, _≤_, _<_}
 use native.Mathlib.Nat.{add-zero}
 use native.Mathlib.Omega.{arith}
 use native.Mathlib.Decide.{decLt}
-use lib.ListN.{length, getD, take, drop, length-drop, List·getD-eq-default}
+use lib.ListN.{length, getD, take, drop, length-take, length-drop, List·getD-eq-default}
 use lib.Seq.{getD-take, getD-drop, length-take-le, take-all}
 use lib.Dec.{eqb, ltb}
 use borrow.Author.Tests.{lt-ltb, le-ltb, eq-eqb, ne-eqb, ltb-true}
@@ -77,6 +77,22 @@ part-bytes s b at n i = go (decLt i n)
         short zero xs = omega arith
         short (suc n) [] = omega arith
         short (suc n) (x ∷ xs) = omega (arith, short n xs)
+
+-- ---- three bytes at most
+
+three-small : (r : List ℕ) → length r ≤ 3 → Bytes r → key r < 16777216
+unfolding keyFrom
+three-small [] h b = omega arith
+three-small (x ∷ []) h b = omega (arith, b 0)
+three-small (x ∷ y ∷ []) h b = omega (arith, b 0, b 1)
+three-small (x ∷ y ∷ z ∷ []) h b = omega (arith, b 0, b 1, b 2)
+three-small (x ∷ y ∷ z ∷ u ∷ r) h b = absurd (omega arith)
+
+pub part-small : (s : List ℕ) → Bytes s → (at n : ℕ) → n ≤ 3 → key (take n (drop at s)) < 16777216
+part-small s b at n h = three-small (take n (drop at s)) (omega (arith, length-take n (drop at s))) (part-bytes s b at n)
+
+pub key-small : {w : ℕ} {k : List ℕ} {n : ℕ} → Keyed w k n → n < 16777216
+key-small {w} {k} d = omega (arith, d .number, three-small k (omega (arith, d)) (d .bytes))
 
 -- ---- the order
 

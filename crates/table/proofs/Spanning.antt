@@ -3,10 +3,11 @@
 use mathlib.Core.Path.{_≡_, refl, sym, ap, _∙_, subst}
 use mathlib.Core.Bool.{Bool, true, false}
 use mathlib.Core.List.{List, [], _∷_}
-use Prim.Native.Nat.{ℕ, zero, suc, _+_, _-_, _*_, _/_, _≤_, _<_, suc-le-suc, zero-le}
+use Prim.Native.Nat.{ℕ, zero, suc, _+_, _-_, _*_, _/_, _^_, _≤_, _<_, suc-le-suc, zero-le}
 use native.Mathlib.Omega.{arith}
+use native.Mathlib.Decide.{decLt}
 use native.Mathlib.Numerals.{add-one}
-use native.Mathlib.Nat.{zero-add, suc-add, suc-mul, zero-mul, mul-le-mul-right, div-mul-le-self, mul-div-cancel, add-mul}
+use native.Mathlib.Nat.{zero-add, suc-add, suc-mul, zero-mul, mul-le-mul-right, div-mul-le-self, mul-div-cancel, add-mul, mul-one}
 use lib.ListN.{length, getD, take, drop, length-drop, drop-of-length-le}
 use lib.Seq.{take-nil, drop-cons, drop-drop, getD-drop, length-take-le, take-take}
 use lib.Dec.{eqb, ltb}
@@ -36,8 +37,8 @@ pub length-records : (w : ℕ) (s : List ℕ) → length (records w s) ≡ lengt
 unfolding records
 length-records w s = length-parts (length s / w) w s
 
--- its number without the last byte, beside the key's, tells whether it stands before the key and whether it starts with it
-module _ (s : List ℕ) {w : ℕ} {k : List ℕ} {n : ℕ} (b : Bytes s) (d : Keyed w k n) {i m : ℕ} (h : i < length s / w) (e : m ≡ key (take w (drop (i * w) s)) / 256) where
+-- its number beside the key's tells whether it stands before the key and whether it starts with it
+module _ (s : List ℕ) {w : ℕ} {k : List ℕ} {n : ℕ} (b : Bytes s) (d : Keyed w k n) {i : ℕ} (h : i < length s / w) where
   inside : w ≤ length (drop (i * w) s)
   inside = omega (arith, length-drop (i * w) s, record-inside w s i h)
 
@@ -50,17 +51,41 @@ module _ (s : List ℕ) {w : ℕ} {k : List ℕ} {n : ℕ} (b : Bytes s) (d : Ke
   behind : Bytes (drop (i * w) s)
   behind j = subst (λ x. x < 256) (sym (getD-drop (i * w) s j 0)) (b (i * w + j))
 
-  first : key (take (length k) (getD (records w s) i [])) ≡ m
-  first =
+  -- the number of as many bytes as the key has
+  abbrev first : ℕ
+  first = key (take (length k) (drop (i * w) s))
+
+  as-lent : key (take (length k) (getD (records w s) i [])) ≡ first
+  as-lent = ap (λ r. key (take (length k) r)) (record-at w s i h) ∙ ap key (take-take (length k) w (drop (i * w) s) (omega (arith, d .long)))
+
+  -- the last byte of four changes no order
+  even : {m l : ℕ} → m ≡ key (take (2 * (w - 2)) (drop (i * w) s)) → l ≡ n * 256 ^ (w - 3) → ltb first n ≡ ltb m l
+  even {m} {l} e f = go (decLt 3 w)
+    where
+      go : Dec (3 < w) → ltb first n ≡ ltb m l
+      go (no p) =
+          let a : 2 * (w - 2) ≡ length k = omega (arith, d) in
+          let c : w - 3 ≡ 0 = omega arith in
+          λ j. ltb (sym (e ∙ ap (λ v. key (take v (drop (i * w) s))) a) j) (sym (f ∙ ap (λ v. n * 256 ^ v) c ∙ mul-one n) j)
+      go (yes p) =
+          let a : 2 * (w - 2) ≡ suc (length k) = omega (arith, d) in
+          let c : w - 3 ≡ 1 = omega (arith, d) in
+          let x : m / 256 ≡ first = ap (λ v. v / 256) (e ∙ ap (λ v. key (take v (drop (i * w) s))) a) ∙ but-last (length k) (drop (i * w) s) behind (omega (arith, inside, d)) in
+          let y : l ≡ n * 256 = f ∙ ap (λ v. n * 256 ^ v) c in
+          four (decLt first n) x y
+        where
+          four : Dec (first < n) → m / 256 ≡ first → l ≡ n * 256 → ltb first n ≡ ltb m l
+          four (yes q) x y = lt-ltb first n q ∙ sym (lt-ltb m l (omega arith))
+          four (no q) x y = le-ltb first n (omega arith) ∙ sym (le-ltb m l (omega arith))
+
+  pub stands : {m l : ℕ} → m ≡ key (take (2 * (w - 2)) (drop (i * w) s)) → l ≡ n * 256 ^ (w - 3) → before (getD (records w s) i []) k ≡ ltb m l
+  stands e f = before-key (getD (records w s) i []) k (omega (arith, long, d .long)) bytes (d .bytes) ∙ (λ j. ltb (as-lent j) (sym (d .number) j)) ∙ even e f
+
+  pub starts : {m : ℕ} → m ≡ key (take w (drop (i * w) s)) / 256 → startsWith k (getD (records w s) i []) ≡ eqb m n
+  starts e =
       let l : w ≡ suc (length k) = omega (arith, d .long) in
-      ap (λ r. key (take (length k) r)) (record-at w s i h) ∙ ap key (take-take (length k) w (drop (i * w) s) (omega (arith, d .long)))
-      ∙ sym (e ∙ ap (λ v. key (take v (drop (i * w) s)) / 256) l ∙ but-last (length k) (drop (i * w) s) behind (omega (arith, inside)))
-
-  pub stands : before (getD (records w s) i []) k ≡ ltb m n
-  stands = before-key (getD (records w s) i []) k (omega (arith, long, d .long)) bytes (d .bytes) ∙ λ j. ltb (first j) (sym (d .number) j)
-
-  pub starts : startsWith k (getD (records w s) i []) ≡ eqb m n
-  starts = starts-key (getD (records w s) i []) k (omega (arith, long, d .long)) bytes (d .bytes) ∙ λ j. eqb (first j) (sym (d .number) j)
+      starts-key (getD (records w s) i []) k (omega (arith, long, d .long)) bytes (d .bytes)
+      ∙ λ j. eqb ((as-lent ∙ sym (e ∙ ap (λ v. key (take v (drop (i * w) s)) / 256) l ∙ but-last (length k) (drop (i * w) s) behind (omega (arith, inside)))) j) (sym (d .number) j)
 
 -- ---- the first record that does not stand before the key
 
@@ -102,27 +127,27 @@ pub record Halving (w : ℕ) (s : List ℕ) (wanted low high : ℕ) : Type 0 whe
 pub halving : (w : ℕ) (s : List ℕ) {wanted : ℕ} → Halving w s wanted 0 (length s / w)
 halving w s = record { ordered = omega arith; within = omega arith; above = λ k d a. zero-le; below = λ k d. omega (arith, first-within (records w s) k, length-records w s) }
 
-module _ {w : ℕ} {s : List ℕ} {wanted low high middle m : ℕ} (b : Bytes s) (i : Halving w s wanted low high) (l : low ≤ middle) (h : middle < high) (e : m ≡ key (take w (drop (middle * w) s)) / 256) where
+module _ {w : ℕ} {s : List ℕ} {wanted low high middle m lowest : ℕ} (b : Bytes s) (i : Halving w s wanted low high) (l : low ≤ middle) (h : middle < high) (e : m ≡ key (take (2 * (w - 2)) (drop (middle * w) s))) (f : lowest ≡ wanted * 256 ^ (w - 3)) where
   there : middle < length s / w
   there = omega (arith, i)
 
   counted : middle < length (records w s)
   counted = omega (arith, there, length-records w s)
 
-  pub upper-half : m < wanted → Halving w s wanted (middle + 1) high
+  pub upper-half : m < lowest → Halving w s wanted (middle + 1) high
   upper-half t = record {
     ordered = omega arith;
     within = i .within;
-    above = λ k d a. let g = past-it (records w s) k middle a counted (stands s b d there e ∙ lt-ltb _ _ t) in omega arith;
+    above = λ k d a. let g = past-it (records w s) k middle a counted (stands s b d there e f ∙ lt-ltb _ _ t) in omega arith;
     below = i .below;
   }
 
-  pub lower-half : wanted ≤ m → Halving w s wanted low middle
+  pub lower-half : lowest ≤ m → Halving w s wanted low middle
   lower-half t = record {
     ordered = l;
     within = omega (arith, i);
     above = i .above;
-    below = λ k d. not-past (records w s) k middle counted (stands s b d there e ∙ le-ltb _ _ t);
+    below = λ k d. not-past (records w s) k middle counted (stands s b d there e f ∙ le-ltb _ _ t);
   }
 
 pub halved : {w : ℕ} {s : List ℕ} {wanted low high : ℕ} → Halving w s wanted low high → high ≤ low → (k : List ℕ) → Keyed w k wanted → ascend (records w s) ≡ true → low ≡ firstAt (records w s) k

@@ -2,7 +2,7 @@
 ghost use mathlib.Core.Path.{_≡_};
 ghost use mathlib.Core.Bool.{true};
 ghost use mathlib.Core.List.{List, [], _∷_};
-ghost use Prim.Native.Nat.{ℕ, _+_, _*_, _/_, _<_, _≤_};
+ghost use Prim.Native.Nat.{ℕ, _+_, _-_, _*_, _/_, _^_, _<_, _≤_};
 ghost use lib.ListN.{length, take, drop};
 ghost use Rattle.lists.specs.Lists.{keep};
 ghost use Rattle.table.specs.File.{records};
@@ -33,17 +33,57 @@ pub fn return_key(q: u8, a: u8, s: u8) -> u32
     with_byte(with_byte(with_byte(0, q), a), s)
 }
 
+// The number of the two bytes at a place.
+fn two_at(section: &[u8], at: usize) -> u32
+    requires { ⌜ at + 1 < length (now section) ⌝ }
+    ensures { λ r. ⌜ r ≡ key (take 2 (drop at (now (section .entry)))) ⌝ }
+{
+    with_byte(with_byte(0, section[at]), section[at + 1])
+}
+
+// The number of the four bytes at a place.
+fn four_at(section: &[u8], at: usize) -> u32
+    requires { ⌜ at + 3 < length (now section) ⌝ }
+    ensures { λ r. ⌜ r ≡ key (take 4 (drop at (now (section .entry)))) ⌝ }
+{
+    with_byte(
+        with_byte(two_at(section, at), section[at + 2]),
+        section[at + 3],
+    )
+}
+
 // The number of a record of 3 or 4 bytes, its first byte the highest.
 pub(crate) fn number_at(section: &[u8], width: usize, at: usize) -> u32
     requires { ⌜ (3 ≤ width) × (width ≤ 4) × (at + width ≤ length (now section)) ⌝ }
     ensures { λ r. ⌜ r ≡ key (take width (drop at (now (section .entry)))) ⌝ }
 {
-    let two = with_byte(with_byte(0, section[at]), section[at + 1]);
-    let three = with_byte(two, section[at + 2]);
     if width == 3 {
-        return three;
+        return with_byte(two_at(section, at), section[at + 2]);
     }
-    with_byte(three, section[at + 3])
+    four_at(section, at)
+}
+
+// The number of an even number of bytes of record i, which are read at once: the first two of three, or all four.
+fn even_at(section: &[u8], width: usize, i: usize) -> u32
+    requires { ⌜ (3 ≤ width) × (width ≤ 4) × (i < length (now section) / width) ⌝ }
+    ensures { λ r. ⌜ r ≡ key (take (2 * (width - 2)) (drop (i * width) (now (section .entry)))) ⌝ }
+{
+    let at = i * width;
+    if width == 3 {
+        return two_at(section, at);
+    }
+    four_at(section, at)
+}
+
+// The lowest such number of a record that starts with the key.
+fn lowest_at(width: usize, wanted: u32) -> u32
+    requires { ⌜ (3 ≤ width) × (width ≤ 4) × (wanted < 16777216) ⌝ }
+    ensures { λ r. ⌜ r ≡ wanted * 256 ^ (width - 3) ⌝ }
+{
+    if width == 3 {
+        return wanted;
+    }
+    wanted * 256
 }
 
 // The number of record i without its last byte.
@@ -56,15 +96,16 @@ fn key_at(section: &[u8], width: usize, i: usize) -> u32
 
 // The first record that does not stand before the key, by halves; their count where there is none.
 fn first_at(section: &[u8], width: usize, wanted: u32) -> usize
-    requires { ⌜ (3 ≤ width) × (width ≤ 4) ⌝ }
+    requires { ⌜ (3 ≤ width) × (width ≤ 4) × (wanted < 16777216) ⌝ }
     ensures within { λ r. ⌜ r ≤ length (now (section .entry)) / width ⌝ }
     ensures first { λ r. ⌜ ((k : List ℕ) → Keyed width k wanted → ascend (records width (now (section .entry))) ≡ true → r ≡ firstAt (records width (now (section .entry))) k) ⌝ }
 {
+    let lowest = lowest_at(width, wanted);
     let mut low: usize = 0;
     let mut high = section.len() / width;
     'halves: while low < high {
         let middle = low + (high - low) / 2;
-        if key_at(section, width, middle) < wanted {
+        if even_at(section, width, middle) < lowest {
             low = middle + 1;
         } else {
             high = middle;
@@ -97,6 +138,9 @@ pub fn starting<'a>(section: &'a [u8], width: usize, wanted: u32) -> &'a [u8]
         return &section[..0];
     }
     if 4 < width {
+        return &section[..0];
+    }
+    if 16777215 < wanted {
         return &section[..0];
     }
     let from = first_at(section, width, wanted);

@@ -9,13 +9,16 @@ use Rattle.table.proofs.keyed.first_at.Statement.{statement}
 use Rattle.table.proofs.keyed.first_at.Tie as tie
 
 abbrev Inv-halves : tie.InvT-halves
-Inv-halves section width wanted low₀ high₀ low high = Halving width section wanted low high
+Inv-halves section width wanted lowest low₀ high₀ low high = Halving width section wanted low high
 
 abbrev μ-halves : tie.MeasureT-halves
-μ-halves section width wanted low₀ high₀ low high = high - low
+μ-halves section width wanted lowest low₀ high₀ low high = high - low
+
+lowest-at-requires : tie.Need-lowest-at-requires Inv-halves μ-halves
+lowest-at-requires c κs = c .before .pre
 
 div-high : tie.Need-div-high Inv-halves μ-halves
-div-high c = omega (arith, c .before .pre)
+div-high c = omega (arith, c .before .before .pre)
 
 halves-holds : tie.Need-halves-holds Inv-halves μ-halves
 halves-holds c = halving _ _
@@ -24,25 +27,25 @@ sub-middle : tie.Need-sub-middle Inv-halves μ-halves
 sub-middle c = search needs
 
 add-middle : tie.Need-add-middle Inv-halves μ-halves
-add-middle c = omega (arith, c .before .halves .inv, c .halves-test .taken, div-le-self (length (c .before .before .before .args .section .now)) (c .before .before .before .args .width), c .before .before .before .good .0 .0)
+add-middle c = omega (arith, c .before .halves .inv, c .halves-test .taken, div-le-self (length (c .before .before .before .before .args .section .now)) (c .before .before .before .before .args .width), c .before .before .before .before .good .0 .0)
 
-key-at-requires : tie.Need-key-at-requires Inv-halves μ-halves
-key-at-requires c κs = (c .before .before .before .pre .0, c .before .before .before .pre .1, omega (arith, c .before .halves .inv, c .halves-test .taken))
+even-at-requires : tie.Need-even-at-requires Inv-halves μ-halves
+even-at-requires c κs = (c .before .before .before .before .pre .0, c .before .before .before .before .pre .1, omega (arith, c .before .halves .inv, c .halves-test .taken))
 
 add-low : tie.Need-add-low Inv-halves μ-halves
-add-low c = omega (arith, c .before .before .before .halves .inv, c .before .before .halves-test .taken, div-le-self (length (c .before .before .before .before .before .args .section .now)) (c .before .before .before .before .before .args .width), c .before .before .before .before .before .good .0 .0)
+add-low c = omega (arith, c .before .before .before .halves .inv, c .before .before .halves-test .taken, div-le-self (length (c .before .before .before .before .before .before .args .section .now)) (c .before .before .before .before .before .before .args .width), c .before .before .before .before .before .before .good .0 .0)
 
 halves-less : tie.Need-halves-less Inv-halves μ-halves
 halves-less c = search needs
 
 halves-again : tie.Need-halves-again Inv-halves μ-halves
-halves-again c = upper-half (λ i. c .before .before .before .before .shared-slice-known .given i .fits) (c .before .before .before .halves .inv) (omega arith) (omega (arith, c .before .before .halves-test .taken)) (c .before .key-at .ensures) (c .if1 .taken)
+halves-again c = upper-half (λ i. c .before .before .before .before .before .shared-slice-known .given i .fits) (c .before .before .before .halves .inv) (omega arith) (omega (arith, c .before .before .halves-test .taken)) (c .before .even-at .ensures) (c .before .before .before .before .lowest-at .ensures) (c .if1 .taken)
 
 halves-less-2 : tie.Need-halves-less-2 Inv-halves μ-halves
 halves-less-2 c = search needs
 
 halves-again-2 : tie.Need-halves-again-2 Inv-halves μ-halves
-halves-again-2 c = lower-half (λ i. c .before .before .before .before .shared-slice-known .given i .fits) (c .before .before .before .halves .inv) (omega arith) (omega (arith, c .before .before .halves-test .taken)) (c .before .key-at .ensures) (c .if1 .left)
+halves-again-2 c = lower-half (λ i. c .before .before .before .before .before .shared-slice-known .given i .fits) (c .before .before .before .halves .inv) (omega arith) (omega (arith, c .before .before .halves-test .taken)) (c .before .even-at .ensures) (c .before .before .before .before .lowest-at .ensures) (c .if1 .left)
 
 returns : tie.Need-returns Inv-halves μ-halves
 returns c = (omega (arith, c .before .halves .inv), halved (c .before .halves .inv) (c .halves-test .left))
@@ -53,11 +56,12 @@ first-at-spec =
     (tie.spec
     Inv-halves
     μ-halves
+    lowest-at-requires
     div-high
     halves-holds
     sub-middle
     add-middle
-    key-at-requires
+    even-at-requires
     add-low
     halves-less
     halves-again

@@ -1,0 +1,25 @@
+-- `table::keyed::lowest_at` meets its contract. Assumes nothing.
+use mathlib.Core.Path.{_≡_, sym, ap, _∙_}
+use Prim.Native.Nat.{_-_, _*_, _^_}
+use native.Mathlib.Omega.{arith}
+use native.Mathlib.Nat.{mul-one}
+use borrow.Author.Needs.{needs}
+use Rattle.table.proofs.keyed.lowest_at.Statement.{statement}
+use Rattle.table.proofs.keyed.lowest_at.Tie as tie
+
+returns : tie.Need-returns
+returns c =
+    let w : 0 ≡ c .before .args .width - 3 = omega (arith, c .if1 .taken) in
+    sym (mul-one (c .before .args .wanted)) ∙ ap (λ n. c .before .args .wanted * 256 ^ n) w
+
+mul-result : tie.Need-mul-result
+mul-result c = omega (arith, c .before .pre .2)
+
+returns-2 : tie.Need-returns-2
+returns-2 c =
+    let w : 1 ≡ c .before .args .width - 3 = omega (arith, c .before .pre, c .if1 .left) in
+    ap (λ n. c .before .args .wanted * 256 ^ n) w
+
+pub lowest-at-spec : {M : Type 1} → statement M
+lowest-at-spec =
+    tie.close (tie.spec returns mul-result returns-2)

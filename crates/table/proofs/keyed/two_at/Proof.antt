@@ -1,0 +1,37 @@
+-- `table::keyed::two_at` meets its contract. Assumes nothing.
+use mathlib.Core.Path.{refl}
+use Prim.Native.Nat.{_+_}
+use native.Mathlib.Omega.{arith}
+use Rattle.table.proofs.Keys.{first-byte, next-byte}
+use borrow.Author.Needs.{needs}
+use Rattle.table.proofs.keyed.two_at.Statement.{statement}
+use Rattle.table.proofs.keyed.two_at.Tie as tie
+
+shared-slice-read-with-byte : tie.Need-shared-slice-read-with-byte
+shared-slice-read-with-byte c = omega (arith, c .before .before .pre)
+
+with-byte-requires : tie.Need-with-byte-requires
+with-byte-requires c κs = search needs
+
+add-with-byte : tie.Need-add-with-byte
+add-with-byte c = omega (arith, c .before .before .before .pre, c .before .before .before .good .0 .0)
+
+shared-slice-read-with-byte-2 : tie.Need-shared-slice-read-with-byte-2
+shared-slice-read-with-byte-2 c = search needs
+
+with-byte-requires-2 : tie.Need-with-byte-requires-2
+with-byte-requires-2 c κs = omega (arith, c .before .with-byte .ensures, c .before .before .before .shared-slice-known .given (c .before .before .before .before .args .at) .fits)
+
+returns : tie.Need-returns
+returns c = next-byte (c .before .before .before .before .before .args .section .now) (c .before .before .before .before .before .args .at) 1 (first-byte (c .before .before .before .before .before .args .section .now) (c .before .before .before .before .before .args .at) (omega (arith, c .before .before .before .before .before .pre)) (c .before .before .with-byte .ensures)) (c .before .before .before .before .before .pre) refl (c .with-byte2 .ensures)
+
+pub two-at-spec : {M : Type 1} → statement M
+two-at-spec =
+    tie.close
+    (tie.spec
+    shared-slice-read-with-byte
+    with-byte-requires
+    add-with-byte
+    shared-slice-read-with-byte-2
+    with-byte-requires-2
+    returns)
