@@ -14,7 +14,7 @@ use lib.Dec.{eqb}
 use lib.Count.{onesIn}
 use borrow.Author.Tests.{eq-eqb, ne-eqb}
 use Rattle.lists.specs.Lists.{parts, same}
-use Rattle.lists.specs.Bits.{has, onesOver}
+use Rattle.lists.specs.Bits.{onesOver}
 use Rattle.lists.proofs.Members.{same-true}
 use Rattle.lists.proofs.Words.{ones-le}
 use Rattle.table.specs.Limits.{standard}
@@ -36,9 +36,10 @@ records-cons w s at p h =
     let k : length (drop at s) / w ≡ suc (length (drop (at + w) s) / w) = ap (λ n. n / w) e ∙ add-div-right (length (drop (at + w) s)) p ∙ add-one _ in
     ap (λ n. parts n w (drop at s)) k ∙ ap (λ r. take w (drop at s) ∷ parts (length (drop (at + w) s) / w) w r) (drop-drop w at s)
 
-pub records-nil : (w : ℕ) (s : List ℕ) (at : ℕ) → 0 < w → length s ≤ at → records w (drop at s) ≡ []
+-- less than a record is left
+pub records-end : (w : ℕ) (s : List ℕ) (at : ℕ) → length s - at < w → records w (drop at s) ≡ []
 unfolding records parts
-records-nil w s at p h = ap (records w) (drop-of-length-le s h) ∙ ap (λ n. parts n w []) (div-eq-of-lt p)
+records-end w s at h = let short : length (drop at s) < w = omega (arith, length-drop at s) in ap (λ k. parts k w (drop at s)) (div-eq-of-lt short)
 
 -- a byte of the record at a place
 pub record-byte : (w : ℕ) (s : List ℕ) (at i : ℕ) → i < w → getD (take w (drop at s)) i 0 ≡ getD s (at + i) 0
@@ -80,7 +81,7 @@ walking k f h = record { inside = omega arith; whole = rw sub-zero (h .whole); s
 
 module _ {k : Kind} {s f : List ℕ} {at : ℕ} {g : List ℕ} (p : Walking k s f at g) where
   pub walked : length s ≤ at → g ≡ byRecords k (records (widthOf k) s) f
-  walked h = sym (p .meets ∙ ap (λ rs. byRecords k rs g) (records-nil (widthOf k) s at (omega (arith, three-bytes k)) h) ∙ by-nil k g)
+  walked h = sym (p .meets ∙ ap (λ rs. byRecords k rs g) (records-end (widthOf k) s at (omega (arith, three-bytes k))) ∙ by-nil k g)
 
   module _ (h : at < length s) where
     -- a whole record is left

@@ -1,6 +1,5 @@
 // The reachable stack tops of a table.
 ghost use mathlib.Core.Path.{_≡_};
-ghost use mathlib.Core.Logic.{_≢_};
 ghost use Prim.Native.Nat.{suc, _-_, _*_, _^_, _<_, _≤_};
 ghost use mathlib.Core.List.{[], _++_};
 ghost use lib.ListN.{length, replicate};

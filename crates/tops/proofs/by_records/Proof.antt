@@ -1,8 +1,6 @@
 -- `tops::by_records` meets its contract. The invariant: what the records from here on do to the words as they are. Assumes nothing.
 use borrow.Author.Needs.{needs}
 use Prim.Native.Nat.{_+_, _-_, _<_, _≤_}
-use native.Mathlib.Omega.{arith}
-use mathlib.Core.Path.{_∙_}
 use lib.ListN.{length}
 use Rattle.tops.proofs.Loops.{Walking, walking, fits, states-read, walk-on, walked}
 use Rattle.tops.proofs.by_records.Statement.{statement}

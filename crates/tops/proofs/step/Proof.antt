@@ -1,7 +1,6 @@
 -- `tops::step` meets its contract. Assumes nothing.
 use borrow.Author.Needs.{needs}
 use borrow.Author.Tests.{eq-eqb, ne-eqb}
-use mathlib.Core.Path.{sym, _∙_}
 use Rattle.tops.specs.Sections.{stepBy}
 use Rattle.tops.proofs.step.Statement.{statement}
 use Rattle.tops.proofs.step.Tie as tie
