@@ -2,6 +2,7 @@
 // reduced table; or the refusal.
 ghost use mathlib.Core.Path.{_≡_};
 ghost use Prim.Native.Nat.{_*_, _≤_, _<_};
+ghost use lib.Dec.{leb};
 ghost use lib.ListN.{length};
 ghost use Rattle.io.specs.Digits.{glyph};
 ghost use Rattle.lists.specs.Lists.{over};
@@ -16,14 +17,15 @@ use reduce::Reduction;
 use table::Reading;
 use table::Section;
 
-fn say(text: &[u8]) -> bool {
-    io::write_all(STDOUT_FILENO, text)
+// Writes text to standard output. Of what is written no contract can speak, and of whether it was the library says nothing: printing has no answer.
+fn say(text: &[u8]) {
+    io::write_all(STDOUT_FILENO, text);
 }
 
 // A number behind its name.
-fn say_number(name: &[u8], number: u64) -> bool {
+fn say_number(name: &[u8], number: u64) {
     say(name);
-    io::print_decimal(STDOUT_FILENO, number)
+    io::print_decimal(STDOUT_FILENO, number);
 }
 
 fn wide(x: u8) -> u64
@@ -32,22 +34,22 @@ fn wide(x: u8) -> u64
     x as u64
 }
 
-fn say_counts(states: usize, classes: usize, guesses: u64, words: usize) -> bool {
+fn say_counts(states: usize, classes: usize, guesses: u64, words: usize) {
     say_number(b"states ", states as u64);
     say_number(b" classes ", classes as u64);
     say_number(b" guesses ", guesses);
     say_number(b" words ", words as u64);
-    say(b"\n")
+    say(b"\n");
 }
 
-fn say_map(map: &[u8]) -> bool {
+fn say_map(map: &[u8]) {
     say(b"map");
     let mut q: usize = 0;
     'states: while q < map.len() {
         say_number(b" ", wide(map[q]));
         q += 1;
     }
-    say(b"\n")
+    say(b"\n");
 }
 
 // A hexadecimal digit as text.
@@ -77,15 +79,19 @@ fn put_hex(bytes: &[u8], text: &mut [u8])
     }
 }
 
-// Asks that the bytes are no more than a table has.
+// Answers whether the bytes are no more than a table has; more are not printed.
 fn say_table(bytes: &[u8]) -> bool
-    requires { ⌜ length (now bytes) ≤ 22596 ⌝ }
+    ensures { λ r. ⌜ r ≡ leb (length (now (bytes .entry))) 22596 ⌝ }
 {
+    if 22596 < bytes.len() {
+        return false;
+    }
     let mut text = [0u8; 67788];
     put_hex(bytes, &mut text);
     say(b"table");
     say(&text[..3 * bytes.len()]);
-    say(b"\n")
+    say(b"\n");
+    true
 }
 
 // How many states a table has that reduce did not refuse.
@@ -102,7 +108,7 @@ fn state_count(table: &[u8]) -> usize
     }
 }
 
-fn reduce_lent(table: &[u8]) -> bool {
+fn reduce_lent(table: &[u8]) {
     let mut list = [0u16; 32768];
     let mut map = [0u8; 24];
     let mut out = [0u8; 22596];
@@ -117,11 +123,11 @@ fn reduce_lent(table: &[u8]) -> bool {
             let n = state_count(table);
             say_counts(n, classes, guesses, words);
             say_map(&map[..n]);
-            say_table(&out[..length])
+            say_table(&out[..length]);
         }
         Reduction::Refused(number) => {
             say_number(b"refused ", number as u64);
-            say(b"\n")
+            say(b"\n");
         }
     }
 }

@@ -2,19 +2,19 @@
 use mathlib.Core.Path.{_≡_, refl, sym, ap, _∙_}
 use mathlib.Core.List.{List, [], _∷_, _++_, append-nil, append-assoc, List·Memᴰ, List·Memᴰ·head, List·Memᴰ·tail}
 use Prim.Native.Nat.{ℕ, zero, suc, _+_, _-_, _≤_, _<_}
-use native.Mathlib.Numerals.{add-one}
 use native.Mathlib.Omega.{arith}
-use native.Mathlib.Nat.{add-zero, add-suc, div-eq-of-lt}
+use native.Mathlib.Nat.{add-zero, add-suc}
 use native.Mathlib.Decide.{decLt}
-use lib.ListN.{length, take, drop, length-drop, drop-of-length-le}
-use lib.Seq.{drop-cons, drop-append-le}
+use lib.ListN.{length, take, drop, drop-of-length-le}
+use lib.Seq.{drop-append-le}
 use lib.Dec.{ltb}
 use borrow.Author.Tests.{lt-ltb, le-ltb}
-use Rattle.lists.specs.Lists.{keep, gather, upto, parts}
-use Rattle.lists.proofs.Members.{upto-mem, length-upto, getD-upto}
+use Rattle.lists.specs.Lists.{keep, gather, upto}
+use Rattle.lists.proofs.Members.{upto-mem, length-upto}
+use Rattle.lists.proofs.Upto.{upto-on}
 use Rattle.lists.proofs.Counts.{keep-append, gather-append}
 use Rattle.table.specs.File.{records}
-use Rattle.tops.proofs.Loops.{records-cons}
+use Rattle.tops.proofs.Loops.{records-cons, records-end}
 use Rattle.clauses.specs.Pairs.{pairs, pairOf}
 use Rattle.clauses.specs.Clauses.{past}
 use Rattle.clauses.specs.Emit.{State, Ordered, emit}
@@ -22,9 +22,6 @@ use Rattle.clauses.proofs.Pairs.{pairs-suc, variable-lt, pair-variable}
 use Rattle.clauses.proofs.Emitting.{Coming, coming, come-on, come-as, come}
 
 -- ---- the numbers from q on
-
-pub from-here : (n q : ℕ) → q < n → drop q (upto n) ≡ q ∷ drop (q + 1) (upto n)
-from-here n q h = drop-cons (upto n) q 0 (omega (arith, length-upto n)) ∙ (λ i. getD-upto n q 0 h i ∷ drop (sym (add-one q) i) (upto n))
 
 pub from-end : (n q : ℕ) → n ≤ q → drop q (upto n) ≡ []
 from-end n q h = drop-of-length-le (upto n) {i = q} (omega (arith, length-upto n))
@@ -57,20 +54,13 @@ module _ (f : ℕ → List (List ℕ)) (n : ℕ) where
 module _ {f : ℕ → List (List ℕ)} {n : ℕ} {all : List (List ℕ)} {start : State} {q : ℕ} {now : State} (w : Over f n all start q now) where
   pub over-on : {next : State} → q < n → next ≡ emit (f q) now → Over f n all start (q + 1) next
   unfolding gather
-  over-on h e = record { inside = omega arith; coming = come-on (f q) _ (come-as (ap (gather f) (from-here n q h)) (w .coming)) e }
+  over-on h e = record { inside = omega arith; coming = come-on (f q) _ (come-as (ap (gather f) (upto-on n q h)) (w .coming)) e }
 
   pub over-done : n ≤ q → now ≡ emit all start
   unfolding gather
   over-done h = come (come-as (ap (gather f) (from-end n q h)) (w .coming))
 
 -- ---- a loop over the records of a section
-
-pub records-end : (w : ℕ) (s : List ℕ) (at : ℕ) → length s - at < w → records w (drop at s) ≡ []
-unfolding records parts
-records-end w s at h = ap (λ k. parts k w (drop at s)) (div-eq-of-lt short)
-  where
-    short : length (drop at s) < w
-    short = omega (arith, length-drop at s)
 
 module _ (g : List ℕ → List (List ℕ)) (w : ℕ) (s : List ℕ) where
   pub record Along (all : List (List ℕ)) (start : State) (at : ℕ) (now : State) : Type 0 where

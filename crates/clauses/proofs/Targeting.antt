@@ -10,11 +10,10 @@ use lib.Seq.{length-take-le}
 use borrow.Author.Tests.{eq-eqb, ne-eqb}
 use Rattle.lists.specs.Lists.{mem}
 use Rattle.table.specs.File.{records}
-use Rattle.tops.proofs.Loops.{records-cons, record-byte}
+use Rattle.tops.proofs.Loops.{records-cons, records-end, record-byte}
 use Rattle.clauses.specs.declared.literals.Literals.{Literals}
 use Rattle.clauses.specs.Clauses.{together, apart, opposite, premise}
 use Rattle.clauses.specs.Emit.{literalsOf, withLiteral, withAll, Holds, matchingFrom, lastBytes, State, emit}
-use Rattle.clauses.proofs.Stepping.{records-end}
 use Rattle.clauses.proofs.Tidying.{Matching, match-itself, match-both, match-on, matched}
 
 -- ---- premises

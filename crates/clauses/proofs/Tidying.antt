@@ -1,14 +1,14 @@
 -- A clause tidied literal by literal is the tidy clause, and a clause with its premises first. Assumes nothing.
 use mathlib.Core.Path.{_≡_, refl, sym, ap, _∙_, subst}
 use mathlib.Core.Logic.{_⊎_, inl, inr, _≢_}
-use mathlib.Core.Bool.{Bool, true, false, _||_}
+use mathlib.Core.Bool.{Bool, true, false, _||_, or-comm}
 use mathlib.Core.List.{List, [], _∷_, _++_, append-assoc, append-nil, map, List·Memᴰ, List·Memᴰ·head, List·Memᴰ·tail, Memᴰ·append-left, Memᴰ·append-right, List·Memᴰ·append-cases as append-cases, List·Memᴰ·not-nil as not-nil, List·Memᴰ·eq-of-singleton as eq-of-singleton, List·Memᴰ·cases-cons as cases-cons}
 use Prim.Native.Nat.{ℕ, _%_}
 use native.Mathlib.Omega.{arith}
 use lib.Dec.{eqb}
 use borrow.Author.Tests.{eq-eqb, ne-eqb}
 use Rattle.lists.specs.Lists.{any, mem}
-use Rattle.lists.proofs.Members.{any-true, any-false, mem-true, mem-false}
+use Rattle.lists.proofs.Members.{any-true, any-false, mem-true, mem-false, mem-snoc}
 use Rattle.clauses.specs.Clauses.{together, apart, opposite, once, tidy, premise, matching}
 use Rattle.clauses.specs.Emit.{withLiteral, withAll, tidyFrom, matchingFrom}
 use Rattle.clauses.proofs.Tidy.{opposite-half, opposite-sign}
@@ -84,25 +84,6 @@ left-out kept (y ∷ ys) b = go (mem (opposite y) kept) refl (left-out (withLite
 
 -- ---- no tautology
 
-mem-snoc : (x l : ℕ) (kept : List ℕ) → mem x (kept ++ (l ∷ [])) ≡ (mem x kept || eqb x l)
-unfolding mem any
-mem-snoc x l [] = go (eqb x l)
-  where
-    go : (t : Bool) → (t || false) ≡ t
-    go true = refl
-    go false = refl
-mem-snoc x l (y ∷ kept) = go (eqb x y) (mem-snoc x l kept)
-  where
-    go : (t : Bool) → mem x (kept ++ (l ∷ [])) ≡ (mem x kept || eqb x l) → (t || mem x (kept ++ (l ∷ []))) ≡ ((t || mem x kept) || eqb x l)
-    go true e = refl
-    go false e = e
-
-swapped : (s t : Bool) → (s || t) ≡ (t || s)
-swapped true true = refl
-swapped true false = refl
-swapped false true = refl
-swapped false false = refl
-
 written-once : (before kept ls : List ℕ) → ((x : ℕ) → mem x before ≡ mem x kept) → ((l x : ℕ) → List·Memᴰ l ls → List·Memᴰ x kept ⊎ List·Memᴰ x ls → opposite l ≢ x) → tidyFrom kept ls ≡ (kept ++ once before ls) ∷ []
 unfolding tidyFrom once
 written-once before kept [] same h = sym (ap (λ ls. ls ∷ []) (append-nil kept))
@@ -123,7 +104,7 @@ written-once before kept (l ∷ ls) same h =
     behind (inr m) = inr (List·Memᴰ·tail m)
 
     more : (x : ℕ) → mem x (l ∷ before) ≡ mem x (kept ++ (l ∷ []))
-    more x = unfold mem any in (ap (λ (t : Bool). eqb x l || t) (same x) ∙ swapped (eqb x l) (mem x kept) ∙ sym (mem-snoc x l kept))
+    more x = unfold mem any in (ap (λ (t : Bool). eqb x l || t) (same x) ∙ or-comm (eqb x l) (mem x kept) ∙ sym (mem-snoc x l kept))
 
     none : mem (opposite l) kept ≡ false
     none = not-mem (opposite l) kept (λ x m. h l x (List·Memᴰ·head refl) (inl m))

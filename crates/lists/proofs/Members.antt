@@ -1,7 +1,7 @@
 -- What the walks of specs/Lists say of a list's members. Assumes nothing.
 use mathlib.Core.Path.{_≡_, refl, sym, ap, _∙_, subst}
 use mathlib.Core.Logic.{_⊎_, inl, inr, _≢_}
-use mathlib.Core.Bool.{Bool, true, false, _&&_, _||_, not, true≢false}
+use mathlib.Core.Bool.{Bool, true, false, _&&_, _||_, not, true≢false, or-assoc, or-false as or-none}
 use mathlib.Core.List.{List, [], _∷_, _++_, map, List·Memᴰ, List·Memᴰ·head, List·Memᴰ·tail, Memᴰ·append-left, Memᴰ·append-right, List·Memᴰ·append-cases as append-cases, List·Memᴰ·not-nil as not-nil, List·Memᴰ·eq-of-singleton as eq-of-singleton, List·Memᴰ·cases-cons as cases-cons}
 use Prim.Native.Nat.{ℕ, zero, suc, _+_, _≤_, _<_, zero-le, suc-le-suc}
 use native.Mathlib.Nat.{le-trans, le-suc}
@@ -212,6 +212,11 @@ mem-of x xs m = any-of (eqb x) xs x m (eq-eqb x x refl)
 pub mem-false : (x : ℕ) (xs : List ℕ) → mem x xs ≡ false → (y : ℕ) → List·Memᴰ y xs → x ≢ y
 unfolding mem
 mem-false x xs e y m = eqb-false x y (any-false (eqb x) xs e y m)
+
+pub mem-snoc : (x y : ℕ) (xs : List ℕ) → mem x (xs ++ (y ∷ [])) ≡ (mem x xs || eqb x y)
+unfolding mem any
+mem-snoc x y [] = or-none (eqb x y)
+mem-snoc x y (z ∷ xs) = ap (λ t. eqb x z || t) (mem-snoc x y xs) ∙ sym (or-assoc (eqb x z) (mem x xs) (eqb x y))
 
 pub same-true : (xs ys : List ℕ) → same xs ys ≡ true → xs ≡ ys
 unfolding same

@@ -18,7 +18,7 @@ pub record Counting (f : List ℕ → Bool) (n i : ℕ) : Type 0 where
 pub counting : (f : List ℕ → Bool) (n : ℕ) → Counting f n 0
 counting f n = record { inside = omega arith; meets = refl }
 
-upto-on : (n i : ℕ) → i < n → drop i (upto n) ≡ i ∷ drop (i + 1) (upto n)
+pub upto-on : (n i : ℕ) → i < n → drop i (upto n) ≡ i ∷ drop (i + 1) (upto n)
 upto-on n i h =
     drop-cons (upto n) i 0 (omega (arith, length-upto n))
     ∙ λ j. getD-upto n i 0 h j ∷ drop (sym (add-one i) j) (upto n)

@@ -1,7 +1,7 @@
 -- Laws for judging a list of clause words: what is still to come of each loop. Assumes nothing.
 use mathlib.Core.Path.{_≡_, refl, sym, ap, _∙_, subst}
 use mathlib.Core.Logic.{_⊎_, inl, inr}
-use mathlib.Core.Bool.{Bool, true, false, _&&_, _||_, not, and-false}
+use mathlib.Core.Bool.{Bool, true, false, _&&_, _||_, not, and-false, or-false as or-none}
 use mathlib.Core.List.{List, [], _∷_, _++_, map, map-append, List·Memᴰ, List·Memᴰ·head, List·Memᴰ·tail, Memᴰ·append-right, List·Memᴰ·append-cases as append-cases, List·Memᴰ·not-nil as not-nil, List·Memᴰ·eq-of-singleton as eq-of-singleton}
 use Prim.Native.Nat.{ℕ, suc, _+_, _-_, _/_, _≤_, _<_}
 use native.Mathlib.Numerals.{add-one}
@@ -12,7 +12,7 @@ use lib.Seq.{getD-set-same, getD-set-other, take-suc, drop-cons, drop-drop, take
 use lib.Dec.{eqb, leb}
 use borrow.Author.Tests.{eqb-false, eq-eqb, ne-eqb, le-leb, lt-leb, not-true}
 use Rattle.lists.specs.Lists.{any, all, mem}
-use Rattle.lists.proofs.Members.{and-true, or-right, or-false, mem-true, mem-false}
+use Rattle.lists.proofs.Members.{and-true, or-right, or-false, mem-true, mem-false, mem-snoc}
 use Rattle.search.specs.Marks.{Below}
 use Rattle.cnf.specs.Clauses.{clausesIn, whole, distinct, clauseFits}
 use Rattle.cnf.proofs.Words.{clauses-nil, clauses-cons, whole-nil, whole-cons, fits-below, fits-distinct, fits-of}
@@ -44,23 +44,10 @@ none-marked = record { long = refl; lower = λ x h. omega (arith, getD-replicate
 pub lower-still : {marks : List ℕ} {a b : ℕ} → Below marks a → a ≤ b → Below marks b
 lower-still p h = record { long = p .long; lower = λ x k. omega (arith, p .lower x k) }
 
-mem-end : (x y : ℕ) (xs : List ℕ) → mem x (xs ++ (y ∷ [])) ≡ (mem x xs || eqb x y)
-unfolding mem any
-mem-end x y [] = go (eqb x y)
-  where
-    go : (t : Bool) → (t || false) ≡ t
-    go true = refl
-    go false = refl
-mem-end x y (z ∷ xs) = go (eqb x z) (mem-end x y xs)
-  where
-    go : (t : Bool) → mem x (xs ++ (y ∷ [])) ≡ (mem x xs || eqb x y) → (t || mem x (xs ++ (y ∷ []))) ≡ ((t || mem x xs) || eqb x y)
-    go true e = refl
-    go false e = e
-
 pub mark-on : {ls marks : List ℕ} {mark i x : ℕ} → Marked ls marks mark i → i < length ls → x ≡ getD ls i 0 / 2 → x < 276 → Marked ls (set marks x mark) mark (i + 1)
 mark-on {ls} {marks} {mark} {i} {x} p h e k = record {
   below = record { long = length-set marks x mark ∙ p .below .long; lower = λ y l. omega (arith, lows y l (ℕ-discrete y x)) };
-  met = λ y l. mets y l (ℕ-discrete y x) ∙ sym (ap (mem y) grown ∙ mem-end y x (variablesOf (take i ls)));
+  met = λ y l. mets y l (ℕ-discrete y x) ∙ sym (ap (mem y) grown ∙ mem-snoc y x (variablesOf (take i ls)));
 }
   where
     more : take (i + 1) ls ≡ take i ls ++ (getD ls i 0 ∷ [])
@@ -78,18 +65,9 @@ mark-on {ls} {marks} {mark} {i} {x} p h e k = record {
 
     mets : (y : ℕ) → y < 276 → Dec (y ≡ x) → eqb (getD (set marks x mark) y 0) mark ≡ (mem y (variablesOf (take i ls)) || eqb y x)
     mets y l (yes q) = eq-eqb _ _ (ap (λ z. getD (set marks x mark) z 0) q ∙ here) ∙ sym (or-right (mem y (variablesOf (take i ls))) (eq-eqb y x q))
-    mets y l (no q) = ap (λ z. eqb z mark) (getD-set-other marks x y mark 0 q) ∙ p .met y l ∙ sym (rw (ne-eqb y x q) (go (mem y (variablesOf (take i ls)))))
-      where
-        go : (t : Bool) → (t || false) ≡ t
-        go true = refl
-        go false = refl
+    mets y l (no q) = ap (λ z. eqb z mark) (getD-set-other marks x y mark 0 q) ∙ p .met y l ∙ sym (rw (ne-eqb y x q) (or-none (mem y (variablesOf (take i ls)))))
 
 -- ---- whether a clause fits
-
-mem-snoc : (x y : ℕ) (xs : List ℕ) → mem x xs ≡ false → eqb x y ≡ false → mem x (xs ++ (y ∷ [])) ≡ false
-unfolding mem any
-mem-snoc x y [] p q = rw q
-mem-snoc x y (z ∷ xs) p q = let r = or-false (eqb x z) (mem x xs) p in rw (r .0, mem-snoc x y xs (r .1) q)
 
 distinct-snoc : (y : ℕ) (xs : List ℕ) → distinct xs ≡ true → mem y xs ≡ false → distinct (xs ++ (y ∷ [])) ≡ true
 unfolding distinct mem any
@@ -98,7 +76,7 @@ distinct-snoc y (x ∷ xs) d m =
     let p = and-true (not (mem x xs)) (distinct xs) d in
     let q = or-false (eqb y x) (mem y xs) m in
     let other : eqb x y ≡ false = ne-eqb x y (λ e. eqb-false y x (q .0) (sym e)) in
-    rw (mem-snoc x y xs (not-true (mem x xs) (p .0)) other, distinct-snoc y xs (p .1) (q .1))
+    rw (mem-snoc x y xs, not-true (mem x xs) (p .0), other, distinct-snoc y xs (p .1) (q .1))
 
 distinct-twice : (y : ℕ) (xs ys : List ℕ) → distinct (xs ++ y ∷ ys) ≡ true → List·Memᴰ y xs → ⊥
 unfolding distinct

@@ -218,7 +218,7 @@ module _ {ws v₀ t₀ v t : List ℕ} {start count at end : ℕ} (n : Entered w
         let l : last / 2 < length v = rw (grown-length (i .grown)) (ready .formed .below (f .0) (f .1) last (f .2 .has)) in
         (l, omega (arith, room ready i, i .grown .counted, unset-set v (last / 2) 0 l (f .2 .free) (omega arith)))
 
-    pub stored : pos ≡ end → (unset ≡ 0 → ⊥) → {v′ t′ : List ℕ} → v′ ≡ set v (last / 2) (1 - last % 2) → t′ ≡ set t count (last / 2) → Between ws v₀ t₀ start v′ t′ (count + 1) pos
+    pub stored : pos ≡ end → (unset ≡ 0 → ⊥) → {v′ t′ : List ℕ} → v′ ≡ set v (last / 2) (1 - last % 2) → t′ ≡ set t count (last / 2) → Between ws v₀ t₀ start v′ t′ (count + 1) end
     stored p n q r =
         let f = forced p n in
         let l = can-store p n .0 in
@@ -226,8 +226,8 @@ module _ {ws v₀ t₀ v t : List ℕ} {start count at end : ℕ} (n : Entered w
           inside = omega (arith, end-inside);
           grown = grown-trans (i .grown) (rw (q, r) (grown-store (i .grown .counted) (room ready i) l (f .2 .free) (omega arith)));
           units = rw q (more last (i .units) f);
-          all-there = rw p there;
-          part = rw p later;
+          all-there = there;
+          part = later;
           resting = λ s. absurd (omega (arith, not-fewer ready i));
         }
 

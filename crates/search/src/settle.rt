@@ -1,7 +1,7 @@
 // Closing the values: every literal that a clause forces is set, until none is left or a clause is broken.
 ghost use mathlib.Core.Path.{_≡_};
 ghost use mathlib.Core.Bool.{true};
-ghost use Prim.Native.Nat.{_-_, _/_, _%_, _<_};
+ghost use Prim.Native.Nat.{_+_, _-_, _/_, _%_, _<_};
 ghost use lib.ListN.{length, set};
 ghost use Rattle.cnf.specs.Clauses.{clausesIn, whole};
 ghost use Rattle.search.specs.Trail.{literalValue, Ready, Passed, Settles};
@@ -32,17 +32,19 @@ fn value_of(values: &[u8], l: u16) -> u8
     if x == wanted(l) { 1 } else { 0 }
 }
 
-// Makes the literal true, and puts its variable behind the first `count` of the trail.
-pub(crate) fn store(values: &mut [u8], trail: &mut [u16], count: usize, l: u16)
+// Makes the literal true, and puts its variable behind the first `count` of the trail. Answers how many the trail has then.
+pub(crate) fn store(values: &mut [u8], trail: &mut [u16], count: usize, l: u16) -> usize
     requires { ⌜ (l / 2 < length (now values)) × (count < length (now trail)) ⌝ }
-    ensures { λ _. ⌜ (now (values .exit) ≡ set (now (values .entry)) (l / 2) (1 - l % 2)) × (now (trail .exit) ≡ set (now (trail .entry)) count (l / 2)) ⌝ }
+    ensures { λ r. ⌜ (now (values .exit) ≡ set (now (values .entry)) (l / 2) (1 - l % 2)) × (now (trail .exit) ≡ set (now (trail .entry)) count (l / 2)) × (r ≡ count + 1) ⌝ }
 {
     let x = wide(l / 2);
     values[x] = wanted(l);
     trail[count] = l / 2;
+    count + 1
 }
 
-// One pass over the clauses, which sets what is forced as it meets it and is left at a clause whose literals are all false.
+// One pass over the clauses, which sets what is forced as it meets it and is left at a clause whose literals are all false. In a clause `at` is
+// its end, where the next one starts, and `i` the place of the next literal.
 fn pass(list: &[u16], values: &mut [u8], trail: &mut [u16], start: usize) -> Reached
     requires { ⌜ whole (now list) ≡ true ⌝ }
     requires { ⌜ Ready (clausesIn (now list)) (now values) (now trail) start ⌝ }
@@ -52,36 +54,33 @@ fn pass(list: &[u16], values: &mut [u8], trail: &mut [u16], start: usize) -> Rea
     let mut count = start;
     let mut at: usize = 0;
     'clauses: while at < list.len() {
-        let end = at + 1 + wide(list[at]);
-        at += 1;
+        let mut i = at + 1;
+        at = i + wide(list[at]);
         let mut unset: usize = 0;
         let mut last: u16 = 0;
         'literals: loop {
-            if at == end {
+            if i == at {
                 if unset == 0 {
                     broken = true;
                     break 'clauses;
                 }
                 break 'literals;
             }
-            let l = list[at];
+            let l = list[i];
             let x = value_of(values, l);
             if x == 1 {
-                at = end;
                 continue 'clauses;
             }
             if x == 2 {
                 if unset == 1 {
-                    at = end;
                     continue 'clauses;
                 }
                 unset = 1;
                 last = l;
             }
-            at += 1;
+            i += 1;
         }
-        store(values, trail, count, last);
-        count += 1;
+        count = store(values, trail, count, last);
     }
     Reached { broken, count }
 }

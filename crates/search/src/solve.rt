@@ -88,8 +88,7 @@ pub(crate) fn solve(list: &[u16], values: &mut [u8], budget: u64) -> Ending
         depth += 1;
         made += 1;
         // literal 2x says that x is true
-        store(values, &mut trail, r.count, (2 * x) as u16);
-        count = r.count + 1;
+        count = store(values, &mut trail, r.count, (2 * x) as u16);
         low = x + 1;
     }
 }

@@ -14,15 +14,17 @@ use lib.Dec.{eqb}
 use lib.Count.{onesIn}
 use borrow.Author.Tests.{eq-eqb, ne-eqb}
 use Rattle.lists.specs.Lists.{parts, same}
-use Rattle.lists.specs.Bits.{has, onesOver}
+use Rattle.lists.specs.Bits.{onesOver}
 use Rattle.lists.proofs.Members.{same-true}
 use Rattle.lists.proofs.Words.{ones-le}
 use Rattle.table.specs.Limits.{standard}
 use Rattle.table.specs.File.{Table, records}
 use Rattle.table.specs.Sections.{sectioned}
 use Rattle.table.specs.Reading.{isInitial}
-use Rattle.tops.specs.Tops.{add, live, byInternals, byCalls, byReturns, round, rounds, startWords}
-use Rattle.tops.specs.Sections.{Section}
+use Rattle.tops.specs.declared.Kind.{Kind}
+use Rattle.tops.specs.declared.Kind.the-variants.{Internal, Call, Return}
+use Rattle.tops.specs.Tops.{live, byInternals, byCalls, byReturns, round, rounds, startWords}
+use Rattle.tops.specs.Sections.{Section, widthOf, stepBy, byRecords}
 
 -- ---- records
 
@@ -34,100 +36,101 @@ records-cons w s at p h =
     let k : length (drop at s) / w ≡ suc (length (drop (at + w) s) / w) = ap (λ n. n / w) e ∙ add-div-right (length (drop (at + w) s)) p ∙ add-one _ in
     ap (λ n. parts n w (drop at s)) k ∙ ap (λ r. take w (drop at s) ∷ parts (length (drop (at + w) s) / w) w r) (drop-drop w at s)
 
-pub records-nil : (w : ℕ) (s : List ℕ) (at : ℕ) → 0 < w → length s ≤ at → records w (drop at s) ≡ []
+-- less than a record is left
+pub records-end : (w : ℕ) (s : List ℕ) (at : ℕ) → length s - at < w → records w (drop at s) ≡ []
 unfolding records parts
-records-nil w s at p h = ap (records w) (drop-of-length-le s h) ∙ ap (λ n. parts n w []) (div-eq-of-lt p)
+records-end w s at h = let short : length (drop at s) < w = omega (arith, length-drop at s) in ap (λ k. parts k w (drop at s)) (div-eq-of-lt short)
 
 -- a byte of the record at a place
 pub record-byte : (w : ℕ) (s : List ℕ) (at i : ℕ) → i < w → getD (take w (drop at s)) i 0 ≡ getD s (at + i) 0
 record-byte w s at i h = getD-take w (drop at s) i 0 h ∙ getD-drop at s i 0
 
--- ---- a walk over the records of a section: the place reached, and the words there
-
-pub record Walking (by : List (List ℕ) → List ℕ → List ℕ) (w : ℕ) (s before : List ℕ) (at : ℕ) (words : List ℕ) : Type 0 where
-  pub inside : at ≤ length s
-  pub whole : (length s - at) % w ≡ 0
-  pub states : (r : List ℕ) → List·Memᴰ r (records w (drop at s)) → (i : ℕ) → i ≢ 1 → i < w → getD r i 0 < 24
-  pub meets : by (records w s) before ≡ by (records w (drop at s)) words
-
-module _ (by : List (List ℕ) → List ℕ → List ℕ) (w : ℕ) {s : List ℕ} (f : List ℕ) where
-  pub walking : Section w 24 s → Walking by w s f 0 f
-  walking h = record { inside = omega arith; whole = rw sub-zero (h .whole); states = h .states; meets = refl }
-
-module _ {by : List (List ℕ) → List ℕ → List ℕ} {w : ℕ} {s f : List ℕ} {at : ℕ} {g : List ℕ} (p : Walking by w s f at g) where
-  -- a whole record is left
-  pub room : at < length s → at + w ≤ length s
-  room h = go (decLt (length s - at) w)
-    where
-      go : Dec (length s - at < w) → at + w ≤ length s
-      go (yes l) = absurd (omega (arith, p .whole, mod-eq-of-lt l))
-      go (no l) = omega arith
-
-  module _ (pos : 0 < w) (h : at < length s) where
-    here : records w (drop at s) ≡ take w (drop at s) ∷ records w (drop (at + w) s)
-    here = records-cons w s at pos (room h)
-
-    -- its bytes are states
-    pub state-here : (i : ℕ) → i ≢ 1 → i < w → getD s (at + i) 0 < 24
-    state-here i n l =
-        let k = p .states (take w (drop at s)) (rw here (List·Memᴰ·head refl)) i n l in
-        rw (record-byte w s at i l) at k
-
-    pub first-here : getD s at 0 < 24
-    first-here = rw add-zero at (state-here 0 (λ e. omega arith) pos)
-
-    -- what the walk does with it
-    pub walk-on : (g' : List ℕ) → by (take w (drop at s) ∷ records w (drop (at + w) s)) g ≡ by (records w (drop (at + w) s)) g' → Walking by w s f (at + w) g'
-    walk-on g' e = record {
-      inside = room h;
-      whole =
-          let left : length s - at ≡ length s - (at + w) + w = omega (arith, room h) in
-          sym (add-mod-right (length s - (at + w)) w) ∙ ap (λ n. n % w) (sym left) ∙ p .whole;
-      states = λ r m. p .states r (rw here (List·Memᴰ·tail m));
-      meets = p .meets ∙ ap (λ rs. by rs g) here ∙ e;
-    }
-
-  pub walked : 0 < w → length s ≤ at → by [] g ≡ g → g ≡ by (records w s) f
-  walked pos h e = sym (p .meets ∙ ap (λ rs. by rs g) (records-nil w s at pos h) ∙ e)
-
--- ---- one turn for a record of each kind, by the bytes that the code reads
-
 first-byte : (w : ℕ) (s : List ℕ) (at : ℕ) → 0 < w → getD (take w (drop at s)) 0 0 ≡ getD s at 0
 first-byte w s at p = record-byte w s at 0 p ∙ ap (λ n. getD s n 0) (add-zero at)
 
-module _ (r : List ℕ) (rs : List (List ℕ)) (g : List ℕ) {p q : ℕ} (e : getD r 0 0 ≡ p) (f : getD r 2 0 ≡ q) where
-  by-internal : byInternals (r ∷ rs) g ≡ byInternals rs (add g q (getD g p 0))
-  unfolding byInternals
-  by-internal = λ i. byInternals rs (add g (f i) (getD g (e i) 0))
+-- ---- records of a kind
 
-  by-call : (b : Bool) → eqb (getD g p 0) 0 ≡ b → byCalls (r ∷ rs) g ≡ byCalls rs (elim b [ true ↦ g | false ↦ add g q (2 ^ p) ])
-  unfolding byCalls
-  by-call b h =
-      (λ i. byCalls rs (elim (eqb (getD g (e i) 0) 0) [ true ↦ g | false ↦ add g (f i) (2 ^ e i) ]))
-      ∙ ap (λ (c : Bool). byCalls rs (elim c [ true ↦ g | false ↦ add g q (2 ^ p) ])) h
+three-bytes : (k : Kind) → 2 < widthOf k
+three-bytes Internal = omega arith
+three-bytes Call = omega arith
+three-bytes Return = omega arith
 
-  by-return : {u : ℕ} → getD r 3 0 ≡ u → (b : Bool) → has g p q ≡ b → byReturns (r ∷ rs) g ≡ byReturns rs (elim b [ true ↦ add g u (getD g q 0) | false ↦ g ])
-  unfolding byReturns live
-  by-return {u} k b h =
-      (λ i. byReturns rs (elim (has g (e i) (f i)) [ true ↦ add g (k i) (getD g (f i) 0) | false ↦ g ]))
-      ∙ ap (λ (c : Bool). byReturns rs (elim c [ true ↦ add g u (getD g q 0) | false ↦ g ])) h
+-- the first record's step, then the others'
+by-cons : (k : Kind) (r : List ℕ) (rs : List (List ℕ)) (g : List ℕ) → byRecords k (r ∷ rs) g ≡ byRecords k rs (stepBy k g (getD r 0 0) (getD r 2 0) (getD r (widthOf k - 1) 0))
+unfolding byInternals byCalls byReturns live stepBy
+by-cons Internal r rs g = refl
+by-cons Call r rs g = refl
+by-cons Return r rs g = refl
 
--- p, q and u are what the code read of the record
-module _ {s f g : List ℕ} {at p q : ℕ} where
-  pub internal-turn : Walking byInternals 3 s f at g → at < length s → {h : List ℕ} → p ≡ getD s at 0 → q ≡ getD s (at + 2) 0 → h ≡ add g q (getD g p 0) → Walking byInternals 3 s f (at + 3) h
-  internal-turn i l d e k = walk-on i (omega arith) l _ (by-internal _ _ g (first-byte 3 s at (omega arith) ∙ sym d) (record-byte 3 s at 2 (omega arith) ∙ sym e) ∙ ap (byInternals _) (sym k))
+by-nil : (k : Kind) (g : List ℕ) → byRecords k [] g ≡ g
+unfolding byInternals byCalls byReturns
+by-nil Internal g = refl
+by-nil Call g = refl
+by-nil Return g = refl
 
-  pub call-turn : Walking byCalls 3 s f at g → at < length s → {b : ℕ} {h : List ℕ} → p ≡ getD s at 0 → q ≡ getD s (at + 2) 0 → getD g p 0 ≢ 0 → b ≡ 2 ^ p → h ≡ add g q b → Walking byCalls 3 s f (at + 3) h
-  call-turn i l d e n b k = walk-on i (omega arith) l _ (by-call _ _ g (first-byte 3 s at (omega arith) ∙ sym d) (record-byte 3 s at 2 (omega arith) ∙ sym e) false (ne-eqb _ _ n) ∙ ap (byCalls _) (sym (k ∙ ap (add g q) b)))
+-- ---- a walk over the records of a section: the place reached, and the words there
 
-  pub call-skip : Walking byCalls 3 s f at g → at < length s → p ≡ getD s at 0 → q ≡ getD s (at + 2) 0 → getD g p 0 ≡ 0 → Walking byCalls 3 s f (at + 3) g
-  call-skip i l d e z = walk-on i (omega arith) l _ (by-call _ _ g (first-byte 3 s at (omega arith) ∙ sym d) (record-byte 3 s at 2 (omega arith) ∙ sym e) true (eq-eqb _ _ z))
+pub record Walking (k : Kind) (s before : List ℕ) (at : ℕ) (words : List ℕ) : Type 0 where
+  pub inside : at ≤ length s
+  pub whole : (length s - at) % widthOf k ≡ 0
+  pub states : (r : List ℕ) → List·Memᴰ r (records (widthOf k) (drop at s)) → (i : ℕ) → i ≢ 1 → i < widthOf k → getD r i 0 < 24
+  pub meets : byRecords k (records (widthOf k) s) before ≡ byRecords k (records (widthOf k) (drop at s)) words
 
-  pub return-turn : Walking byReturns 4 s f at g → at < length s → {u : ℕ} {h : List ℕ} → p ≡ getD s at 0 → q ≡ getD s (at + 2) 0 → u ≡ getD s (at + 3) 0 → has g p q ≡ true → h ≡ add g u (getD g q 0) → Walking byReturns 4 s f (at + 4) h
-  return-turn i l d e v z k = walk-on i (omega arith) l _ (by-return _ _ g (first-byte 4 s at (omega arith) ∙ sym d) (record-byte 4 s at 2 (omega arith) ∙ sym e) (record-byte 4 s at 3 (omega arith) ∙ sym v) true z ∙ ap (byReturns _) (sym k))
+pub walking : (k : Kind) {s : List ℕ} (f : List ℕ) → Section (widthOf k) 24 s → Walking k s f 0 f
+walking k f h = record { inside = omega arith; whole = rw sub-zero (h .whole); states = h .states; meets = refl }
 
-  pub return-skip : Walking byReturns 4 s f at g → at < length s → p ≡ getD s at 0 → q ≡ getD s (at + 2) 0 → has g p q ≡ false → Walking byReturns 4 s f (at + 4) g
-  return-skip i l d e z = walk-on i (omega arith) l _ (by-return _ _ g (first-byte 4 s at (omega arith) ∙ sym d) (record-byte 4 s at 2 (omega arith) ∙ sym e) (record-byte 4 s at 3 (omega arith)) false z)
+module _ {k : Kind} {s f : List ℕ} {at : ℕ} {g : List ℕ} (p : Walking k s f at g) where
+  pub walked : length s ≤ at → g ≡ byRecords k (records (widthOf k) s) f
+  walked h = sym (p .meets ∙ ap (λ rs. byRecords k rs g) (records-end (widthOf k) s at (omega (arith, three-bytes k))) ∙ by-nil k g)
+
+  module _ (h : at < length s) where
+    -- a whole record is left
+    room : at + widthOf k ≤ length s
+    room = go (decLt (length s - at) (widthOf k))
+      where
+        go : Dec (length s - at < widthOf k) → at + widthOf k ≤ length s
+        go (yes l) = absurd (omega (arith, p .whole, mod-eq-of-lt l))
+        go (no l) = omega arith
+
+    pub fits : {w : ℕ} → w ≡ widthOf k → (2 < w) × (at + w ≤ length s)
+    fits v = (omega (arith, v, three-bytes k), omega (arith, v, room))
+
+    here : records (widthOf k) (drop at s) ≡ take (widthOf k) (drop at s) ∷ records (widthOf k) (drop (at + widthOf k) s)
+    here = records-cons (widthOf k) s at (omega (arith, three-bytes k)) room
+
+    -- its bytes are states
+    state-here : (i : ℕ) → i ≢ 1 → i < widthOf k → getD s (at + i) 0 < 24
+    state-here i n l =
+        let m = p .states (take (widthOf k) (drop at s)) (rw here (List·Memᴰ·head refl)) i n l in
+        rw (record-byte (widthOf k) s at i l) at m
+
+    -- w, a, b and c are what the code has of the record: its width, and its first, third and last byte
+    module _ {w a b c : ℕ} (v : w ≡ widthOf k) (d : a ≡ getD s at 0) (e : b ≡ getD s (at + 2) 0) (l : c ≡ getD s (at + w - 1) 0) where
+      last-place : at + w - 1 ≡ at + (widthOf k - 1)
+      last-place = omega (arith, v, three-bytes k)
+
+      pub states-read : (a < 24) × (b < 24) × (c < 24)
+      states-read =
+          let x = rw add-zero at (state-here 0 (λ q. omega arith) (omega (arith, three-bytes k))) in
+          let y = state-here 2 (λ q. omega arith) (three-bytes k) in
+          let z = rw (← last-place) at (state-here (widthOf k - 1) (λ q. omega (arith, three-bytes k)) (omega (arith, three-bytes k))) in
+          (omega arith, omega arith, omega arith)
+
+      -- what the walk does with it
+      pub walk-on : {g' : List ℕ} → g' ≡ stepBy k g a b c → Walking k s f (at + w) g'
+      walk-on {g'} q =
+          let first = first-byte (widthOf k) s at (omega (arith, three-bytes k)) ∙ sym d in
+          let third = record-byte (widthOf k) s at 2 (three-bytes k) ∙ sym e in
+          let last = record-byte (widthOf k) s at (widthOf k - 1) (omega (arith, three-bytes k)) ∙ ap (λ n. getD s n 0) (sym last-place) ∙ sym l in
+          let rs = records (widthOf k) (drop (at + widthOf k) s) in
+          rw v (record {
+            inside = room;
+            whole =
+                let left : length s - at ≡ length s - (at + widthOf k) + widthOf k = omega (arith, room) in
+                sym (add-mod-right (length s - (at + widthOf k)) (widthOf k)) ∙ ap (λ n. n % widthOf k) (sym left) ∙ p .whole;
+            states = λ r m. p .states r (rw here (List·Memᴰ·tail m));
+            meets = p .meets ∙ ap (λ rs. byRecords k rs g) here ∙ by-cons k _ rs g ∙ (λ i. byRecords k rs (stepBy k g (first i) (third i) (last i))) ∙ ap (byRecords k rs) (sym q);
+          })
 
 -- ---- two lists compared from their starts
 

@@ -1,18 +1,41 @@
 -- The sections of a table that the tops are worked out from, as parts of the file. Assumes nothing.
 use mathlib.Core.Path.{_≡_}
 use mathlib.Core.Logic.{_≢_}
+use mathlib.Core.Bool.{true, false}
 use mathlib.Core.List.{List, List·Memᴰ}
-use Prim.Native.Nat.{ℕ, _%_, _<_, _≤_}
+use Prim.Native.Nat.{ℕ, _%_, _^_, _<_, _≤_}
 use lib.ListN.{length, getD}
+use lib.Dec.{eqb}
+use Rattle.lists.specs.Bits.{has}
 use Rattle.table.specs.Limits.{Limits}
 use Rattle.table.specs.File.{Table, records}
 use Rattle.tops.specs.declared.TopWords.{TopWords}
-use Rattle.tops.specs.Tops.{topWords, topCount}
+use Rattle.tops.specs.declared.Kind.{Kind}
+use Rattle.tops.specs.declared.Kind.the-variants.{Internal, Call, Return}
+use Rattle.tops.specs.Tops.{add, byInternals, byCalls, byReturns, topWords, topCount}
 
 -- a whole number of records of w bytes, of which all but the second are below n
 pub record Section (w n : ℕ) (s : List ℕ) : Type 0 where
   pub whole : length s % w ≡ 0
   pub states : (r : List ℕ) → List·Memᴰ r (records w s) → (i : ℕ) → i ≢ 1 → i < w → getD r i 0 < n
+
+-- the bytes of a record of a kind
+abbrev pub widthOf : Kind → ℕ
+widthOf Internal = 3
+widthOf Call = 3
+widthOf Return = 4
+
+-- what a record of a kind does to the words, by its first state, its third byte and its last one
+unfoldable pub stepBy : Kind → List ℕ → ℕ → ℕ → ℕ → List ℕ
+stepBy Internal f q s q' = add f q' (getD f q 0)
+stepBy Call f q s q' = elim (eqb (getD f q 0) 0) [ true ↦ f | false ↦ add f q' (2 ^ q) ]
+stepBy Return f q s q' = elim (has f q s) [ true ↦ add f q' (getD f s 0) | false ↦ f ]
+
+-- what the records of a section do
+abbrev pub byRecords : Kind → List (List ℕ) → List ℕ → List ℕ
+byRecords Internal rs f = byInternals rs f
+byRecords Call rs f = byCalls rs f
+byRecords Return rs f = byReturns rs f
 
 -- at most 24 states, and records that name states
 pub record Sections (states internals calls returns : List ℕ) : Type 0 where

@@ -1,6 +1,5 @@
 // The reachable stack tops of a table.
 ghost use mathlib.Core.Path.{_≡_};
-ghost use mathlib.Core.Logic.{_≢_};
 ghost use Prim.Native.Nat.{suc, _-_, _*_, _^_, _<_, _≤_};
 ghost use mathlib.Core.List.{[], _++_};
 ghost use lib.ListN.{length, replicate};
@@ -10,10 +9,10 @@ ghost use Rattle.lists.specs.Bits.{has, onesOver};
 ghost use Rattle.table.specs.Limits.{standard};
 ghost use Rattle.table.specs.File.{records};
 ghost use Rattle.table.specs.Sections.{sectioned};
-ghost use Rattle.tops.specs.Tops.{add, byInternals, byCalls, byReturns, startWords, rounds, topWords, topsOf};
+ghost use Rattle.tops.specs.Tops.{add, startWords, rounds, topWords, topsOf};
 ghost use Rattle.table.specs.Reading.{Readable, startsOf};
 ghost use Rattle.tops.specs.Demands.{examinedOf, TopsExact};
-ghost use Rattle.tops.specs.Sections.{Section, Sections, topsFound};
+ghost use Rattle.tops.specs.Sections.{Section, Sections, widthOf, stepBy, byRecords, topsFound};
 use table::Reading;
 use table::Starts;
 
@@ -30,6 +29,13 @@ pub struct Examined {
     pub starts: Starts,
     pub words: [u32; 24],
     pub found: u32,
+}
+
+// The kinds of records.
+enum Kind {
+    Internal,
+    Call,
+    Return,
 }
 
 fn wide(x: u8) -> usize
@@ -78,52 +84,56 @@ fn start_words(states: &[u8]) -> [u32; 24]
     words
 }
 
-// By an internal (q, a, q') the tops of q are tops of q'.
-fn by_internals(section: &[u8], words: &mut [u32; 24])
-    requires { ⌜ Section 3 24 (now section) ⌝ }
-    ensures { λ _. ⌜ now (words .exit) ≡ byInternals (records 3 (now (section .entry))) (now (words .entry)) ⌝ }
+// The bytes of a record.
+fn width_of(kind: Kind) -> usize
+    ensures { λ r. ⌜ r ≡ widthOf kind ⌝ }
 {
-    let mut at: usize = 0;
-    'records: while at < section.len() {
-        let from = wide(section[at]);
-        let to = wide(section[at + 2]);
-        let gained = words[from];
-        add(words, to, gained);
-        at += 3;
+    match kind {
+        Kind::Internal => 3,
+        Kind::Call => 3,
+        Kind::Return => 4,
     }
 }
 
-// By a call (q, a, q') the state q is a top of q', if q has a top.
-fn by_calls(section: &[u8], words: &mut [u32; 24])
-    requires { ⌜ Section 3 24 (now section) ⌝ }
-    ensures { λ _. ⌜ now (words .exit) ≡ byCalls (records 3 (now (section .entry))) (now (words .entry)) ⌝ }
+// By an internal (q, a, q') the tops of q are tops of q'; by a call (q, a, q') the state q is one, if q has a top; by a live return (q, a, s, q')
+// the tops of s are.
+fn step(kind: Kind, from: usize, under: usize, to: usize, words: &mut [u32; 24])
+    requires { ⌜ (from < 24) × (under < 24) × (to < 24) ⌝ }
+    ensures { λ _. ⌜ now (words .exit) ≡ stepBy kind (now (words .entry)) from under to ⌝ }
 {
-    let mut at: usize = 0;
-    'records: while at < section.len() {
-        let from = wide(section[at]);
-        let to = wide(section[at + 2]);
-        if words[from] != 0 {
-            add(words, to, bit(from));
-        }
-        at += 3;
-    }
-}
-
-// By a live return (q, a, s, q') the tops of s are tops of q'.
-fn by_returns(section: &[u8], words: &mut [u32; 24])
-    requires { ⌜ Section 4 24 (now section) ⌝ }
-    ensures { λ _. ⌜ now (words .exit) ≡ byReturns (records 4 (now (section .entry))) (now (words .entry)) ⌝ }
-{
-    let mut at: usize = 0;
-    'records: while at < section.len() {
-        let from = wide(section[at]);
-        let under = wide(section[at + 2]);
-        let to = wide(section[at + 3]);
-        if has_top(words, from, under) {
-            let gained = words[under];
+    match kind {
+        Kind::Internal => {
+            let gained = words[from];
             add(words, to, gained);
         }
-        at += 4;
+        Kind::Call => {
+            if words[from] != 0 {
+                add(words, to, bit(from));
+            }
+        }
+        Kind::Return => {
+            if has_top(words, from, under) {
+                let gained = words[under];
+                add(words, to, gained);
+            }
+        }
+    }
+}
+
+// The records of a section, in file order.
+fn by_records(kind: Kind, section: &[u8], words: &mut [u32; 24])
+    requires { ⌜ Section (widthOf kind) 24 (now section) ⌝ }
+    ensures { λ _. ⌜ now (words .exit) ≡ byRecords kind (records (widthOf kind) (now (section .entry))) (now (words .entry)) ⌝ }
+{
+    let width = width_of(kind);
+    let mut at: usize = 0;
+    'records: while at < section.len() {
+        let next = at + width;
+        let from = wide(section[at]);
+        let under = wide(section[at + 2]);
+        let to = wide(section[next - 1]);
+        step(kind, from, under, to, words);
+        at = next;
     }
 }
 
@@ -149,9 +159,9 @@ fn rest(states: &[u8], internals: &[u8], calls: &[u8], returns: &[u8], words: &m
     let mut left = n * (n + 1) + 1;
     'rounds: while 0 < left {
         let old = *words;
-        by_internals(internals, words);
-        by_calls(calls, words);
-        by_returns(returns, words);
+        by_records(Kind::Internal, internals, words);
+        by_records(Kind::Call, calls, words);
+        by_records(Kind::Return, returns, words);
         let new = *words;
         if same_words(new, old) {
             return;

@@ -2,21 +2,12 @@
 use mathlib.Core.Path.{sym}
 use Prim.Native.Nat.{ℕ}
 use native.Mathlib.Omega.{arith}
-use lib.ListN.{length-take, length-replicate}
+use lib.ListN.{length-replicate}
 use lib.Seq.{length-take-le}
 use Rattle.reduce.proofs.Theorems.{delivered-fits}
 use borrow.Author.Needs.{needs}
 use Rattle.basilvault.proofs.reduce_lent.Statement.{statement}
 use Rattle.basilvault.proofs.reduce_lent.Tie as tie
-use Rattle.basilvault.proofs.reduce_lent.Reads as reads
-use Rattle.basilvault.proofs.reduce_lent.Lts as lts
-use Rattle.basilvault.proofs.say.Reads as say-reads
-use Rattle.basilvault.proofs.say_counts.Reads as say-counts-reads
-use Rattle.basilvault.proofs.say_map.Reads as say-map-reads
-use Rattle.basilvault.proofs.say_number.Reads as say-number-reads
-use Rattle.basilvault.proofs.say_table.Reads as say-table-reads
-use Rattle.basilvault.proofs.state_count.Reads as state-count-reads
-use Rattle.reduce.proofs.reduce.Reads as reduce-reads
 
 slice-aggregate-reduce : tie.Need-slice-aggregate-reduce
 slice-aggregate-reduce c = search needs
@@ -55,7 +46,7 @@ slice-aggregate-say-table : tie.Need-slice-aggregate-say-table
 slice-aggregate-say-table c = sym (length-take-le _ _ (omega (arith, delivered-fits _ 100000 _ _ _ (c .before .before .before .before .before .before .before .before .before .before .before .reduce .ensures .0) (c .before .before .before .before .before .before .answer .given .1), length-replicate {A = ℕ} 22596 0, c .before .before .before .before .before .before .before .before .before .before .before .reduce .kept .1 .1 .1 .1 .0)))
 
 say-table-requires : tie.Need-say-table-requires
-say-table-requires c κs = simp length-take (omega (arith, length-replicate {A = ℕ} 22596 0, c .before .before .before .before .before .before .before .before .before .before .before .reduce .kept .1 .1 .1 .1 .0))
+say-table-requires c κs = search needs
 
 enum-known-answer-2 : tie.Need-enum-known-answer-2
 enum-known-answer-2 c = search needs

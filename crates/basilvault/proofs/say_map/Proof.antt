@@ -4,11 +4,6 @@ use lib.ListN.{length}
 use borrow.Author.Needs.{needs}
 use Rattle.basilvault.proofs.say_map.Statement.{statement}
 use Rattle.basilvault.proofs.say_map.Tie as tie
-use Rattle.basilvault.proofs.say_map.Reads as reads
-use Rattle.basilvault.proofs.say_map.Lts as lts
-use Rattle.basilvault.proofs.say.Reads as say-reads
-use Rattle.basilvault.proofs.say_number.Reads as say-number-reads
-use Rattle.basilvault.proofs.wide.Reads as wide-reads
 
 abbrev Inv-states : tie.InvT-states
 Inv-states map q₀ t4 t5 q = q ≤ length map

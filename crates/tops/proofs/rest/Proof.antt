@@ -29,14 +29,14 @@ add-left-2 c = let h = few-rounds (c .before .before .before .before .pre .few) 
 rounds-holds : tie.Need-rounds-holds Inv-rounds μ-rounds
 rounds-holds c = resting _ _ _
 
-by-internals-requires : tie.Need-by-internals-requires Inv-rounds μ-rounds
-by-internals-requires c κs = let s = c .before .before .before .before .before .before .before .before .pre in section-within (s .few) (s .internals-whole)
+by-records-requires : tie.Need-by-records-requires Inv-rounds μ-rounds
+by-records-requires c κs = let s = c .before .before .before .before .before .before .before .before .pre in section-within (s .few) (s .internals-whole)
 
-by-calls-requires : tie.Need-by-calls-requires Inv-rounds μ-rounds
-by-calls-requires c κs = let s = c .before .before .before .before .before .before .before .before .before .before .pre in section-within (s .few) (s .calls-whole)
+by-records-requires-2 : tie.Need-by-records-requires-2 Inv-rounds μ-rounds
+by-records-requires-2 c κs = let s = c .before .before .before .before .before .before .before .before .before .before .pre in section-within (s .few) (s .calls-whole)
 
-by-returns-requires : tie.Need-by-returns-requires Inv-rounds μ-rounds
-by-returns-requires c κs = let s = c .before .before .before .before .before .before .before .before .before .before .before .before .pre in section-within (s .few) (s .returns-whole)
+by-records-requires-3 : tie.Need-by-records-requires-3 Inv-rounds μ-rounds
+by-records-requires-3 c κs = let s = c .before .before .before .before .before .before .before .before .before .before .before .before .pre in section-within (s .few) (s .returns-whole)
 
 same-words-requires : tie.Need-same-words-requires Inv-rounds μ-rounds
 same-words-requires c κs = search needs
@@ -48,7 +48,7 @@ returns c =
     let b = r .before .before in
     let i = b .before .before in
     let a = i .before .before .before in
-    rested (a .before .rounds .inv) (a .rounds-test .taken) (rounded _ _ (i .by-internals .ensures) (b .by-calls .ensures) (r .by-returns .ensures)) (sym (c .before .same-words .ensures) ∙ c .if1 .taken)
+    rested (a .before .rounds .inv) (a .rounds-test .taken) (rounded _ _ (i .by-records .ensures) (b .by-records2 .ensures) (r .by-records3 .ensures)) (sym (c .before .same-words .ensures) ∙ c .if1 .taken)
 
 sub-left : tie.Need-sub-left Inv-rounds μ-rounds
 sub-left c = search needs
@@ -63,7 +63,7 @@ rounds-again c =
     let b = r .before .before in
     let i = b .before .before in
     let a = i .before .before .before in
-    rest-on (a .before .rounds .inv) (a .rounds-test .taken) (rounded _ _ (i .by-internals .ensures) (b .by-calls .ensures) (r .by-returns .ensures)) (sym (c .before .same-words .ensures) ∙ c .if1 .left)
+    rest-on (a .before .rounds .inv) (a .rounds-test .taken) (rounded _ _ (i .by-records .ensures) (b .by-records2 .ensures) (r .by-records3 .ensures)) (sym (c .before .same-words .ensures) ∙ c .if1 .left)
 
 returns-2 : tie.Need-returns-2 Inv-rounds μ-rounds
 returns-2 c = spent (c .before .rounds .inv) (omega (arith, c .rounds-test .left))
@@ -78,9 +78,9 @@ rest-spec =
     mul-left
     add-left-2
     rounds-holds
-    by-internals-requires
-    by-calls-requires
-    by-returns-requires
+    by-records-requires
+    by-records-requires-2
+    by-records-requires-3
     same-words-requires
     returns
     sub-left

@@ -14,10 +14,10 @@ use Rattle.search.proofs.settle.pass.Statement.{statement}
 use Rattle.search.proofs.settle.pass.Tie as tie
 
 abbrev Inv-literals : tie.InvT-literals
-Inv-literals list values trail start broken₀ count at₀ end unset₀ last₀ broken at unset last = laws.Within list values at₀ end at unset last × (broken ≡ false)
+Inv-literals list values trail start broken₀ count at i₀ unset₀ last₀ broken i unset last = laws.Within list values i₀ at i unset last × (broken ≡ false)
 
 abbrev μ-literals : tie.MeasureT-literals
-μ-literals list values trail start broken₀ count at₀ end unset₀ last₀ broken at unset last = end - at
+μ-literals list values trail start broken₀ count at i₀ unset₀ last₀ broken i unset last = at - i
 
 abbrev Inv-clauses : tie.InvT-clauses
 Inv-clauses list values₀ trail₀ start broken₀ count₀ at₀ values trail broken count at = laws.Between list values₀ trail₀ start values trail count at × (broken ≡ false)
@@ -48,8 +48,8 @@ entered c = record {
 clauses-holds : tie.Need-clauses-holds Inv-literals μ-literals Inv-clauses μ-clauses
 clauses-holds c = (laws.before-all (c .before .before .before .pre .1) (c .before .before .before .pre .0), refl)
 
-add-end : tie.Need-add-end Inv-literals μ-literals Inv-clauses μ-clauses
-add-end c = search needs
+add-i : tie.Need-add-i Inv-literals μ-literals Inv-clauses μ-clauses
+add-i c = search needs
 
 mul-wide : tie.Need-mul-wide Inv-literals μ-literals Inv-clauses μ-clauses
 mul-wide c = search needs
@@ -61,11 +61,8 @@ shared-slice-read-wide c = search needs
 wide-requires : tie.Need-wide-requires Inv-literals μ-literals Inv-clauses μ-clauses
 wide-requires c κs = search needs
 
-add-end-2 : tie.Need-add-end-2 Inv-literals μ-literals Inv-clauses μ-clauses
-add-end-2 c = omega (arith, laws.end-inside (entered c), c .wide .ensures, c .before .before .before .before .before .before .before .good .0)
-
 add-at : tie.Need-add-at Inv-literals μ-literals Inv-clauses μ-clauses
-add-at c = search needs
+add-at c = omega (arith, laws.end-inside (entered c), c .wide .ensures, c .before .before .before .before .before .before .before .good .0)
 
 literals-holds : tie.Need-literals-holds Inv-literals μ-literals Inv-clauses μ-clauses
 literals-holds c = (laws.enter (entered c), c .before .before .before .clauses .inv .1)
@@ -95,8 +92,8 @@ clauses-again-2 c =
     let sees = laws.sees-second (c .before .before .before .before .before .before .before .literals .inv .0) (c .before .before .before .before .before .before .if1 .left) (c .if5 .taken) (sym (c .before .before .before .value-of .ensures) ∙ c .before .if4 .taken) in
     (laws.settled-on (entered (c .before .before .before .before .before .before .before .before)) sees, c .before .before .before .before .before .before .before .literals .inv .1)
 
-add-at-2 : tie.Need-add-at-2 Inv-literals μ-literals Inv-clauses μ-clauses
-add-at-2 c = search needs
+add-i-2 : tie.Need-add-i-2 Inv-literals μ-literals Inv-clauses μ-clauses
+add-i-2 c = search needs
 
 literals-less : tie.Need-literals-less Inv-literals μ-literals Inv-clauses μ-clauses
 literals-less c = search needs
@@ -115,13 +112,6 @@ literals-again c = let w = c .before .before .before .before .before .before .li
 store-requires : tie.Need-store-requires Inv-literals μ-literals Inv-clauses μ-clauses
 store-requires c κs = laws.can-store (entered (c .before .before .before .before .before)) (c .before .before .before .before .literals .inv .0) (c .before .before .before .if1 .taken) (c .before .before .if2 .left)
 
-add-count : tie.Need-add-count Inv-literals μ-literals Inv-clauses μ-clauses
-add-count c =
-    let e = entered (c .before .before .before .before .before .before .before .before .before .before) in
-    let w = c .before .before .before .before .before .before .before .before .before .literals .inv .0 in
-    let fits = laws.can-store e w (c .before .before .before .before .before .before .before .before .if1 .taken) (c .before .before .before .before .before .before .before .if2 .left) in
-    omega (arith, fits, laws.room (e .ready) (e .between), c .before .before .before .before .before .before .before .before .before .before .before .before .before .before .before .before .before .good .1 .1 .0)
-
 clauses-less-3 : tie.Need-clauses-less-3 Inv-literals μ-literals Inv-clauses μ-clauses
 clauses-less-3 c = search needs
 
@@ -130,7 +120,7 @@ clauses-again-3 c =
     let e = entered (c .before .before .before .before .before .before .before .before .before .before) in
     let w = c .before .before .before .before .before .before .before .before .before .literals .inv .0 in
     let s = c .before .before .before .before .store .ensures in
-    (laws.stored e w (c .before .before .before .before .before .before .before .before .if1 .taken) (c .before .before .before .before .before .before .before .if2 .left) (s .0) (s .1), c .before .before .before .before .before .before .before .before .before .literals .inv .1)
+    (rw (s .2) (laws.stored e w (c .before .before .before .before .before .before .before .before .if1 .taken) (c .before .before .before .before .before .before .before .if2 .left) (s .0) (s .1)), c .before .before .before .before .before .before .before .before .before .literals .inv .1)
 
 same-length : tie.Need-same-length Inv-literals μ-literals Inv-clauses μ-clauses
 same-length c = grown-length (c .before .clauses .inv .0 .grown)
@@ -159,11 +149,10 @@ pass-spec =
     Inv-clauses
     μ-clauses
     clauses-holds
-    add-end
+    add-i
     mul-wide
     shared-slice-read-wide
     wide-requires
-    add-end-2
     add-at
     literals-holds
     mul-l
@@ -173,11 +162,10 @@ pass-spec =
     clauses-again
     clauses-less-2
     clauses-again-2
-    add-at-2
+    add-i-2
     literals-less
     literals-again
     store-requires
-    add-count
     clauses-less-3
     clauses-again-3
     same-length

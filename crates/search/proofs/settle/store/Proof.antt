@@ -19,6 +19,9 @@ mul-trail c = search needs
 slice-write-trail : tie.Need-slice-write-trail
 slice-write-trail c = search needs
 
+add-result : tie.Need-add-result
+add-result c = search needs
+
 same-length : tie.Need-same-length
 same-length c = search needs
 
@@ -26,7 +29,7 @@ same-length-2 : tie.Need-same-length-2
 same-length-2 c = search needs
 
 returns : tie.Need-returns
-returns c = (rw (c .before .wide .ensures, c .wanted .ensures), refl)
+returns c = (rw (c .before .wide .ensures, c .wanted .ensures), refl, refl)
 
 pub store-spec : {M : Type 1} → statement M
 store-spec =
@@ -37,6 +40,7 @@ store-spec =
     slice-write-values
     mul-trail
     slice-write-trail
+    add-result
     same-length
     same-length-2
     returns)

@@ -184,9 +184,6 @@ store-requires c κs =
     let inner = c .before .before .before .before .if3 .left in
     laws.can-guess i s rests next inner refl
 
-add-count-2 : tie.Need-add-count-2 Inv-turns μ-turns
-add-count-2 c = search needs
-
 add-low-2 : tie.Need-add-low-2 Inv-turns μ-turns
 add-low-2 c = search needs
 
@@ -195,13 +192,13 @@ turns-less-2 c = search needs
 
 turns-again-2 : tie.Need-turns-again-2 Inv-turns μ-turns
 turns-again-2 c =
-    let i = c .before .before .before .before .before .before .before .before .before .before .before .before .before .before .before .before .before .before .before .turns .inv in
-    let s = c .before .before .before .before .before .before .before .before .before .before .before .before .before .before .before .before .settle .ensures in
-    let rests = c .before .before .before .before .before .before .before .before .before .before .before .before .if1 .left in
-    let next = c .before .before .before .before .before .before .before .before .before .before .next-unset .ensures in
-    let inner = c .before .before .before .before .before .before .before .before .before .if3 .left in
-    let r = c .before .before .before .before .store .ensures in
-    laws.turn-guess i s rests next inner (c .before .before .before .before .before .before .before .before .if4 .left) refl (r .0) (r .1)
+    let i = c .before .before .before .before .before .before .before .before .before .before .before .before .before .before .before .before .before .before .turns .inv in
+    let s = c .before .before .before .before .before .before .before .before .before .before .before .before .before .before .before .settle .ensures in
+    let rests = c .before .before .before .before .before .before .before .before .before .before .before .if1 .left in
+    let next = c .before .before .before .before .before .before .before .before .before .next-unset .ensures in
+    let inner = c .before .before .before .before .before .before .before .before .if3 .left in
+    let r = c .before .before .before .store .ensures in
+    rw (r .2) (laws.turn-guess i s rests next inner (c .before .before .before .before .before .before .before .if4 .left) refl (r .0) (r .1))
 
 pub solve-spec : {M : Type 1} → statement M
 solve-spec =
@@ -240,7 +237,6 @@ solve-spec =
     mul-store
     cast-store
     store-requires
-    add-count-2
     add-low-2
     turns-less-2
     turns-again-2)

@@ -1,0 +1,84 @@
+-- `tops::by_records` meets its contract. The invariant: what the records from here on do to the words as they are. Assumes nothing.
+use borrow.Author.Needs.{needs}
+use Prim.Native.Nat.{_+_, _-_, _<_, _≤_}
+use lib.ListN.{length}
+use Rattle.tops.proofs.Loops.{Walking, walking, fits, states-read, walk-on, walked}
+use Rattle.tops.proofs.by_records.Statement.{statement}
+use Rattle.tops.proofs.by_records.Tie as tie
+
+abbrev Inv-records : tie.InvT-records
+Inv-records kind section words₀ width at₀ words at = Walking kind section words₀ at words
+
+abbrev μ-records : tie.MeasureT-records
+μ-records kind section words₀ width at₀ words at = length section - at
+
+-- what is known in the loop
+entered : (c : tie.In-records Inv-records μ-records) → (2 < c .before .before .width-of .result) × (c .before .records .at + c .before .before .width-of .result ≤ length (c .before .before .before .before .args .section .now))
+entered c = fits (c .before .records .inv) (c .records-test .taken) (c .before .before .width-of .ensures)
+
+width-of-requires : tie.Need-width-of-requires Inv-records μ-records
+width-of-requires c κs = search needs
+
+records-holds : tie.Need-records-holds Inv-records μ-records
+records-holds c = walking _ _ (c .before .before .pre)
+
+add-next : tie.Need-add-next Inv-records μ-records
+add-next c = let h = entered c in search needs
+
+shared-slice-read-wide : tie.Need-shared-slice-read-wide Inv-records μ-records
+shared-slice-read-wide c = search needs
+
+wide-requires : tie.Need-wide-requires Inv-records μ-records
+wide-requires c κs = search needs
+
+add-wide : tie.Need-add-wide Inv-records μ-records
+add-wide c = search needs
+
+shared-slice-read-wide-2 : tie.Need-shared-slice-read-wide-2 Inv-records μ-records
+shared-slice-read-wide-2 c = let h = entered (c .before .before .before) in search needs
+
+wide-requires-2 : tie.Need-wide-requires-2 Inv-records μ-records
+wide-requires-2 c κs = search needs
+
+sub-wide : tie.Need-sub-wide Inv-records μ-records
+sub-wide c = let h = entered (c .before .before .before .before) in search needs
+
+shared-slice-read-wide-3 : tie.Need-shared-slice-read-wide-3 Inv-records μ-records
+shared-slice-read-wide-3 c = let h = entered (c .before .before .before .before .before) in search needs
+
+wide-requires-3 : tie.Need-wide-requires-3 Inv-records μ-records
+wide-requires-3 c κs = search needs
+
+step-requires : tie.Need-step-requires Inv-records μ-records
+step-requires c κs = states-read (c .before .before .before .before .before .before .before .before .records .inv) (c .before .before .before .before .before .before .before .records-test .taken) (c .before .before .before .before .before .before .before .before .before .width-of .ensures) (c .before .before .before .before .before .wide .ensures) (c .before .before .before .wide2 .ensures) (c .before .wide3 .ensures)
+
+records-less : tie.Need-records-less Inv-records μ-records
+records-less c = let h = entered (c .before .before .before .before .before .before .before .before) in search needs
+
+records-again : tie.Need-records-again Inv-records μ-records
+records-again c = walk-on (c .before .before .before .before .before .before .before .before .before .records .inv) (c .before .before .before .before .before .before .before .before .records-test .taken) (c .before .before .before .before .before .before .before .before .before .before .width-of .ensures) (c .before .before .before .before .before .before .wide .ensures) (c .before .before .before .before .wide2 .ensures) (c .before .before .wide3 .ensures) (c .step .ensures)
+
+returns : tie.Need-returns Inv-records μ-records
+returns c = walked (c .before .records .inv) (c .records-test .left)
+
+pub by-records-spec : {M : Type 1} → statement M
+by-records-spec =
+    tie.close
+    (tie.spec
+    Inv-records
+    μ-records
+    width-of-requires
+    records-holds
+    add-next
+    shared-slice-read-wide
+    wide-requires
+    add-wide
+    shared-slice-read-wide-2
+    wide-requires-2
+    sub-wide
+    shared-slice-read-wide-3
+    wide-requires-3
+    step-requires
+    records-less
+    records-again
+    returns)

@@ -1,0 +1,92 @@
+-- `tops::step` meets its contract. Assumes nothing.
+use borrow.Author.Needs.{needs}
+use borrow.Author.Tests.{eq-eqb, ne-eqb}
+use Rattle.tops.specs.Sections.{stepBy}
+use Rattle.tops.proofs.step.Statement.{statement}
+use Rattle.tops.proofs.step.Tie as tie
+
+enum-told : tie.Need-enum-told
+enum-told c = search needs
+
+mul-gained : tie.Need-mul-gained
+mul-gained c = search needs
+
+element-copy-out-gained : tie.Need-element-copy-out-gained
+element-copy-out-gained c = search needs
+
+add-requires : tie.Need-add-requires
+add-requires c κs = search needs
+
+enum-told-2 : tie.Need-enum-told-2
+enum-told-2 c = search needs
+
+mul-if1 : tie.Need-mul-if1
+mul-if1 c = search needs
+
+element-copy-out-if1 : tie.Need-element-copy-out-if1
+element-copy-out-if1 c = search needs
+
+bit-requires : tie.Need-bit-requires
+bit-requires c κs = search needs
+
+add-requires-2 : tie.Need-add-requires-2
+add-requires-2 c κs = search needs
+
+enum-told-3 : tie.Need-enum-told-3
+enum-told-3 c = search needs
+
+has-top-requires : tie.Need-has-top-requires
+has-top-requires c κs = search needs
+
+mul-gained-2 : tie.Need-mul-gained-2
+mul-gained-2 c = search needs
+
+element-copy-out-gained-2 : tie.Need-element-copy-out-gained-2
+element-copy-out-gained-2 c = search needs
+
+add-requires-3 : tie.Need-add-requires-3
+add-requires-3 c κs = search needs
+
+returns : tie.Need-returns
+unfolding stepBy
+returns c = rw (c .before .before .before .enum-told .given .1, stepBy) (c .add .ensures)
+
+returns-2 : tie.Need-returns-2
+unfolding stepBy
+returns-2 c = rw (c .before .before .before .before .before .enum-told2 .given .1, stepBy, ne-eqb _ _ (c .before .before .before .if1 .taken), ← c .before .bit .ensures) (c .add2 .ensures)
+
+returns-3 : tie.Need-returns-3
+unfolding stepBy
+returns-3 c = rw (c .before .before .enum-told2 .given .1, stepBy, eq-eqb _ _ (c .if1 .left))
+
+returns-4 : tie.Need-returns-4
+unfolding stepBy
+returns-4 c = rw (c .before .before .before .before .before .before .enum-told3 .given .1, stepBy, ← c .before .before .before .before .has-top .ensures, c .before .before .before .if2 .taken) (c .add3 .ensures)
+
+returns-5 : tie.Need-returns-5
+unfolding stepBy
+returns-5 c = rw (c .before .before .before .enum-told3 .given .1, stepBy, ← c .before .has-top .ensures, c .if2 .left)
+
+pub step-spec : {M : Type 1} → statement M
+step-spec =
+    tie.close
+    (tie.spec
+    enum-told
+    mul-gained
+    element-copy-out-gained
+    add-requires
+    enum-told-2
+    mul-if1
+    element-copy-out-if1
+    bit-requires
+    add-requires-2
+    enum-told-3
+    has-top-requires
+    mul-gained-2
+    element-copy-out-gained-2
+    add-requires-3
+    returns
+    returns-2
+    returns-3
+    returns-4
+    returns-5)
