@@ -142,7 +142,7 @@ fn return_met(section: &[u8], words: &[u32], map: &[u8], fields: &[u8], n: usize
     true
 }
 
-// (ii) to (iv) for a record that is kept and a state q: where it is in the class of the record's first state, it matches a move or a return.
+// (ii) to (iv) for a record that is kept, and a state q that is joined to its first: a move or a return is matched.
 fn record_matched(
     section: &[u8],
     width: usize,
@@ -150,16 +150,12 @@ fn record_matched(
     map: &[u8],
     fields: &[u8],
     n: usize,
-    class: u8,
     q: usize,
 ) -> bool
     requires { ⌜ Lent width (now section) n × (length (now fields) ≡ width) × (kept (now words) (now fields) ≡ true) ⌝ }
-    requires { ⌜ (class ≡ classOf (now map) (getD (now fields) 0 0)) × (q < 256) ⌝ }
+    requires { ⌜ (joins (now map) (getD (now fields) 0 0) q ≡ true) × (q < 256) ⌝ }
     ensures { λ r. ⌜ r ≡ recordMatched width (now (words .entry)) (records width (now (section .entry))) n (now (map .entry)) (now (fields .entry)) q ⌝ }
 {
-    if !is_in(map, class, q) {
-        return true;
-    }
     if width == 3 {
         let key = [q as u8, fields[1]];
         return reaches(section, width, &key, map, wide(fields[2]));
@@ -167,7 +163,7 @@ fn record_matched(
     return_met(section, words, map, fields, n, q)
 }
 
-// .. and every state: a dead return asks nothing.
+// .. and every state: a dead return asks nothing, and nothing is asked of a state of another class.
 fn record_met(
     section: &[u8],
     width: usize,
@@ -185,8 +181,10 @@ fn record_met(
     let class = class_of(map, wide(fields[0]));
     let mut q = 0;
     'states: while q < n {
-        if !record_matched(section, width, words, map, fields, n, class, q) {
-            return false;
+        if is_in(map, class, q) {
+            if !record_matched(section, width, words, map, fields, n, q) {
+                return false;
+            }
         }
         q += 1;
     }
