@@ -9,8 +9,8 @@ use Rattle.maps.proofs.matching.record_matched.Tie as tie
 cast-wide : tie.Need-cast-wide
 cast-wide c = search needs
 
-shared-slice-read-t12 : tie.Need-shared-slice-read-t12
-shared-slice-read-t12 c = let a = c .before .before .before .before .before .before in omega (arith, a .pre .0 .0 .moves, a .pre .0 .1)
+shared-slice-read-t11 : tie.Need-shared-slice-read-t11
+shared-slice-read-t11 c = let a = c .before .before .before .before .before .before in omega (arith, a .pre .0 .0 .moves, a .pre .0 .1)
 
 slice-aggregate-reaches : tie.Need-slice-aggregate-reaches
 slice-aggregate-reaches c = search needs
@@ -43,7 +43,7 @@ record-matched-spec =
     tie.close
     (tie.spec
     cast-wide
-    shared-slice-read-t12
+    shared-slice-read-t11
     slice-aggregate-reaches
     shared-slice-read-wide
     wide-requires

@@ -5,6 +5,7 @@ use Rattle.table.specs.Maps.{classOf}
 use Rattle.maps.proofs.Matched.{by-class, record-apart, record-dead}
 use Rattle.lists.proofs.Upto.{Counting, counting, all-passed, all-failed, all-done}
 use Rattle.lists.specs.Lists.{all}
+use lib.ListN.{length}
 use borrow.Author.Tests.{not-true, not-false}
 use native.Mathlib.Omega.{arith}
 use Prim.Native.Nat.{_-_}
@@ -15,10 +16,10 @@ use Rattle.maps.proofs.matching.record_met.Statement.{statement}
 use Rattle.maps.proofs.matching.record_met.Tie as tie
 
 abbrev Inv-states : tie.InvT-states
-Inv-states section width words map fields n class q₀ q = Counting (all (recordMatched width words (records width section) n map fields)) n q
+Inv-states section width words map fields class q₀ q = Counting (all (recordMatched width words (records width section) (length map) map fields)) (length map) q
 
 abbrev μ-states : tie.MeasureT-states
-μ-states section width words map fields n class q₀ q = n - q
+μ-states section width words map fields class q₀ q = length map - q
 
 keeps-requires : tie.Need-keeps-requires Inv-states μ-states
 keeps-requires c κs = search needs
