@@ -28,7 +28,7 @@ use Rattle.maps.specs.declared.Checked.the-variants.{Accepted, Refused}
 use Rattle.maps.specs.Check.{looksAgree, movesMatched, returnsMatched, mapTests, checkNumber, checkOf}
 use Rattle.maps.proofs.Accepted.{accepted, accepts}
 use Rattle.maps.specs.Accepting.{IsAccepted, AcceptsExactly, examinedFor}
-use Rattle.maps.specs.Sections.{ofStates, recordMatched, recordsMatched, Known, Parted, partTests}
+use Rattle.maps.specs.Sections.{ofStates, recordMatched, recordsMatched, Lent, Known, Parted, partTests}
 
 -- ---- 15 to 20, over the parts of a table
 
@@ -42,29 +42,36 @@ module _ (s i c r f m : List ℕ) where
     unfolding partTests
     number-16 h = sym (passes 15 _ (eq-eqb _ _ p15) ∙ fails 16 _ h)
 
+    -- the map's states are the table's
+    told : (w : ℕ) (rs : List (List ℕ)) {t : Bool} → recordsMatched w f rs (length m) m ≡ t → recordsMatched w f rs (length s) m ≡ t
+    told w rs h = ap (λ (k : ℕ). recordsMatched w f rs k m) (sym p15) ∙ h
+
     module _ (p16 : numbered m ≡ true) where
       pub number-17 : looksAgree (ofStates s) m ≡ false → 17 ≡ firstFailed (partTests s i c r f m)
       unfolding partTests
       number-17 h = sym (passes 15 _ (eq-eqb _ _ p15) ∙ passes 16 _ p16 ∙ fails 17 _ h)
 
       module _ (p17 : looksAgree (ofStates s) m ≡ true) where
-        pub number-18 : recordsMatched 3 f (records 3 i) (length s) m ≡ false → 18 ≡ firstFailed (partTests s i c r f m)
+        pub number-18 : recordsMatched 3 f (records 3 i) (length m) m ≡ false → 18 ≡ firstFailed (partTests s i c r f m)
         unfolding partTests
-        number-18 h = sym (passes 15 _ (eq-eqb _ _ p15) ∙ passes 16 _ p16 ∙ passes 17 _ p17 ∙ fails 18 _ h)
+        number-18 h = sym (passes 15 _ (eq-eqb _ _ p15) ∙ passes 16 _ p16 ∙ passes 17 _ p17 ∙ fails 18 _ (told 3 (records 3 i) h))
 
-        module _ (p18 : recordsMatched 3 f (records 3 i) (length s) m ≡ true) where
-          pub number-19 : recordsMatched 3 f (records 3 c) (length s) m ≡ false → 19 ≡ firstFailed (partTests s i c r f m)
+        module _ (p18 : recordsMatched 3 f (records 3 i) (length m) m ≡ true) where
+          pub number-19 : recordsMatched 3 f (records 3 c) (length m) m ≡ false → 19 ≡ firstFailed (partTests s i c r f m)
           unfolding partTests
-          number-19 h = sym (passes 15 _ (eq-eqb _ _ p15) ∙ passes 16 _ p16 ∙ passes 17 _ p17 ∙ passes 18 _ p18 ∙ fails 19 _ h)
+          number-19 h = sym (passes 15 _ (eq-eqb _ _ p15) ∙ passes 16 _ p16 ∙ passes 17 _ p17 ∙ passes 18 _ (told 3 (records 3 i) p18) ∙ fails 19 _ (told 3 (records 3 c) h))
 
-          module _ (p19 : recordsMatched 3 f (records 3 c) (length s) m ≡ true) where
-            pub number-20 : recordsMatched 4 f (records 4 r) (length s) m ≡ false → 20 ≡ firstFailed (partTests s i c r f m)
+          module _ (p19 : recordsMatched 3 f (records 3 c) (length m) m ≡ true) where
+            pub number-20 : recordsMatched 4 f (records 4 r) (length m) m ≡ false → 20 ≡ firstFailed (partTests s i c r f m)
             unfolding partTests
-            number-20 h = sym (passes 15 _ (eq-eqb _ _ p15) ∙ passes 16 _ p16 ∙ passes 17 _ p17 ∙ passes 18 _ p18 ∙ passes 19 _ p19 ∙ fails 20 _ h)
+            number-20 h = sym (passes 15 _ (eq-eqb _ _ p15) ∙ passes 16 _ p16 ∙ passes 17 _ p17 ∙ passes 18 _ (told 3 (records 3 i) p18) ∙ passes 19 _ (told 3 (records 3 c) p19) ∙ fails 20 _ (told 4 (records 4 r) h))
 
-            pub number-0 : recordsMatched 4 f (records 4 r) (length s) m ≡ true → 0 ≡ firstFailed (partTests s i c r f m)
+            pub number-0 : recordsMatched 4 f (records 4 r) (length m) m ≡ true → 0 ≡ firstFailed (partTests s i c r f m)
             unfolding partTests
-            number-0 h = sym (passes 15 _ (eq-eqb _ _ p15) ∙ passes 16 _ p16 ∙ passes 17 _ p17 ∙ passes 18 _ p18 ∙ passes 19 _ p19 ∙ passes 20 _ h ∙ no-test)
+            number-0 h = sym (passes 15 _ (eq-eqb _ _ p15) ∙ passes 16 _ p16 ∙ passes 17 _ p17 ∙ passes 18 _ (told 3 (records 3 i) p18) ∙ passes 19 _ (told 3 (records 3 c) p19) ∙ passes 20 _ (told 4 (records 4 r) h) ∙ no-test)
+
+pub lent-states : {w : ℕ} {section : List ℕ} {n k : ℕ} → k ≡ n → Lent w section n → Lent w section k
+lent-states {w} {section} e l = subst (λ (n : ℕ). Lent w section n) (sym e) l
 
 -- ---- the parts of a read table
 

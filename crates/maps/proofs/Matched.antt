@@ -87,13 +87,13 @@ module _ (f : List ℕ) (rs : List (List ℕ)) (m : List ℕ) (p a s p' q u : �
 -- ---- a record of w bytes
 
 module _ (f : List ℕ) (rs : List (List ℕ)) (n : ℕ) (m r : List ℕ) where
-  pub record-apart : (w q : ℕ) → joins m (getD r 0 0) q ≡ false → true ≡ recordMatched w f rs n m r q
+  pub record-apart : (w q : ℕ) → joins m (getD r 0 0) q ≡ false → recordMatched w f rs n m r q ≡ true
   unfolding recordMatched moveMatched
   record-apart w q j = go (eqb w 3)
     where
-      go : (t : Bool) → true ≡ (elim t as (λ _. Bool) [ true ↦ moveMatched rs m (getD r 0 0) (getD r 1 0) (getD r 2 0) q | false ↦ returnMet f rs n m r q ])
-      go true = sym (spared _ j)
-      go false = sym (all-of _ (upto n) (λ u k. return-apart f rs m _ _ _ _ q u j))
+      go : (t : Bool) → (elim t as (λ _. Bool) [ true ↦ moveMatched rs m (getD r 0 0) (getD r 1 0) (getD r 2 0) q | false ↦ returnMet f rs n m r q ]) ≡ true
+      go true = spared _ j
+      go false = all-of _ (upto n) (λ u k. return-apart f rs m _ _ _ _ q u j)
 
   pub record-move : (w q : ℕ) {y : ℕ} → w ≡ 3 → joins m (getD r 0 0) q ≡ true → y ≡ getD r 2 0 → any (joins m y) (targets rs (q ∷ getD r 1 0 ∷ [])) ≡ recordMatched w f rs n m r q
   unfolding recordMatched moveMatched

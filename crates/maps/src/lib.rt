@@ -40,8 +40,7 @@ fn tests_number(
     requires { ⌜ Parted (now states) (now internals) (now calls) (now returns) ⌝ }
     ensures { λ r. ⌜ r ≡ firstFailed (partTests (now (states .entry)) (now (internals .entry)) (now (calls .entry)) (now (returns .entry)) (now (words .entry)) (now (map .entry))) ⌝ }
 {
-    let n = states.len();
-    if map.len() != n {
+    if map.len() != states.len() {
         return 15;
     }
     if !numbered(map) {
@@ -50,13 +49,13 @@ fn tests_number(
     if !looks_agree(states, map) {
         return 17;
     }
-    if !records_matched(internals, 3, words, n, map) {
+    if !records_matched(internals, 3, words, map) {
         return 18;
     }
-    if !records_matched(calls, 3, words, n, map) {
+    if !records_matched(calls, 3, words, map) {
         return 19;
     }
-    if !records_matched(returns, 4, words, n, map) {
+    if !records_matched(returns, 4, words, map) {
         return 20;
     }
     0

@@ -128,14 +128,14 @@ fn return_matched(
 }
 
 // .. and every stack state.
-fn return_met(section: &[u8], words: &[u32], map: &[u8], fields: &[u8], n: usize, q: usize) -> bool
-    requires { ⌜ Lent 4 (now section) n × (length (now fields) ≡ 4) × (q < 256) ⌝ }
+fn return_met(section: &[u8], words: &[u32], map: &[u8], fields: &[u8], q: usize) -> bool
+    requires { ⌜ Lent 4 (now section) (length (now map)) × (length (now fields) ≡ 4) × (q < 256) ⌝ }
     requires { ⌜ (has (now words) (getD (now fields) 0 0) (getD (now fields) 2 0) ≡ true) × (joins (now map) (getD (now fields) 0 0) q ≡ true) ⌝ }
-    ensures { λ r. ⌜ r ≡ returnMet (now (words .entry)) (records 4 (now (section .entry))) n (now (map .entry)) (now (fields .entry)) q ⌝ }
+    ensures { λ r. ⌜ r ≡ returnMet (now (words .entry)) (records 4 (now (section .entry))) (length (now (map .entry))) (now (map .entry)) (now (fields .entry)) q ⌝ }
 {
     let under = class_of(map, wide(fields[2]));
     let mut u: usize = 0;
-    'states: while u < n {
+    'states: while u < map.len() {
         if !return_matched(section, words, map, fields, under, q, u) {
             return false;
         }
@@ -144,51 +144,41 @@ fn return_met(section: &[u8], words: &[u32], map: &[u8], fields: &[u8], n: usize
     true
 }
 
-// (ii) to (iv) for a record that is kept and a state q: where it is in the class of the record's first state, it matches a move or a return.
+// (ii) to (iv) for a record that is kept, and a state q that is joined to its first: a move or a return is matched.
 fn record_matched(
     section: &[u8],
     width: usize,
     words: &[u32],
     map: &[u8],
     fields: &[u8],
-    n: usize,
-    class: u8,
     q: usize,
 ) -> bool
-    requires { ⌜ Lent width (now section) n × (length (now fields) ≡ width) × (kept (now words) (now fields) ≡ true) ⌝ }
-    requires { ⌜ (class ≡ classOf (now map) (getD (now fields) 0 0)) × (q < 256) ⌝ }
-    ensures { λ r. ⌜ r ≡ recordMatched width (now (words .entry)) (records width (now (section .entry))) n (now (map .entry)) (now (fields .entry)) q ⌝ }
+    requires { ⌜ Lent width (now section) (length (now map)) × (length (now fields) ≡ width) × (kept (now words) (now fields) ≡ true) ⌝ }
+    requires { ⌜ (joins (now map) (getD (now fields) 0 0) q ≡ true) × (q < 256) ⌝ }
+    ensures { λ r. ⌜ r ≡ recordMatched width (now (words .entry)) (records width (now (section .entry))) (length (now (map .entry))) (now (map .entry)) (now (fields .entry)) q ⌝ }
 {
-    if !is_in(map, class, q) {
-        return true;
-    }
     if width == 3 {
         let wanted = table::move_key(q as u8, fields[1]);
         return reaches(section, width, wanted, map, wide(fields[2]));
     }
-    return_met(section, words, map, fields, n, q)
+    return_met(section, words, map, fields, q)
 }
 
-// .. and every state: a dead return asks nothing.
-fn record_met(
-    section: &[u8],
-    width: usize,
-    words: &[u32],
-    map: &[u8],
-    fields: &[u8],
-    n: usize,
-) -> bool
-    requires { ⌜ Lent width (now section) n × (length (now fields) ≡ width) ⌝ }
-    ensures { λ r. ⌜ r ≡ recordMet width (now (words .entry)) (records width (now (section .entry))) n (now (map .entry)) (now (fields .entry)) ⌝ }
+// .. and every state: a dead return asks nothing, and nothing is asked of a state of another class.
+fn record_met(section: &[u8], width: usize, words: &[u32], map: &[u8], fields: &[u8]) -> bool
+    requires { ⌜ Lent width (now section) (length (now map)) × (length (now fields) ≡ width) ⌝ }
+    ensures { λ r. ⌜ r ≡ recordMet width (now (words .entry)) (records width (now (section .entry))) (length (now (map .entry))) (now (map .entry)) (now (fields .entry)) ⌝ }
 {
     if !keeps(words, fields) {
         return true;
     }
     let class = class_of(map, wide(fields[0]));
     let mut q = 0;
-    'states: while q < n {
-        if !record_matched(section, width, words, map, fields, n, class, q) {
-            return false;
+    'states: while q < map.len() {
+        if is_in(map, class, q) {
+            if !record_matched(section, width, words, map, fields, q) {
+                return false;
+            }
         }
         q += 1;
     }
@@ -196,20 +186,14 @@ fn record_met(
 }
 
 // (ii) to (iv) "each internal or call move of one is matched by the other to a joined target", and "the same for returns": every record.
-pub(crate) fn records_matched(
-    section: &[u8],
-    width: usize,
-    words: &[u32],
-    n: usize,
-    map: &[u8],
-) -> bool
-    requires { ⌜ Lent width (now section) n ⌝ }
-    ensures { λ r. ⌜ r ≡ recordsMatched width (now (words .entry)) (records width (now (section .entry))) n (now (map .entry)) ⌝ }
+pub(crate) fn records_matched(section: &[u8], width: usize, words: &[u32], map: &[u8]) -> bool
+    requires { ⌜ Lent width (now section) (length (now map)) ⌝ }
+    ensures { λ r. ⌜ r ≡ recordsMatched width (now (words .entry)) (records width (now (section .entry))) (length (now (map .entry))) (now (map .entry)) ⌝ }
 {
     let mut at: usize = 0;
     'records: while width <= section.len() - at {
         let next = at + width;
-        if !record_met(section, width, words, map, &section[at..next], n) {
+        if !record_met(section, width, words, map, &section[at..next]) {
             return false;
         }
         at = next;

@@ -1,5 +1,5 @@
 -- `maps::tests_number` meets its contract, test by test. Assumes nothing.
-use Rattle.maps.proofs.Checking.{number-15, number-16, number-17, number-18, number-19, number-20, number-0}
+use Rattle.maps.proofs.Checking.{number-15, number-16, number-17, number-18, number-19, number-20, number-0, lent-states}
 use borrow.Author.Tests.{not-true, not-false}
 use mathlib.Core.Path.{sym, _∙_}
 use borrow.Author.Needs.{needs}
@@ -22,19 +22,19 @@ returns-3 : tie.Need-returns-3
 returns-3 c = number-17 _ _ _ _ _ _ (c .before .before .before .before .if1 .left) (sym (c .before .before .before .numbered .ensures) ∙ not-false _ (c .before .before .if2 .left)) (sym (c .before .looks-agree .ensures) ∙ not-true _ (c .if3 .taken))
 
 records-matched-requires : tie.Need-records-matched-requires
-records-matched-requires c κs = c .before .before .before .before .before .before .before .before .before .before .before .pre .internals-lent
+records-matched-requires c κs = lent-states (c .before .before .before .before .if1 .left) (c .before .before .before .before .before .before .before .before .before .before .before .pre .internals-lent)
 
 returns-4 : tie.Need-returns-4
 returns-4 c = number-18 _ _ _ _ _ _ (c .before .before .before .before .before .before .if1 .left) (sym (c .before .before .before .before .before .numbered .ensures) ∙ not-false _ (c .before .before .before .before .if2 .left)) (sym (c .before .before .before .looks-agree .ensures) ∙ not-false _ (c .before .before .if3 .left)) (sym (c .before .records-matched .ensures) ∙ not-true _ (c .if4 .taken))
 
 records-matched-requires-2 : tie.Need-records-matched-requires-2
-records-matched-requires-2 c κs = c .before .before .before .before .before .before .before .before .before .before .before .before .before .pre .calls-lent
+records-matched-requires-2 c κs = lent-states (c .before .before .before .before .before .before .if1 .left) (c .before .before .before .before .before .before .before .before .before .before .before .before .before .pre .calls-lent)
 
 returns-5 : tie.Need-returns-5
 returns-5 c = number-19 _ _ _ _ _ _ (c .before .before .before .before .before .before .before .before .if1 .left) (sym (c .before .before .before .before .before .before .before .numbered .ensures) ∙ not-false _ (c .before .before .before .before .before .before .if2 .left)) (sym (c .before .before .before .before .before .looks-agree .ensures) ∙ not-false _ (c .before .before .before .before .if3 .left)) (sym (c .before .before .before .records-matched .ensures) ∙ not-false _ (c .before .before .if4 .left)) (sym (c .before .records-matched2 .ensures) ∙ not-true _ (c .if5 .taken))
 
 records-matched-requires-3 : tie.Need-records-matched-requires-3
-records-matched-requires-3 c κs = c .before .before .before .before .before .before .before .before .before .before .before .before .before .before .before .pre .returns-lent
+records-matched-requires-3 c κs = lent-states (c .before .before .before .before .before .before .before .before .if1 .left) (c .before .before .before .before .before .before .before .before .before .before .before .before .before .before .before .pre .returns-lent)
 
 returns-6 : tie.Need-returns-6
 returns-6 c = number-20 _ _ _ _ _ _ (c .before .before .before .before .before .before .before .before .before .before .if1 .left) (sym (c .before .before .before .before .before .before .before .before .before .numbered .ensures) ∙ not-false _ (c .before .before .before .before .before .before .before .before .if2 .left)) (sym (c .before .before .before .before .before .before .before .looks-agree .ensures) ∙ not-false _ (c .before .before .before .before .before .before .if3 .left)) (sym (c .before .before .before .before .before .records-matched .ensures) ∙ not-false _ (c .before .before .before .before .if4 .left)) (sym (c .before .before .before .records-matched2 .ensures) ∙ not-false _ (c .before .before .if5 .left)) (sym (c .before .records-matched3 .ensures) ∙ not-true _ (c .if6 .taken))

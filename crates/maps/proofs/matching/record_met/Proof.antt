@@ -2,22 +2,24 @@
 use Rattle.maps.specs.Sections.{recordMatched}
 use Rattle.table.specs.File.{records}
 use Rattle.table.specs.Maps.{classOf}
-use Rattle.maps.proofs.Matched.{record-dead}
+use Rattle.maps.proofs.Matched.{by-class, record-apart, record-dead}
 use Rattle.lists.proofs.Upto.{Counting, counting, all-passed, all-failed, all-done}
 use Rattle.lists.specs.Lists.{all}
+use lib.ListN.{length}
 use borrow.Author.Tests.{not-true, not-false}
 use native.Mathlib.Omega.{arith}
 use Prim.Native.Nat.{_-_}
+use mathlib.Core.Logic.{⊎-elim}
 use mathlib.Core.Path.{sym, ap, _∙_}
 use borrow.Author.Needs.{needs}
 use Rattle.maps.proofs.matching.record_met.Statement.{statement}
 use Rattle.maps.proofs.matching.record_met.Tie as tie
 
 abbrev Inv-states : tie.InvT-states
-Inv-states section width words map fields n class q₀ q = Counting (all (recordMatched width words (records width section) n map fields)) n q
+Inv-states section width words map fields class q₀ q = Counting (all (recordMatched width words (records width section) (length map) map fields)) (length map) q
 
 abbrev μ-states : tie.MeasureT-states
-μ-states section width words map fields n class q₀ q = n - q
+μ-states section width words map fields class q₀ q = length map - q
 
 keeps-requires : tie.Need-keeps-requires Inv-states μ-states
 keeps-requires c κs = search needs
@@ -37,15 +39,19 @@ class-of-requires c κs = search needs
 states-holds : tie.Need-states-holds Inv-states μ-states
 states-holds c = counting _ _
 
+is-in-requires : tie.Need-is-in-requires Inv-states μ-states
+is-in-requires c κs = search needs
+
+-- the class that is sought is that of the record's first state
 record-matched-requires : tie.Need-record-matched-requires Inv-states μ-states
 record-matched-requires c κs =
-    let a = c .before .before .before .before .before .before .before .before .before .before .before in
-    let k = sym (c .before .before .before .before .before .before .keeps .ensures) ∙ not-false _ (c .before .before .before .before .before .if1 .left) in
-    let e = c .before .before .class-of .ensures ∙ ap (classOf (a .args .map .now)) (c .before .before .before .wide .ensures) in
-    ((a .pre .0, a .pre .1, k), (e, omega (arith, a .pre .0 .few, c .states-test .taken)))
+    let a = c .before .before .before .before .before .before .before .before .before .before .before .before .before in
+    let k = sym (c .before .before .before .before .before .before .before .before .keeps .ensures) ∙ not-false _ (c .before .before .before .before .before .before .before .if1 .left) in
+    let e = c .before .before .before .before .class-of .ensures ∙ ap (classOf (a .args .map .now)) (c .before .before .before .before .before .wide .ensures) in
+    ((a .pre .0, a .pre .1, k), (by-class _ _ _ e (c .before .is-in .ensures) (c .if2 .taken), omega (arith, a .pre .0 .few, c .before .before .states-test .taken)))
 
 returns-2 : tie.Need-returns-2 Inv-states μ-states
-returns-2 c = all-failed _ (c .before .before .before .states .inv) (c .before .before .states-test .taken) (sym (c .before .record-matched .ensures) ∙ not-true _ (c .if2 .taken))
+returns-2 c = all-failed _ (c .before .before .before .before .before .states .inv) (c .before .before .before .before .states-test .taken) (sym (c .before .record-matched .ensures) ∙ not-true _ (c .if3 .taken))
 
 add-q : tie.Need-add-q Inv-states μ-states
 add-q c = search needs
@@ -54,7 +60,11 @@ states-less : tie.Need-states-less Inv-states μ-states
 states-less c = search needs
 
 states-again : tie.Need-states-again Inv-states μ-states
-states-again c = all-passed _ (c .before .before .before .states .inv) (c .before .before .states-test .taken) (sym (c .before .record-matched .ensures) ∙ not-false _ (c .if2 .left))
+states-again c =
+    let i = c .before .before .before .states .inv in
+    let t = c .before .before .states-test .taken in
+    let e = c .before .before .before .before .class-of .ensures ∙ ap (classOf (c .before .before .before .before .before .before .before .before .before .before .before .before .before .args .map .now)) (c .before .before .before .before .before .wide .ensures) in
+    ⊎-elim (λ w. all-passed _ i t (sym (w .1 .ensures) ∙ not-false _ (w .2 .left))) (λ w. all-passed _ i t (record-apart _ _ _ _ _ _ _ (by-class _ _ _ e (c .before .is-in .ensures) (w .left)))) (c .if2 .came)
 
 returns-3 : tie.Need-returns-3 Inv-states μ-states
 returns-3 c = all-done _ (c .before .states .inv) (c .states-test .left)
@@ -71,6 +81,7 @@ record-met-spec =
     wide-requires
     class-of-requires
     states-holds
+    is-in-requires
     record-matched-requires
     returns-2
     add-q

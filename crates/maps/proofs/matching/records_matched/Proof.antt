@@ -13,10 +13,10 @@ use Rattle.maps.proofs.matching.records_matched.Statement.{statement}
 use Rattle.maps.proofs.matching.records_matched.Tie as tie
 
 abbrev Inv-records : tie.InvT-records
-Inv-records section width words n map at₀ at = Still (λ x. all (recordMet width words (records width section) n map) (records width x)) section at
+Inv-records section width words map at₀ at = Still (λ x. all (recordMet width words (records width section) (length map) map) (records width x)) section at
 
 abbrev μ-records : tie.MeasureT-records
-μ-records section width words n map at₀ at = length section - at
+μ-records section width words map at₀ at = length section - at
 
 records-holds : tie.Need-records-holds Inv-records μ-records
 records-holds c = begin _ _

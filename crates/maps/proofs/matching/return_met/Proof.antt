@@ -1,6 +1,6 @@
 -- `maps::matching::return_met` meets its contract: the stack states before this one match the return. Assumes nothing.
 use Rattle.maps.specs.Check.{returnMatched}
-use lib.ListN.{getD}
+use lib.ListN.{length, getD}
 use Rattle.table.specs.File.{records}
 use Rattle.table.specs.Maps.{classOf}
 use Rattle.lists.proofs.Upto.{Counting, counting, all-passed, all-failed, all-done}
@@ -14,10 +14,10 @@ use Rattle.maps.proofs.matching.return_met.Statement.{statement}
 use Rattle.maps.proofs.matching.return_met.Tie as tie
 
 abbrev Inv-states : tie.InvT-states
-Inv-states section words map fields n q under u₀ u = Counting (all (λ r. returnMatched words (records 4 section) map (getD fields 0 0) (getD fields 1 0) (getD fields 2 0) (getD fields 3 0) q r)) n u
+Inv-states section words map fields q under u₀ u = Counting (all (λ r. returnMatched words (records 4 section) map (getD fields 0 0) (getD fields 1 0) (getD fields 2 0) (getD fields 3 0) q r)) (length map) u
 
 abbrev μ-states : tie.MeasureT-states
-μ-states section words map fields n q under u₀ u = n - u
+μ-states section words map fields q under u₀ u = length map - u
 
 shared-slice-read-wide : tie.Need-shared-slice-read-wide Inv-states μ-states
 shared-slice-read-wide c = search needs
