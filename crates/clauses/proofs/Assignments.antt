@@ -19,7 +19,8 @@ use Rattle.table.specs.Limits.{Limits}
 use Rattle.table.specs.File.{Table}
 use Rattle.table.specs.Reading.{WellFormed}
 use Rattle.table.specs.Language.{count, automaton}
-use Rattle.table.proofs.Facts.{lawful}
+use Rattle.tops.proofs.Bounded.{lawful}
+use Rattle.tops.proofs.Formed.{bounded}
 use Rattle.clauses.specs.Pairs.{pairs, variableOf, pairOf}
 use Rattle.clauses.specs.Clauses.{clauseList}
 use Rattle.clauses.proofs.Pairs.{variable-sym, variable-below, pair-variable, in-order}
@@ -106,4 +107,4 @@ module _ (L : Limits) (t : Table) (wf : WellFormed L t) where
 
   -- the list is satisfiable: nothing joined
   pub nothing-joined : Model (clauseList L t) (pairs (count t)) (assignmentOf (λ q. q) (count t))
-  nothing-joined = map-model (λ q. q) (equality-raq (automaton t) (lawful wf))
+  nothing-joined = map-model (λ q. q) (equality-raq (automaton t) (lawful (bounded wf)))

@@ -14,17 +14,12 @@ use Rattle.lists.specs.Lists.{keep, upto}
 use Rattle.lists.proofs.Members.{and-of, keep-mem, keep-of, upto-mem, upto-of}
 use Rattle.cnf.specs.Clauses.{valueOf}
 use Rattle.table.specs.Maps.{classOf, classes, numberedFrom, numbered}
+use Rattle.maps.proofs.Numbered.{class-below}
 use Rattle.clauses.specs.Pairs.{variableOf}
 use Rattle.clauses.specs.Maps.{joinedBy, nextClass, mapOf}
 use Rattle.clauses.proofs.Related.{Related, related-refl, related-sym, related-true}
 
 -- ---- class numbers
-
-pub class-below : (m : List ℕ) (q : ℕ) → q < length m → classOf m q < classes m
-unfolding classes
-class-below [] q h = absurd (omega arith)
-class-below (c ∷ m) zero h = omega arith
-class-below (c ∷ m) (suc q) h = omega (arith, class-below m q (omega arith))
 
 -- one more class number at the end
 numbered-more : (j : ℕ) (m : List ℕ) (c : ℕ) → numberedFrom j m ≡ true → c ≤ max j (classes m) → numberedFrom j (m ++ (c ∷ [])) ≡ true

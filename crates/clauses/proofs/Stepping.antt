@@ -14,7 +14,7 @@ use Rattle.lists.proofs.Members.{upto-mem, length-upto}
 use Rattle.lists.proofs.Upto.{upto-on}
 use Rattle.lists.proofs.Counts.{keep-append, gather-append}
 use Rattle.table.specs.File.{records}
-use Rattle.tops.proofs.Loops.{records-cons, records-end}
+use Rattle.table.proofs.Walks.{records-cons, records-end}
 use Rattle.clauses.specs.Pairs.{pairs, pairOf}
 use Rattle.clauses.specs.Clauses.{past}
 use Rattle.clauses.specs.Emit.{State, Ordered, emit}

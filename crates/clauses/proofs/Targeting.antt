@@ -10,7 +10,8 @@ use lib.Seq.{length-take-le}
 use borrow.Author.Tests.{eq-eqb, ne-eqb}
 use Rattle.lists.specs.Lists.{mem}
 use Rattle.table.specs.File.{records}
-use Rattle.tops.proofs.Loops.{records-cons, records-end, record-byte}
+use Rattle.table.proofs.Walks.{records-cons, records-end}
+use Rattle.tops.proofs.Loops.{record-byte}
 use Rattle.clauses.specs.declared.literals.Literals.{Literals}
 use Rattle.clauses.specs.Clauses.{together, apart, opposite, premise}
 use Rattle.clauses.specs.Emit.{literalsOf, withLiteral, withAll, Holds, matchingFrom, lastBytes, State, emit}

@@ -8,6 +8,10 @@ use lib.ListN.{length, getD, set, take, drop, length-append, length-drop}
 use lib.Seq.{take-all, take-suc, drop-cons, set-at, append-snoc, length-take-le}
 use Rattle.lists.specs.Lists.{over}
 
+pub length-over : (xs buffer : List ℕ) → length xs ≤ length buffer → length (over xs buffer) ≡ length buffer
+unfolding over
+length-over xs buffer h = omega (arith, length-append xs (drop (length xs) buffer), length-drop (length xs) buffer)
+
 pub record Writing (vs old new : List ℕ) (i : ℕ) : Type 0 where
   pub inside : i ≤ length vs
   pub room : length vs ≤ length old

@@ -5,9 +5,10 @@ use mathlib.Core.Bool.{Bool, true, false, _&&_, _||_, not, true≢false, or-asso
 use mathlib.Core.List.{List, [], _∷_, _++_, map, List·Memᴰ, List·Memᴰ·head, List·Memᴰ·tail, Memᴰ·append-left, Memᴰ·append-right, List·Memᴰ·append-cases as append-cases, List·Memᴰ·not-nil as not-nil, List·Memᴰ·eq-of-singleton as eq-of-singleton, List·Memᴰ·cases-cons as cases-cons}
 use Prim.Native.Nat.{ℕ, zero, suc, _+_, _≤_, _<_, zero-le, suc-le-suc}
 use native.Mathlib.Nat.{le-trans, le-suc}
+use native.Mathlib.Numerals.{add-one}
 use native.Mathlib.Omega.{arith}
-use lib.ListN.{length, getD, length-append, List·getD-append}
-use lib.Seq.{getD-append-add}
+use lib.ListN.{length, getD, drop, length-append, List·getD-append}
+use lib.Seq.{drop-cons, getD-append-add}
 use lib.Dec.{eqb}
 use borrow.Author.Tests.{eqb-true, eqb-false, eq-eqb}
 use Rattle.lists.specs.Lists.{any, all, keep, gather, upto, mem, same}
@@ -36,6 +37,10 @@ pub or-false : (a b : Bool) → (a || b) ≡ false → (a ≡ false) × (b ≡ f
 or-false true b e = absurd (true≢false e)
 or-false false b e = (refl, e)
 
+pub not-so : (a : Bool) → (a ≡ true → ⊥) → a ≡ false
+not-so true h = absurd (h refl)
+not-so false h = refl
+
 -- `not a || b` says that a gives b
 pub gives : (a b : Bool) → (not a || b) ≡ true → a ≡ true → b ≡ true
 gives true b e p = e
@@ -44,6 +49,28 @@ gives false b e p = absurd (true≢false (sym p))
 pub gives-of : (a b : Bool) → (a ≡ true → b ≡ true) → (not a || b) ≡ true
 gives-of true b h = h refl
 gives-of false b h = refl
+
+-- ---- the element at a place
+
+module _ {A : Type 0} where
+  pub getD-mem : (xs : List A) (i : ℕ) (d : A) → i < length xs → List·Memᴰ (getD xs i d) xs
+  getD-mem [] i d h = absurd (omega arith)
+  getD-mem (x ∷ xs) zero d h = List·Memᴰ·head refl
+  getD-mem (x ∷ xs) (suc i) d h = List·Memᴰ·tail (getD-mem xs i d (omega arith))
+
+  -- an element that is there is the same at any default
+  pub getD-any : (xs : List A) (i : ℕ) (d e : A) → i < length xs → getD xs i d ≡ getD xs i e
+  getD-any [] i d e h = absurd (omega arith)
+  getD-any (x ∷ xs) zero d e h = refl
+  getD-any (x ∷ xs) (suc i) d e h = getD-any xs i d e (omega arith)
+
+  pub getD-map : {B : Type 0} (f : A → B) (xs : List A) (i : ℕ) (d : B) (e : A) → i < length xs → getD (map f xs) i d ≡ f (getD xs i e)
+  getD-map f [] i d e h = absurd (omega arith)
+  getD-map f (x ∷ xs) zero d e h = refl
+  getD-map f (x ∷ xs) (suc i) d e h = getD-map f xs i d e (omega arith)
+
+pub one-on : (xs : List ℕ) (i : ℕ) → i < length xs → drop i xs ≡ getD xs i 0 ∷ drop (i + 1) xs
+one-on xs i h = rw add-one (drop-cons xs i 0 h)
 
 -- ---- any, all, keep
 

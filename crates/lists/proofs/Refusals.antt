@@ -26,6 +26,10 @@ unfolding firstFailed
 failed-within n k true ts h r = r
 failed-within n k false ts h r = h
 
+pub no-test : firstFailed [] ≡ 0
+unfolding firstFailed
+no-test = refl
+
 pub none-failed : (n : ℕ) → firstFailed [] ≤ n
 unfolding firstFailed
 none-failed n = zero-le

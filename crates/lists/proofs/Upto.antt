@@ -3,12 +3,10 @@ use mathlib.Core.Path.{_≡_, refl, sym, ap, _∙_}
 use mathlib.Core.Bool.{Bool, true, false}
 use mathlib.Core.List.{List, _∷_}
 use Prim.Native.Nat.{ℕ, suc, _+_, _<_, _≤_}
-use native.Mathlib.Numerals.{add-one}
 use native.Mathlib.Omega.{arith}
 use lib.ListN.{drop, drop-of-length-le}
-use lib.Seq.{drop-cons}
 use Rattle.lists.specs.Lists.{any, all, upto}
-use Rattle.lists.proofs.Members.{length-upto, getD-upto}
+use Rattle.lists.proofs.Members.{one-on, length-upto, getD-upto}
 
 -- the answer over all the numbers is the answer over those from i on
 pub record Counting (f : List ℕ → Bool) (n i : ℕ) : Type 0 where
@@ -19,9 +17,7 @@ pub counting : (f : List ℕ → Bool) (n : ℕ) → Counting f n 0
 counting f n = record { inside = omega arith; meets = refl }
 
 pub upto-on : (n i : ℕ) → i < n → drop i (upto n) ≡ i ∷ drop (i + 1) (upto n)
-upto-on n i h =
-    drop-cons (upto n) i 0 (omega (arith, length-upto n))
-    ∙ λ j. getD-upto n i 0 h j ∷ drop (sym (add-one i) j) (upto n)
+upto-on n i h = one-on (upto n) i (omega (arith, length-upto n)) ∙ ap (λ x. x ∷ drop (i + 1) (upto n)) (getD-upto n i 0 h)
 
 module _ (g : ℕ → Bool) {n i : ℕ} where
   pub all-passed : Counting (all g) n i → i < n → g i ≡ true → Counting (all g) n (i + 1)

@@ -2,14 +2,14 @@
 use mathlib.Core.Path.{_≡_, refl, sym, ap, _∙_}
 use mathlib.Core.Logic.{_↔_}
 use mathlib.Core.Bool.{Bool, true, false}
-use mathlib.Core.List.{List, []}
+use mathlib.Core.List.{List}
 use Prim.Native.Nat.{ℕ}
 use native.Mathlib.Omega.{arith}
 use lib.ListN.{length}
 use lib.Dec.{eqb}
 use borrow.Author.Tests.{eqb-true, eqb-false, eq-eqb}
 use Rattle.lists.specs.Lists.{firstFailed}
-use Rattle.lists.proofs.Refusals.{passed, passes}
+use Rattle.lists.proofs.Refusals.{passed, passes, no-test}
 use Rattle.vpa.proofs.Relations.{matched-of, joined-raq}
 use Rattle.table.specs.Limits.{Limits}
 use Rattle.table.specs.File.{Table, tableOf}
@@ -34,10 +34,6 @@ module _ (L : Limits) (t : Table) (wf : WellFormed L t) (m : List ℕ) where
         record { long = eqb-true _ _ (a .0); in-order = b .0 },
         joined-raq (automaton t) (classOf m) (λ q s lq ls. reachable? wf q s) .0 (passed-matched L t wf m (record { looks = c .0; internals = d .0; calls = f .0; returns = g .0 })),
       )
-
-  no-test : firstFailed [] ≡ 0
-  unfolding firstFailed
-  no-test = refl
 
   raq-tests : Proper t m → RaqMap t m → firstFailed (mapTests L t m) ≡ 0
   unfolding mapTests

@@ -9,7 +9,7 @@ use lib.ListN.{length}
 use lib.Dec.{eqb}
 use borrow.Author.Tests.{eqb-true, eqb-false, eq-eqb, ne-eqb}
 use Rattle.lists.specs.Lists.{firstFailed}
-use Rattle.lists.proofs.Refusals.{passes, fails}
+use Rattle.lists.proofs.Refusals.{passes, fails, no-test}
 use Rattle.table.specs.Limits.{standard}
 use Rattle.table.specs.File.{records, tableOf}
 use Rattle.table.specs.Reading.{readNumber, ascend}
@@ -17,7 +17,7 @@ use Rattle.table.specs.Maps.{classes, numbered, Proper, RaqMap}
 use Rattle.table.specs.Sections.{partOf}
 use Rattle.table.specs.declared.Starts.{Starts}
 use Rattle.table.specs.declared.view.Section.the-variants.{States, Internals, Calls, Returns}
-use Rattle.table.proofs.Passed.{formed-tested, no-test}
+use Rattle.table.proofs.Passed.{formed-tested}
 use Rattle.table.proofs.Bytes.{read-well-formed}
 use Rattle.table.proofs.Facts.{few-states}
 use Rattle.table.proofs.Parts.{states-read, internals-read, calls-read, returns-read}

@@ -2,17 +2,19 @@
 use mathlib.Core.Path.{_≡_, refl, sym, ap, _∙_}
 use mathlib.Core.Bool.{true, false, _&&_}
 use mathlib.Core.List.{List, [], _∷_}
-use Prim.Native.Nat.{ℕ, suc, _+_, _<_, _≤_, max}
+use Prim.Native.Nat.{ℕ, zero, suc, _+_, _<_, _≤_, max}
 use native.Mathlib.Omega.{arith}
-use native.Mathlib.Numerals.{add-one}
 use lib.ListN.{length, getD, drop, drop-of-length-le}
-use lib.Seq.{drop-cons}
 use lib.Dec.{leb}
 use borrow.Author.Tests.{le-leb, lt-leb}
-use Rattle.table.specs.Maps.{classes, numberedFrom, numbered}
+use Rattle.lists.proofs.Members.{one-on}
+use Rattle.table.specs.Maps.{classOf, classes, numberedFrom, numbered}
 
-one-on : (m : List ℕ) (q : ℕ) → q < length m → drop q m ≡ getD m q 0 ∷ drop (q + 1) m
-one-on m q h = rw add-one (drop-cons m q 0 h)
+pub class-below : (m : List ℕ) (q : ℕ) → q < length m → classOf m q < classes m
+unfolding classes
+class-below [] q h = absurd (omega arith)
+class-below (c ∷ m) zero h = omega arith
+class-below (c ∷ m) (suc q) h = omega (arith, class-below m q (omega arith))
 
 -- ---- the numbering: the states from q on, where next is the number of a new class
 

@@ -18,9 +18,10 @@ use Rattle.table.specs.Language.{count, byteOf, automaton}
 use Rattle.table.specs.Maps.{classOf, classes, numbered}
 use Rattle.table.proofs.Passed.{Wide}
 use Rattle.tops.specs.Tops.{topWords, live, liveReturns}
+use Rattle.maps.proofs.Numbered.{class-below}
 use Rattle.quotient.specs.Quotient.{image, images, quotientTable}
 use Rattle.quotient.proofs.Image.{images-mem, image-move, image-return}
-use Rattle.quotient.proofs.Classes.{class-below, class-member}
+use Rattle.quotient.proofs.Classes.{class-member}
 use Rattle.quotient.proofs.States.{Has, count-classes, class-initial, class-accepting}
 
 -- "A return record is live when its stack state is in tops of its state", by runs

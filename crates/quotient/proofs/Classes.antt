@@ -1,10 +1,10 @@
 -- The classes of a map (document 01: "class numbers, each at most one above the largest before it, the first 0"): each class below the count
--- has a member, and each member's class is below the count. Assumes nothing.
+-- has a member. Assumes nothing.
 use mathlib.Core.Path.{_≡_, sym}
 use mathlib.Core.Logic.{_⊎_, inl, inr}
 use mathlib.Core.Bool.{true}
 use mathlib.Core.List.{List, [], _∷_}
-use Prim.Native.Nat.{ℕ, zero, suc, _+_, _≤_, _<_, max}
+use Prim.Native.Nat.{ℕ, suc, _+_, _≤_, _<_, max}
 use native.Mathlib.Omega.{arith}
 use native.Mathlib.Decide.{ℕ-discrete, decLt}
 use lib.ListN.{length}
@@ -12,12 +12,6 @@ use lib.Dec.{leb}
 use borrow.Author.Tests.{leb-true}
 use Rattle.lists.proofs.Members.{and-true}
 use Rattle.table.specs.Maps.{classOf, classes, numberedFrom, numbered}
-
-pub class-below : (m : List ℕ) (q : ℕ) → q < length m → classOf m q < classes m
-unfolding classes
-class-below [] q h = absurd (omega arith)
-class-below (x ∷ m) zero h = omega arith
-class-below (x ∷ m) (suc q) h = omega (arith, class-below m q (omega arith))
 
 -- a state of class c
 pub record Member (m : List ℕ) (c : ℕ) : Type 0 where

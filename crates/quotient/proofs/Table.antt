@@ -8,19 +8,19 @@ use lib.ListN.{length, getD}
 use lib.Dec.{eqb, ltb}
 use borrow.Author.Tests.{eqb-true, eq-eqb, ltb-true, lt-ltb}
 use Rattle.lists.specs.Lists.{any, all, keep, upto}
-use Rattle.lists.proofs.Members.{and-true, and-of, any-true, any-of, all-true, all-of, keep-mem}
+use Rattle.lists.proofs.Members.{and-true, and-of, getD-mem, any-true, any-of, all-true, all-of, keep-mem}
 use Rattle.table.specs.Limits.{Limits}
 use Rattle.table.specs.File.{Table}
 use Rattle.table.specs.Reading.{isInitial, recordFits, ascend, WellFormed}
 use Rattle.table.specs.Language.{count}
 use Rattle.table.specs.Maps.{classOf, classes, numbered}
 use Rattle.table.proofs.Passed.{Wide, Tested, formed-wide, formed-tested, formed-of}
-use Rattle.table.proofs.Order.{getD-mem}
 use Rattle.tops.specs.Tops.{topWords, live, liveReturns}
+use Rattle.maps.proofs.Numbered.{class-below}
 use Rattle.quotient.specs.Quotient.{image, images, classByte, quotientTable}
 use Rattle.quotient.proofs.Ascending.{ascending-ascends}
 use Rattle.quotient.proofs.Image.{images-mem, images-length, image-length}
-use Rattle.quotient.proofs.Classes.{class-below, classes-few}
+use Rattle.quotient.proofs.Classes.{classes-few}
 use Rattle.quotient.proofs.States.{byte-small, count-classes, class-initial}
 
 keep-few : {A : Type 0} (f : A → Bool) (xs : List A) → length (keep f xs) ≤ length xs

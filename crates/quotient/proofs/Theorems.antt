@@ -21,7 +21,7 @@ use Rattle.table.specs.Language.{count, automaton, automatonOf, SameWords}
 use Rattle.table.specs.Maps.{classOf, Proper}
 use Rattle.table.proofs.Passed.{formed-wide}
 use Rattle.table.proofs.Bytes.{Small, read-well-formed, table-of-bytes, read-bytes}
-use Rattle.table.proofs.Facts.{lawful}
+use Rattle.tops.proofs.Bounded.{lawful}
 use Rattle.tops.proofs.Formed.{bounded}
 use Rattle.tops.proofs.Exact.{live-exact}
 use Rattle.maps.specs.Check.{checkNumber}
@@ -73,7 +73,7 @@ module _ (L : Limits) (small : Small L) (b m : List ℕ) where
   keeps-words e = record { each = λ w. (λ h. same w .1 (exact w .0 h), λ h. exact w .1 (same w .0 h)) }
     where
       exact : (w : List ℕ) → Accepts (automatonOf b) w ↔ Accepts (quotient (automatonOf b) (classOf m)) w
-      exact = let a = accepted L b m e in quotient-words (automatonOf b) (classOf m) (lawful (read-well-formed L b (a .readable))) (a .raq)
+      exact = let a = accepted L b m e in quotient-words (automatonOf b) (classOf m) (lawful (bounded (read-well-formed L b (a .readable)))) (a .raq)
 
       same : (w : List ℕ) → Accepts (automatonOf (quotientBytes L b m)) w ↔ Accepts (quotient (automatonOf b) (classOf m)) w
       same =

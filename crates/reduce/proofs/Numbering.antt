@@ -13,10 +13,10 @@ use borrow.Author.Tests.{eq-eqb, ne-eqb}
 use Rattle.lists.specs.Lists.{keep, upto}
 use Rattle.cnf.specs.Clauses.{valueOf}
 use Rattle.table.specs.Maps.{classes}
+use Rattle.maps.proofs.Numbered.{class-below}
 use Rattle.clauses.specs.Pairs.{pairs, variableOf}
 use Rattle.clauses.specs.Maps.{joinedBy, nextClass, mapOf}
 use Rattle.clauses.proofs.Pairs.{variable-below}
-use Rattle.clauses.proofs.Maps.{class-below}
 use Rattle.reduce.specs.Lowest.{Lowest, LowestJoined, MapOf}
 
 -- ---- the first state that passes a test

@@ -110,39 +110,40 @@ read-well-formed L b e =
 
 -- ---- readable bytes are the bytes of their table
 
-module _ (L : Limits) (b : List ℕ) (p : Passed L b) where
+module _ (b : List ℕ) where
   inside : trailer b ≤ length b
   unfolding trailer
   inside = omega arith
 
   -- a section's length
-  between : (j k : ℕ) → distance b k ≤ distance b j → distance b j ≤ trailer b → length (slice (start b j) (start b k) b) ≡ distance b j - distance b k
+  pub length-between : (j k : ℕ) → distance b k ≤ distance b j → distance b j ≤ trailer b → length (slice (start b j) (start b k) b) ≡ distance b j - distance b k
   unfolding start
-  between j k h l = length-slice (trailer b - distance b j) (trailer b - distance b k) b (omega (arith, inside)) ∙ omega arith
+  length-between j k h l = length-slice (trailer b - distance b j) (trailer b - distance b k) b (omega (arith, inside)) ∙ omega arith
 
-  -- the sections from one on
-  rest : (k : ℕ) → distance b k ≤ trailer b → length (slice (start b k) (trailer b) b) ≡ distance b k
+  -- that of the sections from one on
+  pub length-from : (k : ℕ) → distance b k ≤ trailer b → length (slice (start b k) (trailer b) b) ≡ distance b k
   unfolding start
-  rest k l = length-slice (trailer b - distance b k) (trailer b) b inside ∙ omega arith
+  length-from k l = length-slice (trailer b - distance b k) (trailer b) b inside ∙ omega arith
 
+module _ (L : Limits) (b : List ℕ) (p : Passed L b) where
   join : (j k : ℕ) → distance b k ≤ distance b j → slice (start b j) (start b k) b ++ slice (start b k) (trailer b) b ≡ slice (start b j) (trailer b) b
   unfolding start
   join j k h = slice-join (trailer b - distance b j) (trailer b - distance b k) (trailer b) b (omega arith) (omega arith)
 
   from-returns : fromReturns (tableOf b) ≡ slice (start b 4) (trailer b) b
   unfolding fromReturns tableOf
-  from-returns = flat-records 4 (slice (start b 4) (trailer b) b) (ap (λ n. n % 4) (rest 4 (omega arith)) ∙ p .framed .fours-4)
+  from-returns = flat-records 4 (slice (start b 4) (trailer b) b) (ap (λ n. n % 4) (length-from b 4 (omega arith)) ∙ p .framed .fours-4)
 
   from-calls : fromCalls (tableOf b) ≡ slice (start b 3) (trailer b) b
   unfolding fromCalls tableOf
   from-calls =
-      let whole = flat-records 3 (slice (start b 3) (start b 4) b) (ap (λ n. n % 3) (between 3 4 (p .framed .falls-4) (omega arith)) ∙ p .framed .threes-3) in
+      let whole = flat-records 3 (slice (start b 3) (start b 4) b) (ap (λ n. n % 3) (length-between b 3 4 (p .framed .falls-4) (omega arith)) ∙ p .framed .threes-3) in
       (λ i. whole i ++ from-returns i) ∙ join 3 4 (p .framed .falls-4)
 
   from-internals : fromInternals (tableOf b) ≡ slice (start b 2) (trailer b) b
   unfolding fromInternals tableOf
   from-internals =
-      let whole = flat-records 3 (slice (start b 2) (start b 3) b) (ap (λ n. n % 3) (between 2 3 (p .framed .falls-3) (omega arith)) ∙ p .framed .threes-2) in
+      let whole = flat-records 3 (slice (start b 2) (start b 3) b) (ap (λ n. n % 3) (length-between b 2 3 (p .framed .falls-3) (omega arith)) ∙ p .framed .threes-2) in
       (λ i. whole i ++ from-calls i) ∙ join 2 3 (p .framed .falls-3)
 
   from-states : fromStates (tableOf b) ≡ slice (start b 1) (trailer b) b
@@ -178,11 +179,11 @@ module _ (L : Limits) (b : List ℕ) (p : Passed L b) where
   trailer-again : Bytes b → trailerOf (tableOf b) ≡ drop (trailer b) b
   unfolding trailerOf version distance
   trailer-again h =
-      let e0 = ap length from-symbols ∙ rest 0 (omega arith) in
-      let e1 = ap length from-states ∙ rest 1 (omega arith) in
-      let e2 = ap length from-internals ∙ rest 2 (omega arith) in
-      let e3 = ap length from-calls ∙ rest 3 (omega arith) in
-      let e4 = ap length from-returns ∙ rest 4 (omega arith) in
+      let e0 = ap length from-symbols ∙ length-from b 0 (omega arith) in
+      let e1 = ap length from-states ∙ length-from b 1 (omega arith) in
+      let e2 = ap length from-internals ∙ length-from b 2 (omega arith) in
+      let e3 = ap length from-calls ∙ length-from b 3 (omega arith) in
+      let e4 = ap length from-returns ∙ length-from b 4 (omega arith) in
       (λ i. gather bytes16 (e0 i ∷ e1 i ∷ e2 i ∷ e3 i ∷ e4 i ∷ sym (p .dated) i ∷ [])) ∙ trailing h
 
 pub bytes-of-table : (L : Limits) (b : List ℕ) → Bytes b → Readable L b → bytesOf (tableOf b) ≡ b

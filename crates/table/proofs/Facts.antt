@@ -11,14 +11,12 @@ use lib.Seq.{take-suc, take-all, take-append-seam, getD-append-seam}
 use lib.Dec.{eqb, ltb}
 use borrow.Author.Tests.{eqb-true, ltb-true}
 use Rattle.lists.specs.Lists.{keep, same}
-use Rattle.lists.proofs.Members.{and-true, all-true, keep-mem, keep-of, same-true, same-refl}
-use Rattle.vpa.specs.Automata.{Lawful}
+use Rattle.lists.proofs.Members.{and-true, getD-mem, all-true, keep-mem, keep-of, same-true, same-refl}
 use Rattle.table.specs.Limits.{Limits}
 use Rattle.table.specs.File.{Table}
 use Rattle.table.specs.Reading.{recordFits, WellFormed}
 use Rattle.table.specs.Language.{count, byteOf, look, targets, automaton}
 use Rattle.table.proofs.Passed.{formed-wide, formed-tested}
-use Rattle.table.proofs.Order.{getD-mem}
 
 -- ---- records
 
@@ -87,23 +85,6 @@ module _ {L : Limits} {t : Table} (wf : WellFormed L t) where
       go (yes h) (no k) = absurd (k (e .0 h))
       go (no h) (yes k) = absurd (h (e .1 k))
       go (no h) (no k) = omega (arith, byte-small p, byte-small q)
-
-  -- the automaton's moves, initial and accepting states are those of its states
-  flagged : (q : ℕ) → byteOf t q ≢ 0 → q < count t
-  flagged q h = go (decLt q (count t))
-    where
-      go : Dec (q < count t) → q < count t
-      go (yes l) = l
-      go (no l) = absurd (h (List·getD-eq-default (t .states) 0 {n = q} (omega arith)))
-
-  pub lawful : Lawful (automaton t)
-  lawful = record {
-    initially = λ {q} h. flagged q (λ e. let z : 0 % 2 ≡ 1 = ap (λ x. x % 2) (sym e) ∙ h in omega arith);
-    finally = λ {q} h. flagged q (λ e. let z : 0 / 2 % 2 ≡ 1 = ap (λ x. x / 2 % 2) (sym e) ∙ h in omega arith);
-    internals = λ m. (internals-fit .states _ m 0 (omega arith) (omega arith), internals-fit .states _ m 2 (omega arith) (omega arith));
-    calls = λ m. (calls-fit .states _ m 0 (omega arith) (omega arith), calls-fit .states _ m 2 (omega arith) (omega arith));
-    returns = λ m. (returns-fit .states _ m 0 (omega arith) (omega arith), returns-fit .states _ m 2 (omega arith) (omega arith), returns-fit .states _ m 3 (omega arith) (omega arith));
-  }
 
 -- ---- a record written out
 

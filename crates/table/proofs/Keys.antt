@@ -71,12 +71,7 @@ part-bytes s b at n i = go (decLt i n)
   where
     go : Dec (i < n) → getD (take n (drop at s)) i 0 < 256
     go (yes h) = rw (getD-take n (drop at s) i 0 h, getD-drop at s i 0) (b (at + i))
-    go (no h) = omega (arith, List·getD-eq-default (take n (drop at s)) 0 {n = i} (omega (arith, short n (drop at s))))
-      where
-        short : (n : ℕ) (xs : List ℕ) → length (take n xs) ≤ n
-        short zero xs = omega arith
-        short (suc n) [] = omega arith
-        short (suc n) (x ∷ xs) = omega (arith, short n xs)
+    go (no h) = omega (arith, List·getD-eq-default (take n (drop at s)) 0 {n = i} (omega (arith, length-take n (drop at s))))
 
 -- ---- three bytes at most
 

@@ -11,7 +11,7 @@ use lib.Dec.{eqb, leb, ltb, leb·suc-suc}
 use borrow.Author.Tests.{lt-leb, le-leb, eq-eqb, ne-eqb, eqb-false}
 use Rattle.lists.specs.Lists.{any, all, firstFailed}
 use Rattle.lists.proofs.Members.{and-of}
-use Rattle.lists.proofs.Refusals.{passes, fails}
+use Rattle.lists.proofs.Refusals.{passes, fails, no-test}
 use Rattle.table.specs.Limits.{standard, longest}
 use Rattle.table.specs.File.{Table, word16, trailer, distance, version, start, records, tableOf}
 use Rattle.table.specs.Reading.{lengthFits, distancesFit, countsFit, bytesFit, isInitial, startFits, recordFits, recordsFit, ascend, orderFits, tableTests, readNumber, startsOf, readOf}
@@ -19,7 +19,7 @@ use Rattle.table.specs.Sections.{sectioned}
 use Rattle.table.specs.declared.Starts.{Starts}
 use Rattle.table.specs.declared.Reading.{Reading}
 use Rattle.table.specs.declared.Reading.the-variants.{Sections, Refused}
-use Rattle.table.proofs.Passed.{distances-framed, no-test}
+use Rattle.table.proofs.Passed.{distances-framed}
 use Rattle.table.proofs.Bytes.{length-records}
 use Rattle.table.proofs.Fits.{fits-by}
 

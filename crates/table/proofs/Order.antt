@@ -10,7 +10,7 @@ use native.Mathlib.Decide.{decLt}
 use lib.ListN.{length, getD}
 use lib.Dec.{eqb, ltb}
 use borrow.Author.Tests.{ltb-true, lt-ltb, eqb-true, eq-eqb}
-use Rattle.lists.proofs.Members.{and-true, and-of, or-true, or-left, or-right}
+use Rattle.lists.proofs.Members.{and-true, and-of, or-true, or-left, or-right, getD-mem}
 use Rattle.table.specs.Reading.{before, ascendFrom, ascend}
 
 -- ---- one before the other
@@ -97,11 +97,6 @@ pub ascend-cons : (r : List ℕ) (rs : List (List ℕ)) → ((s : List ℕ) → 
 unfolding ascendFrom ascend
 ascend-cons r [] h e = refl
 ascend-cons r (s ∷ rs) h e = and-of (h s (List·Memᴰ·head refl)) e
-
-pub getD-mem : {A : Type 0} (xs : List A) (i : ℕ) (d : A) → i < length xs → List·Memᴰ (getD xs i d) xs
-getD-mem [] i d h = absurd (omega arith)
-getD-mem (x ∷ xs) zero d h = List·Memᴰ·head refl
-getD-mem (x ∷ xs) (suc i) d h = List·Memᴰ·tail (getD-mem xs i d (omega arith))
 
 -- the record at a smaller index is before the record at a larger one
 pub ascend-before : (rs : List (List ℕ)) → ascend rs ≡ true → (i j : ℕ) → i < j → j < length rs → before (getD rs i []) (getD rs j []) ≡ true

@@ -1,9 +1,9 @@
 -- The parts of a read table that are handed on: one law for each way to a return of src/view.rt, and the sections that they are. Assumes nothing.
 use mathlib.Core.Path.{_≡_, sym, ap, _∙_}
-use mathlib.Core.List.{List, [], _∷_}
-use Prim.Native.Nat.{ℕ, zero, suc, _-_, _≤_, _<_}
+use mathlib.Core.List.{List, []}
+use Prim.Native.Nat.{ℕ, _-_, _≤_, _<_}
 use native.Mathlib.Omega.{arith}
-use lib.ListN.{length, getD, take, drop, drop-of-length-le, List·getD-eq-default}
+use lib.ListN.{length, getD, take, drop, length-take, drop-of-length-le, List·getD-eq-default}
 use lib.Seq.{slice, take-nil, take-all, drop-length}
 use Rattle.table.specs.Limits.{Limits}
 use Rattle.table.specs.File.{trailer, start, records, tableOf}
@@ -16,27 +16,15 @@ use Rattle.table.proofs.Numbers.{part}
 
 -- ---- the bytes from one place up to another, as far as they are there
 
--- no more bytes than were asked for
-short : (t : ℕ) (b : List ℕ) → length (take t b) ≤ t
-short zero b = omega arith
-short (suc t) [] = omega arith
-short (suc t) (x ∷ b) = omega (arith, short t b)
-
--- .. and no more than there are
-few : (t : ℕ) (b : List ℕ) → length (take t b) ≤ length b
-few zero b = omega arith
-few (suc t) [] = omega arith
-few (suc t) (x ∷ b) = omega (arith, few t b)
-
 none : (b : List ℕ) → take (length b - length b) (drop (length b) b) ≡ []
 none b = ap (take (length b - length b)) (drop-length b) ∙ take-nil (length b - length b)
 
 module _ (f t : ℕ) (b : List ℕ) where
   pub past-end : length b ≤ f → take (length b - length b) (drop (length b) b) ≡ slice f t b
-  past-end h = none b ∙ sym (drop-of-length-le (take t b) {i = f} (omega (arith, few t b)))
+  past-end h = none b ∙ sym (drop-of-length-le (take t b) {i = f} (omega (arith, length-take t b)))
 
   pub ends-first : t ≤ f → take (length b - length b) (drop (length b) b) ≡ slice f t b
-  ends-first h = none b ∙ sym (drop-of-length-le (take t b) {i = f} (omega (arith, short t b)))
+  ends-first h = none b ∙ sym (drop-of-length-le (take t b) {i = f} (omega (arith, length-take t b)))
 
   pub up-to-end : f < length b → length b ≤ t → take (length b - f) (drop f b) ≡ slice f t b
   up-to-end h k = part f (length b) b (omega arith) ∙ ap (drop f) (take-all (length b) b (omega arith) ∙ sym (take-all t b k))

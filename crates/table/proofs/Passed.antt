@@ -1,8 +1,8 @@
 -- What it says that reading refuses nothing (document 01, "Refused calls", 1 to 8): of the bytes, and of the table, test by test and both ways.
 -- Assumes nothing.
-use mathlib.Core.Path.{_≡_, refl, _∙_}
+use mathlib.Core.Path.{_≡_, _∙_}
 use mathlib.Core.Bool.{true}
-use mathlib.Core.List.{List, [], List·Memᴰ}
+use mathlib.Core.List.{List, List·Memᴰ}
 use Prim.Native.Nat.{ℕ, _-_, _%_, _≤_}
 use native.Mathlib.Omega.{arith}
 use lib.ListN.{length}
@@ -10,7 +10,7 @@ use lib.Dec.{eqb, leb}
 use borrow.Author.Tests.{eqb-true, leb-true, eq-eqb, le-leb}
 use Rattle.lists.specs.Lists.{any, all, firstFailed}
 use Rattle.lists.proofs.Members.{and-true, and-of, all-true, all-of}
-use Rattle.lists.proofs.Refusals.{passed, passes, failed-within, none-failed}
+use Rattle.lists.proofs.Refusals.{passed, passes, failed-within, none-failed, no-test}
 use Rattle.table.specs.Limits.{Limits, longest, moveLimit, returnLimit}
 use Rattle.table.specs.File.{Table, trailer, distance, version, tableOf}
 use Rattle.table.specs.Reading.{lengthFits, distancesFit, countsFit, bytesFit, isInitial, startFits, recordFits, recordsFit, ascend, orderFits, tableTests, readNumber, Readable, WellFormed}
@@ -147,10 +147,6 @@ tests-passed L t e =
       calls-ascend = o1 .1;
       returns-ascend = o2 .1;
     }
-
-pub no-test : firstFailed [] ≡ 0
-unfolding firstFailed
-no-test = refl
 
 pub tests-pass : (L : Limits) (t : Table) → Tested L t → firstFailed (tableTests L t) ≡ 0
 unfolding tableTests countsFit bytesFit startFits recordsFit orderFits

@@ -13,15 +13,16 @@ use lib.Seq.{take-nil, drop-cons, drop-drop, getD-drop, length-take-le, take-tak
 use lib.Dec.{eqb, ltb}
 use borrow.Author.Tests.{lt-ltb, le-ltb, eq-eqb, ne-eqb}
 use Rattle.lists.specs.Lists.{keep, parts}
-use Rattle.lists.proofs.Parts.{length-parts, getD-parts}
+use Rattle.lists.proofs.Members.{getD-mem}
+use Rattle.lists.proofs.Parts.{getD-parts}
 use Rattle.table.specs.File.{records}
 use Rattle.table.specs.Reading.{before, ascend}
 use Rattle.table.specs.Sections.{firstAt}
 use Rattle.table.specs.Spans.{startsWith, leading}
 use Rattle.table.specs.Keys.{key, Keyed}
-use Rattle.table.proofs.Bytes.{Bytes}
+use Rattle.table.proofs.Bytes.{Bytes, length-records}
 use Rattle.table.proofs.Keys.{part-bytes, but-last, before-key, starts-key}
-use Rattle.table.proofs.Order.{before-transitive, ascend-behind, ascend-rest, getD-mem}
+use Rattle.table.proofs.Order.{before-transitive, ascend-behind, ascend-rest}
 use Rattle.table.proofs.Spans.{kept-span}
 
 -- ---- record i
@@ -32,10 +33,6 @@ record-inside w s i h = omega (arith, mul-le-mul-right w h, suc-mul i w, div-mul
 record-at : (w : ℕ) (s : List ℕ) (i : ℕ) → i < length s / w → getD (records w s) i [] ≡ take w (drop (i * w) s)
 unfolding records
 record-at w s i h = getD-parts (length s / w) w s i h
-
-pub length-records : (w : ℕ) (s : List ℕ) → length (records w s) ≡ length s / w
-unfolding records
-length-records w s = length-parts (length s / w) w s
 
 -- its number beside the key's tells whether it stands before the key and whether it starts with it
 module _ (s : List ℕ) {w : ℕ} {k : List ℕ} {n : ℕ} (b : Bytes s) (d : Keyed w k n) {i : ℕ} (h : i < length s / w) where

@@ -4,14 +4,15 @@ use mathlib.Core.Path.{_≡_, refl, sym, ap, _∙_}
 use mathlib.Core.Bool.{Bool, true, false}
 use mathlib.Core.List.{List, [], _∷_}
 use Prim.Native.Nat.{ℕ, suc, _+_, _-_, _/_, _≤_, _<_}
-use native.Mathlib.Nat.{div-eq-sub-div, div-eq-of-lt}
+use native.Mathlib.Nat.{add-div-right, div-eq-of-lt}
 use native.Mathlib.Numerals.{add-one}
 use native.Mathlib.Omega.{arith}
 use lib.ListN.{length, getD, take, drop, length-drop, drop-of-length-le}
-use lib.Seq.{drop-cons, drop-drop, length-take-le}
+use lib.Seq.{drop-drop, length-take-le}
 use lib.Dec.{ltb}
 use borrow.Author.Tests.{lt-ltb, le-ltb}
 use Rattle.lists.specs.Lists.{any, all, parts}
+use Rattle.lists.proofs.Members.{one-on}
 use Rattle.table.specs.File.{records}
 use Rattle.table.specs.Reading.{before, ascendFrom, ascend}
 use Rattle.table.specs.Keys.{key}
@@ -27,9 +28,6 @@ pub begin : (f : List ℕ → Bool) (s : List ℕ) → Still f s 0
 begin f s = record { inside = omega arith; meets = refl }
 
 -- ---- bytes
-
-one-on : (s : List ℕ) (i : ℕ) → i < length s → drop i s ≡ getD s i 0 ∷ drop (i + 1) s
-one-on s i h = rw add-one (drop-cons s i 0 h)
 
 module _ (f : ℕ → Bool) {s : List ℕ} {i : ℕ} where
   pub all-passed : Still (all f) s i → i < length s → f (getD s i 0) ≡ true → Still (all f) s (i + 1)
@@ -58,26 +56,22 @@ module _ (f : ℕ → Bool) {s : List ℕ} {i : ℕ} where
 
 -- ---- records
 
--- the first record and those behind it
-records-cons : (w : ℕ) (s : List ℕ) → 0 < w → w ≤ length s → records w s ≡ take w s ∷ records w (drop w s)
-unfolding records parts
-records-cons w s p h =
-    let e : length s / w ≡ suc (length (drop w s) / w) = div-eq-sub-div p h ∙ add-one _ ∙ ap (λ n. suc (n / w)) (sym (length-drop w s)) in
-    ap (λ k. parts k w s) e
-
-records-none : (w : ℕ) (s : List ℕ) → length s < w → records w s ≡ []
-unfolding records parts
-records-none w s h = ap (λ k. parts k w s) (div-eq-of-lt h)
-
 -- the record at a place, and those behind it
-record-on : (w : ℕ) (s : List ℕ) (at : ℕ) → 0 < w → w ≤ length s - at → records w (drop at s) ≡ take (at + w - at) (drop at s) ∷ records w (drop (at + w) s)
-record-on w s at p h =
-    let e : at + w - at ≡ w = omega arith in
-    let l : w ≤ length (drop at s) = omega (arith, length-drop at s) in
-    rw (e, ← drop-drop w at s) (records-cons w (drop at s) p l)
+pub records-cons : (w : ℕ) (s : List ℕ) (at : ℕ) → 0 < w → at + w ≤ length s → records w (drop at s) ≡ take w (drop at s) ∷ records w (drop (at + w) s)
+unfolding records parts
+records-cons w s at p h =
+    let e : length (drop at s) ≡ length (drop (at + w) s) + w = omega (arith, length-drop at s, length-drop (at + w) s) in
+    let k : length (drop at s) / w ≡ suc (length (drop (at + w) s) / w) = ap (λ n. n / w) e ∙ add-div-right (length (drop (at + w) s)) p ∙ add-one _ in
+    ap (λ n. parts n w (drop at s)) k ∙ ap (λ r. take w (drop at s) ∷ parts (length (drop (at + w) s) / w) w r) (drop-drop w at s)
 
-record-none : (w : ℕ) (s : List ℕ) (at : ℕ) → length s - at < w → records w (drop at s) ≡ []
-record-none w s at h = records-none w (drop at s) (omega (arith, length-drop at s))
+-- the record as the code takes it, from a place up to another
+pub record-on : (w : ℕ) (s : List ℕ) (at : ℕ) → 0 < w → w ≤ length s - at → records w (drop at s) ≡ take (at + w - at) (drop at s) ∷ records w (drop (at + w) s)
+record-on w s at p h = let e : at + w - at ≡ w = omega arith in rw e (records-cons w s at p (omega arith))
+
+-- less than a record is left
+pub records-end : (w : ℕ) (s : List ℕ) (at : ℕ) → length s - at < w → records w (drop at s) ≡ []
+unfolding records parts
+records-end w s at h = let short : length (drop at s) < w = omega (arith, length-drop at s) in ap (λ k. parts k w (drop at s)) (div-eq-of-lt short)
 
 module _ (g : List ℕ → Bool) (w : ℕ) {s : List ℕ} {at : ℕ} where
   pub records-passed : Still (λ x. all g (records w x)) s at → 0 < w → w ≤ length s - at → g (take (at + w - at) (drop at s)) ≡ true → Still (λ x. all g (records w x)) s (at + w)
@@ -90,7 +84,7 @@ module _ (g : List ℕ → Bool) (w : ℕ) {s : List ℕ} {at : ℕ} where
 
   pub records-done : Still (λ x. all g (records w x)) s at → length s - at < w → true ≡ all g (records w s)
   unfolding all
-  records-done i h = sym (i .meets ∙ ap (all g) (record-none w s at h))
+  records-done i h = sym (i .meets ∙ ap (all g) (records-end w s at h))
 
   pub records-missed : Still (λ x. any g (records w x)) s at → 0 < w → w ≤ length s - at → g (take (at + w - at) (drop at s)) ≡ false → Still (λ x. any g (records w x)) s (at + w)
   unfolding any
@@ -102,7 +96,7 @@ module _ (g : List ℕ → Bool) (w : ℕ) {s : List ℕ} {at : ℕ} where
 
   pub records-none-met : Still (λ x. any g (records w x)) s at → length s - at < w → false ≡ any g (records w s)
   unfolding any
-  records-none-met i h = sym (i .meets ∙ ap (any g) (record-none w s at h))
+  records-none-met i h = sym (i .meets ∙ ap (any g) (records-end w s at h))
 
 -- ---- records that ascend
 
@@ -120,28 +114,25 @@ rising w s h e =
 
 pub too-few : (w : ℕ) (s : List ℕ) → length s < w → true ≡ ascend (records w s)
 unfolding ascend
-too-few w s h = sym (ap ascend (records-none w s h))
+too-few w s h = sym (ap ascend (records-end w s 0 (omega arith)))
 
 module _ {w : ℕ} {s : List ℕ} {last at : ℕ} (p : 3 ≤ w) (i : Rising w s last at) where
   -- the last record, and those behind it
   last-on : records w (drop (at - w) s) ≡ take w (drop (at - w) s) ∷ records w (drop at s)
   last-on =
       let e : at - w + w ≡ at = omega (arith, i) in
-      let f : at - w + w - (at - w) ≡ w = omega arith in
-      record-on w s (at - w) (omega arith) (omega (arith, i)) ∙ λ j. take (f j) (drop (at - w) s) ∷ records w (drop (e j) s)
+      records-cons w s (at - w) (omega arith) (omega (arith, i)) ∙ ap (λ n. take w (drop (at - w) s) ∷ records w (drop n s)) e
 
   pub risen : length s - at < w → true ≡ ascend (records w s)
   unfolding ascend ascendFrom
-  risen h = sym (i .meets ∙ ap ascend (last-on ∙ ap (λ rs. take w (drop (at - w) s) ∷ rs) (record-none w s at h)))
+  risen h = sym (i .meets ∙ ap ascend (last-on ∙ ap (λ rs. take w (drop (at - w) s) ∷ rs) (records-end w s at h)))
 
   module _ (b : Bytes s) {number : ℕ} (h : w ≤ length s - at) (e : number ≡ key (take w (drop at s))) where
-    wide : at + w - at ≡ w
-    wide = omega arith
+    here : records w (drop at s) ≡ take w (drop at s) ∷ records w (drop (at + w) s)
+    here = records-cons w s at (omega arith) (omega arith)
 
     next-on : ascend (records w s) ≡ ascend (take w (drop (at - w) s) ∷ take w (drop at s) ∷ records w (drop (at + w) s))
-    next-on =
-        i .meets
-        ∙ ap ascend (last-on ∙ ap (λ rs. take w (drop (at - w) s) ∷ rs) (record-on w s at (omega arith) h ∙ ap (λ n. take n (drop at s) ∷ records w (drop (at + w) s)) wide))
+    next-on = i .meets ∙ ap ascend (last-on ∙ ap (λ rs. take w (drop (at - w) s) ∷ rs) here)
 
     compared : before (take w (drop (at - w) s)) (take w (drop at s)) ≡ ltb last number
     compared =
@@ -159,7 +150,7 @@ module _ {w : ℕ} {s : List ℕ} {last at : ℕ} (p : 3 ≤ w) (i : Rising w s 
           inside = omega (arith, i);
           number = e ∙ ap (λ n. key (take w (drop n s))) z;
           meets =
-              next-on ∙ rw (compared ∙ lt-ltb _ _ l) (ap ascend (sym (record-on w s at (omega arith) h ∙ ap (λ n. take n (drop at s) ∷ records w (drop (at + w) s)) wide)))
+              next-on ∙ rw (compared ∙ lt-ltb _ _ l) (ap ascend (sym here))
               ∙ ap (λ n. ascend (records w (drop n s))) z;
         }
 

@@ -3,17 +3,17 @@ use mathlib.Core.Path.{_≡_, refl, sym, ap, _∙_}
 use mathlib.Core.Logic.{_≢_}
 use mathlib.Core.Bool.{Bool, true, false, _&&_}
 use mathlib.Core.List.{List, [], _∷_, _++_, map, map-append, List·Memᴰ, List·Memᴰ·head, List·Memᴰ·tail}
-use Prim.Native.Nat.{ℕ, suc, _+_, _-_, _*_, _/_, _%_, _^_, _<_, _≤_}
+use Prim.Native.Nat.{ℕ, suc, _+_, _-_, _*_, _%_, _^_, _<_, _≤_}
 use native.Mathlib.Omega.{arith}
-use native.Mathlib.Nat.{add-zero, sub-zero, add-div-right, add-mod-right, mod-eq-of-lt, div-eq-of-lt, mul-le-mul}
+use native.Mathlib.Nat.{add-zero, sub-zero, add-mod-right, mod-eq-of-lt, mul-le-mul}
 use native.Mathlib.Numerals.{add-one}
 use native.Mathlib.Decide.{decLt}
-use lib.ListN.{length, getD, take, drop, set, replicate, length-drop, length-map, drop-of-length-le}
-use lib.Seq.{drop-cons, drop-drop, getD-take, getD-drop, length-take-le, take-suc, take-all, append-snoc, set-at}
+use lib.ListN.{length, getD, take, drop, set, replicate, length-map, drop-of-length-le}
+use lib.Seq.{drop-cons, getD-take, getD-drop, length-take-le, take-suc, take-all, append-snoc, set-at}
 use lib.Dec.{eqb}
 use lib.Count.{onesIn}
 use borrow.Author.Tests.{eq-eqb, ne-eqb}
-use Rattle.lists.specs.Lists.{parts, same}
+use Rattle.lists.specs.Lists.{same}
 use Rattle.lists.specs.Bits.{onesOver}
 use Rattle.lists.proofs.Members.{same-true}
 use Rattle.lists.proofs.Words.{ones-le}
@@ -21,25 +21,13 @@ use Rattle.table.specs.Limits.{standard}
 use Rattle.table.specs.File.{Table, records}
 use Rattle.table.specs.Sections.{sectioned}
 use Rattle.table.specs.Reading.{isInitial}
+use Rattle.table.proofs.Walks.{records-cons, records-end}
 use Rattle.tops.specs.declared.Kind.{Kind}
 use Rattle.tops.specs.declared.Kind.the-variants.{Internal, Call, Return}
 use Rattle.tops.specs.Tops.{live, byInternals, byCalls, byReturns, round, rounds, startWords}
 use Rattle.tops.specs.Sections.{Section, widthOf, stepBy, byRecords}
 
 -- ---- records
-
--- the record at a place, and those behind it
-pub records-cons : (w : ℕ) (s : List ℕ) (at : ℕ) → 0 < w → at + w ≤ length s → records w (drop at s) ≡ take w (drop at s) ∷ records w (drop (at + w) s)
-unfolding records parts
-records-cons w s at p h =
-    let e : length (drop at s) ≡ length (drop (at + w) s) + w = omega (arith, length-drop at s, length-drop (at + w) s) in
-    let k : length (drop at s) / w ≡ suc (length (drop (at + w) s) / w) = ap (λ n. n / w) e ∙ add-div-right (length (drop (at + w) s)) p ∙ add-one _ in
-    ap (λ n. parts n w (drop at s)) k ∙ ap (λ r. take w (drop at s) ∷ parts (length (drop (at + w) s) / w) w r) (drop-drop w at s)
-
--- less than a record is left
-pub records-end : (w : ℕ) (s : List ℕ) (at : ℕ) → length s - at < w → records w (drop at s) ≡ []
-unfolding records parts
-records-end w s at h = let short : length (drop at s) < w = omega (arith, length-drop at s) in ap (λ k. parts k w (drop at s)) (div-eq-of-lt short)
 
 -- a byte of the record at a place
 pub record-byte : (w : ℕ) (s : List ℕ) (at i : ℕ) → i < w → getD (take w (drop at s)) i 0 ≡ getD s (at + i) 0

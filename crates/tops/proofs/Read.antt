@@ -3,16 +3,16 @@ use mathlib.Core.Path.{_≡_, refl, sym, ap, subst, _∙_}
 use mathlib.Core.Logic.{_≢_}
 use mathlib.Core.Bool.{Bool, true, false}
 use mathlib.Core.List.{List, [], _++_}
-use Prim.Native.Nat.{ℕ, zero, suc, _-_, _*_, _%_, _≤_}
+use Prim.Native.Nat.{ℕ, zero, suc, _-_, _*_, _%_}
 use native.Mathlib.Omega.{arith}
 use lib.ListN.{length, replicate}
-use lib.Seq.{slice, length-slice}
+use lib.Seq.{slice}
 use lib.Dec.{eqb}
 use borrow.Author.Tests.{eq-eqb, ne-eqb, eqb-true, eqb-false}
 use Rattle.lists.specs.Lists.{same}
 use Rattle.lists.specs.Bits.{onesOver}
 use Rattle.table.specs.Limits.{Limits, standard}
-use Rattle.table.specs.File.{Table, trailer, distance, start, tableOf}
+use Rattle.table.specs.File.{Table, trailer, start, tableOf}
 use Rattle.table.specs.Sections.{sectioned, partOf}
 use Rattle.table.specs.Reading.{readNumber, Readable, startsOf, readOf}
 use Rattle.table.specs.declared.Starts.{Starts}
@@ -21,7 +21,7 @@ use Rattle.table.specs.declared.Reading.{Reading}
 use Rattle.table.specs.declared.Reading.the-variants.{Sections as SectionsAt, Refused as RefusedBy}
 use Rattle.table.proofs.Passed.{Passed, read-passed}
 use Rattle.table.proofs.Parts.{states-at, internals-at, calls-at, returns-at}
-use Rattle.table.proofs.Bytes.{read-well-formed}
+use Rattle.table.proofs.Bytes.{length-between, length-from, read-well-formed}
 use Rattle.table.proofs.Facts.{internals-fit, calls-fit, returns-fit, few-states}
 use Rattle.tops.specs.Tops.{round, rounds, startWords, topWords, topCount, topsOf}
 use Rattle.tops.specs.Sections.{Sections, topsFound}
@@ -61,28 +61,15 @@ module _ (b : List ℕ) (readable : Readable standard b) where
   p : Passed standard b
   p = read-passed standard b readable
 
-  inside : trailer b ≤ length b
-  unfolding trailer
-  inside = omega arith
-
-  -- a section's length is the difference of two distances
-  between : (j k : ℕ) → distance b k ≤ distance b j → distance b j ≤ trailer b → length (slice (start b j) (start b k) b) ≡ distance b j - distance b k
-  unfolding start
-  between j k h l = length-slice (trailer b - distance b j) (trailer b - distance b k) b (omega (arith, inside)) ∙ omega arith
-
-  last : length (slice (start b 4) (trailer b) b) ≡ distance b 4
-  unfolding start
-  last = length-slice (trailer b - distance b 4) (trailer b) b inside ∙ omega (arith, p)
-
   pub sections-read : Sections (slice (start b 1) (start b 2) b) (slice (start b 2) (start b 3) b) (slice (start b 3) (start b 4) b) (slice (start b 4) (trailer b) b)
   unfolding tableOf
   sections-read =
       let wf = read-well-formed standard b readable in
       record {
         few = few-states wf;
-        internals-whole = record { whole = ap (λ n. n % 3) (between 2 3 (p .framed .falls-3) (omega (arith, p))) ∙ p .framed .threes-2; states = internals-fit wf .states };
-        calls-whole = record { whole = ap (λ n. n % 3) (between 3 4 (p .framed .falls-4) (omega (arith, p))) ∙ p .framed .threes-3; states = calls-fit wf .states };
-        returns-whole = record { whole = ap (λ n. n % 4) last ∙ p .framed .fours-4; states = returns-fit wf .states };
+        internals-whole = record { whole = ap (λ n. n % 3) (length-between b 2 3 (p .framed .falls-3) (omega (arith, p))) ∙ p .framed .threes-2; states = internals-fit wf .states };
+        calls-whole = record { whole = ap (λ n. n % 3) (length-between b 3 4 (p .framed .falls-4) (omega (arith, p))) ∙ p .framed .threes-3; states = calls-fit wf .states };
+        returns-whole = record { whole = ap (λ n. n % 4) (length-from b 4 (omega (arith, p))) ∙ p .framed .fours-4; states = returns-fit wf .states };
       }
 
   -- the operation's answer is that of its sections
