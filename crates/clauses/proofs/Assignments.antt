@@ -3,15 +3,15 @@
 use mathlib.Core.Path.{_≡_, refl, sym, ap, _∙_, subst}
 use mathlib.Core.Logic.{_⊎_, inl, inr, _≢_, _↔_}
 use mathlib.Core.Bool.{Bool, true, false}
-use mathlib.Core.List.{List, [], _∷_, map}
-use Prim.Native.Nat.{ℕ, zero, suc, _<_}
+use mathlib.Core.List.{List, map}
+use Prim.Native.Nat.{ℕ, _<_}
 use native.Mathlib.Omega.{arith}
 use native.Mathlib.Decide.{ℕ-discrete}
-use lib.ListN.{length, getD, length-map}
+use lib.ListN.{length-map}
 use lib.Dec.{eqb}
 use borrow.Author.Tests.{eqb-true, eqb-false}
 use Rattle.lists.specs.Lists.{upto}
-use Rattle.lists.proofs.Members.{length-upto, getD-upto}
+use Rattle.lists.proofs.Members.{getD-map, length-upto, getD-upto}
 use Rattle.cnf.specs.Clauses.{valueOf, Assignment, Model}
 use Rattle.vpa.specs.Quotients.{Joined, Raq}
 use Rattle.vpa.proofs.Relations.{raq-along, equality-raq}
@@ -26,11 +26,6 @@ use Rattle.clauses.specs.Clauses.{clauseList}
 use Rattle.clauses.proofs.Pairs.{variable-sym, variable-below, pair-variable, in-order}
 use Rattle.clauses.proofs.Related.{Related, related-true}
 use Rattle.clauses.proofs.Models.{model-raq}
-
-getD-map : {A : Type 0} (g : A → ℕ) (xs : List A) (i d : ℕ) (e : A) → i < length xs → getD (map g xs) i d ≡ g (getD xs i e)
-getD-map g [] i d e h = absurd (omega arith)
-getD-map g (x ∷ xs) zero d e h = refl
-getD-map g (x ∷ xs) (suc i) d e h = getD-map g xs i d e (omega arith)
 
 abbrev pub bit : Bool → ℕ
 bit true = 1

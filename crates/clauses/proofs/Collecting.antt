@@ -5,11 +5,12 @@ use mathlib.Core.List.{List, [], _∷_, _++_, map}
 use Prim.Native.Nat.{ℕ, suc, _+_, _≤_, _<_}
 use native.Mathlib.Numerals.{add-one}
 use native.Mathlib.Omega.{arith}
-use lib.ListN.{length, getD, take, drop, set, length-append, length-drop, length-map, drop-of-length-le}
+use lib.ListN.{length, getD, take, drop, set, length-append, length-map, drop-of-length-le}
 use lib.Seq.{drop-cons, take-suc, take-suc-set, length-take-le, getD-take, set-at}
 use lib.Dec.{eqb}
 use borrow.Author.Tests.{eq-eqb, ne-eqb}
 use Rattle.lists.specs.Lists.{any, mem, over}
+use Rattle.lists.proofs.Copying.{length-over}
 use Rattle.clauses.specs.declared.literals.Literals.{Literals}
 use Rattle.clauses.specs.Emit.{literalsOf, withLiteral, Holds}
 
@@ -66,10 +67,6 @@ pub record Storing (n : ℕ) (words rest₀ rest : List ℕ) (i : ℕ) : Type 0 
   pub room : n < length rest₀
   pub inside : i ≤ n
   pub meets : rest ≡ over (n ∷ take i words) rest₀
-
-pub length-over : (xs buffer : List ℕ) → length xs ≤ length buffer → length (over xs buffer) ≡ length buffer
-unfolding over
-length-over xs buffer h = omega (arith, length-append xs (drop (length xs) buffer), length-drop (length xs) buffer)
 
 pub storing : (n : ℕ) (words rest : List ℕ) → n ≤ length words → n < length rest → Storing n words (set rest 0 n) (set rest 0 n) 0
 unfolding over

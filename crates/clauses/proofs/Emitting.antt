@@ -11,9 +11,9 @@ use lib.Dec.{ltb, leb}
 use borrow.Author.Tests.{lt-ltb, le-ltb, le-leb, lt-leb, leb-true}
 use Rattle.lists.specs.Lists.{over}
 use Rattle.lists.proofs.Members.{and-true}
+use Rattle.lists.proofs.Copying.{length-over}
 use Rattle.clauses.specs.declared.emit.Tally.{Tally}
 use Rattle.clauses.specs.Emit.{State, state, Ordered, place, written, emitOne, emit}
-use Rattle.clauses.proofs.Collecting.{length-over}
 
 -- ---- one clause
 

@@ -9,11 +9,12 @@ use native.Mathlib.Omega.{arith}
 use native.Mathlib.Decide.{ℕ-discrete}
 use lib.ListN.{length, getD}
 use lib.Dec.{eqb, ltb}
-use borrow.Author.Tests.{eqb-true, eqb-false, ne-eqb, lt-ltb, ltb-true, not-true}
+use borrow.Author.Tests.{eqb-true, eqb-false, ne-eqb, ltb-true, not-true}
 use Rattle.lists.specs.Lists.{any, all, keep, gather, upto, mem}
 use Rattle.lists.specs.Bits.{has}
-use Rattle.lists.proofs.Members.{and-true, and-of, any-false, all-of, all-true, keep-mem, gather-mem, upto-mem, mem-true, mem-of, mem-false}
+use Rattle.lists.proofs.Members.{and-true, any-false, all-of, all-true, keep-mem, gather-mem, upto-mem, mem-true, mem-of, mem-false}
 use Rattle.cnf.specs.Clauses.{distinct, clauseFits, isPositive, Horn}
+use Rattle.cnf.proofs.Words.{fits-of}
 use Rattle.table.specs.Limits.{Limits}
 use Rattle.table.specs.File.{Table}
 use Rattle.table.specs.Reading.{WellFormed}
@@ -78,10 +79,6 @@ once-distinct before (x ∷ ls) h = go (mem x before) (once-distinct before ls r
         → distinct (map (λ l. l / 2) (elim t as (λ (b : Bool). List ℕ) [ true ↦ once before ls | false ↦ x ∷ once (x ∷ before) ls ])) ≡ true
     go true f g = f
     go false f g = distinct-cons (x / 2) (map (λ l. l / 2) (once (x ∷ before) ls)) fresh g
-
-fits-of : (n : ℕ) (c : List ℕ) → Below n c → distinct (map (λ l. l / 2) c) ≡ true → clauseFits n c ≡ true
-unfolding clauseFits
-fits-of n c h d = and-of (all-of (λ l. ltb (l / 2) n) c (λ l m. lt-ltb (l / 2) n (h l m))) d
 
 tidy-fits : (n : ℕ) (ls : List ℕ) → Below n ls → (c : List ℕ) → List·Memᴰ c (tidy ls) → clauseFits n c ≡ true
 unfolding tidy

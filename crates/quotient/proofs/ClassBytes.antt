@@ -9,7 +9,7 @@ use lib.ListN.{length, getD, length-map}
 use lib.Dec.{eqb}
 use borrow.Author.Tests.{eq-eqb, ne-eqb}
 use Rattle.lists.specs.Lists.{any, upto}
-use Rattle.lists.proofs.Members.{length-upto, getD-upto}
+use Rattle.lists.proofs.Members.{getD-map, length-upto, getD-upto}
 use Rattle.lists.proofs.Upto.{Counting, counting, any-passed, any-found, any-done}
 use Rattle.table.specs.File.{Table}
 use Rattle.table.specs.Reading.{isInitial, isAccepting}
@@ -17,7 +17,6 @@ use Rattle.table.specs.Maps.{classOf}
 use Rattle.maps.specs.Sections.{ofStates}
 use Rattle.quotient.specs.Quotient.{memberHas, bitOf, classByte}
 use Rattle.quotient.specs.Sections.{flagged, classBytes}
-use Rattle.quotient.proofs.States.{getD-map}
 
 -- ---- members
 

@@ -2,25 +2,20 @@
 use mathlib.Core.Path.{_≡_, refl, sym, ap, _∙_}
 use mathlib.Core.Logic.{_↔_}
 use mathlib.Core.Bool.{Bool, true, false, _&&_, true≢false}
-use mathlib.Core.List.{List, [], _∷_, map}
-use Prim.Native.Nat.{ℕ, zero, suc, _+_, _*_, _/_, _%_, _≤_, _<_}
+use mathlib.Core.List.{List}
+use Prim.Native.Nat.{ℕ, _+_, _*_, _/_, _%_, _≤_, _<_}
 use native.Mathlib.Omega.{arith}
-use lib.ListN.{length, getD, length-map}
+use lib.ListN.{length-map}
 use lib.Dec.{eqb}
 use borrow.Author.Tests.{eqb-true, eq-eqb}
 use Rattle.lists.specs.Lists.{any, upto}
-use Rattle.lists.proofs.Members.{and-true, and-of, any-true, any-of, upto-mem, upto-of, length-upto, getD-upto}
+use Rattle.lists.proofs.Members.{and-true, and-of, getD-map, any-true, any-of, upto-mem, upto-of, length-upto, getD-upto}
 use Rattle.table.specs.Limits.{Limits}
 use Rattle.table.specs.File.{Table}
 use Rattle.table.specs.Reading.{isInitial, isAccepting}
 use Rattle.table.specs.Language.{count, byteOf}
 use Rattle.table.specs.Maps.{classOf, classes}
 use Rattle.quotient.specs.Quotient.{memberHas, bitOf, classByte, quotientTable}
-
-pub getD-map : (f : ℕ → ℕ) (xs : List ℕ) (i d e : ℕ) → i < length xs → getD (map f xs) i d ≡ f (getD xs i e)
-getD-map f [] i d e h = absurd (omega arith)
-getD-map f (x ∷ xs) zero d e h = refl
-getD-map f (x ∷ xs) (suc i) d e h = getD-map f xs i d e (omega arith)
 
 -- a member of class c whose byte passes
 pub record Has (P : ℕ → Type 0) (t : Table) (m : List ℕ) (c : ℕ) : Type 0 where

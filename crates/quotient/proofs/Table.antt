@@ -1,14 +1,15 @@
 -- The quotient's table is well formed (document 01: "They are again a readable table"). Assumes nothing.
 use mathlib.Core.Path.{_≡_, refl, sym, ap, _∙_, subst}
-use mathlib.Core.Bool.{Bool, true, false, _&&_}
+use mathlib.Core.Bool.{true, _&&_}
 use mathlib.Core.List.{List, [], _∷_, map, List·Memᴰ, List·Memᴰ·head, List·Memᴰ·tail, Memᴰ·of-map}
 use Prim.Native.Nat.{ℕ, suc, _%_, _≤_, _<_}
 use native.Mathlib.Omega.{arith}
 use lib.ListN.{length, getD}
 use lib.Dec.{eqb, ltb}
 use borrow.Author.Tests.{eqb-true, eq-eqb, ltb-true, lt-ltb}
-use Rattle.lists.specs.Lists.{any, all, keep, upto}
+use Rattle.lists.specs.Lists.{any, all, upto}
 use Rattle.lists.proofs.Members.{and-true, and-of, getD-mem, any-true, any-of, all-true, all-of, keep-mem}
+use Rattle.lists.proofs.Counts.{keep-le}
 use Rattle.table.specs.Limits.{Limits}
 use Rattle.table.specs.File.{Table}
 use Rattle.table.specs.Reading.{isInitial, recordFits, ascend, WellFormed}
@@ -22,15 +23,6 @@ use Rattle.quotient.proofs.Ascending.{ascending-ascends}
 use Rattle.quotient.proofs.Image.{images-mem, images-length, image-length}
 use Rattle.quotient.proofs.Classes.{classes-few}
 use Rattle.quotient.proofs.States.{byte-small, count-classes, class-initial}
-
-keep-few : {A : Type 0} (f : A → Bool) (xs : List A) → length (keep f xs) ≤ length xs
-unfolding keep
-keep-few f [] = omega arith
-keep-few {A} f (x ∷ xs) = go (f x) (keep-few f xs)
-  where
-    go : (t : Bool) → length (keep f xs) ≤ length xs → length {A = A} (elim t [ true ↦ x ∷ keep f xs | false ↦ keep f xs ]) ≤ suc (length xs)
-    go true h = omega arith
-    go false h = omega arith
 
 -- a member stands at an index
 mem-index : (x : ℕ) (xs : List ℕ) → List·Memᴰ x xs → (i : ℕ) × (i < length xs) × (getD xs i 0 ≡ x)
@@ -104,7 +96,7 @@ module _ (L : Limits) (t : Table) (m : List ℕ) (f : WellFormed L t) (n : lengt
     states-few = omega (arith, count-classes L t m, few, p .states-few);
     internals-few = omega (arith, images-length m (t .internals), p .internals-few);
     calls-few = omega (arith, images-length m (t .calls), p .calls-few);
-    returns-few = omega (arith, images-length m (liveReturns L t), keep-few (live (topWords L t)) (t .returns), p .returns-few);
+    returns-few = omega (arith, images-length m (liveReturns L t), keep-le (live (topWords L t)) (t .returns), p .returns-few);
     symbol-bytes = p .symbol-bytes;
     state-bytes = λ x i. go x (Memᴰ·of-map (classByte t m) (upto (classes m)) i);
     initial = some-initial (p .initial);

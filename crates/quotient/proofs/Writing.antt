@@ -8,12 +8,9 @@ use native.Mathlib.Numerals.{add-one}
 use lib.ListN.{length, getD, take, drop, set, length-append, length-drop, take-append-drop, drop-of-length-le}
 use lib.Seq.{length-take-le, drop-cons, drop-drop, take-all, take-at, drop-at, set-split}
 use Rattle.lists.specs.Lists.{gather, over}
+use Rattle.lists.proofs.Copying.{length-over}
 use Rattle.table.specs.File.{bytes16}
 use Rattle.quotient.specs.Keys.{bytes32, lastBytes}
-
-pub over-length : (xs out : List ℕ) → length xs ≤ length out → length (over xs out) ≡ length out
-unfolding over
-over-length xs out h = omega (arith, length-append xs (drop (length xs) out), length-drop (length xs) out)
 
 -- the output in the end is what stands before the place, then what is still to be written over what stands behind it
 pub record Writing (rest end out : List ℕ) (at : ℕ) : Type 0 where
@@ -26,7 +23,7 @@ writing xs out h = record { room = omega arith; meets = refl }
 pub same-long : {rest end out : List ℕ} {at : ℕ} → Writing rest end out at → length end ≡ length out
 same-long {rest} {end} {out} {at} w =
     let l = length-drop at out in
-    omega (arith, w .room, ap length (w .meets), length-append (take at out) (over rest (drop at out)), length-take-le at out (omega (arith, w .room)), over-length rest (drop at out) (omega (arith, w .room)))
+    omega (arith, w .room, ap length (w .meets), length-append (take at out) (over rest (drop at out)), length-take-le at out (omega (arith, w .room)), length-over rest (drop at out) (omega (arith, w .room)))
 
 -- the next part is written
 pub written : (x : List ℕ) {todo rest end out out' : List ℕ} {at n : ℕ} → Writing todo end out at → todo ≡ x ++ rest → length x ≡ n → out' ≡ take at out ++ over x (drop at out) → Writing rest end out' (at + n)

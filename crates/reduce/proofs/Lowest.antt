@@ -3,7 +3,7 @@ use mathlib.Core.Path.{_≡_, refl, sym, ap, _∙_, subst}
 use mathlib.Core.Logic.{_≢_, _⊎_, inl, inr}
 use mathlib.Core.Bool.{Bool, true, false, true≢false}
 use mathlib.Core.List.{List, [], _∷_, _++_}
-use Prim.Native.Nat.{ℕ, zero, suc, _+_, _≤_, _<_}
+use Prim.Native.Nat.{ℕ, suc, _+_, _≤_, _<_}
 use native.Mathlib.Numerals.{add-one}
 use native.Mathlib.Omega.{arith}
 use native.Mathlib.Decide.{ℕ-discrete, decLt}
@@ -12,7 +12,7 @@ use lib.Seq.{getD-set-same, getD-set-other}
 use lib.Dec.{eqb}
 use borrow.Author.Tests.{eq-eqb, ne-eqb}
 use Rattle.lists.specs.Lists.{keep, upto}
-use Rattle.lists.proofs.Members.{getD-upto}
+use Rattle.lists.proofs.Members.{getD-any, getD-upto}
 use Rattle.cnf.specs.Clauses.{valueOf}
 use Rattle.clauses.specs.Pairs.{pairs, variableOf, Pair, pairOf}
 use Rattle.clauses.specs.Maps.{joinedBy}
@@ -88,12 +88,6 @@ module _ {v : List ℕ} {x : ℕ} {low : List ℕ} (h : LowestJoined v x low) wh
           (subst (λ (y : ℕ). Lowest v (suc x) (pairOf x .high) y) (sym (getD-set-same low (pairOf x .high) (pairOf x .low) 0 (omega (arith, h .long)))) first)
 
 -- ---- as the code has it
-
--- an element does not depend on what stands for a missing one
-pub getD-any : (v : List ℕ) (x d e : ℕ) → x < length v → getD v x d ≡ getD v x e
-getD-any [] x d e h = absurd (omega arith)
-getD-any (y ∷ v) zero d e h = refl
-getD-any (y ∷ v) (suc x) d e h = getD-any v x d e (omega arith)
 
 -- the lowest joined states once the variables below x are seen
 pub record Seen (v : List ℕ) (n x : ℕ) (low : List ℕ) : Type 0 where

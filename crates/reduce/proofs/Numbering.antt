@@ -11,6 +11,7 @@ use lib.ListN.{length, getD, set, take, replicate, length-set, length-take}
 use lib.Seq.{getD-take, take-suc-set}
 use borrow.Author.Tests.{eq-eqb, ne-eqb}
 use Rattle.lists.specs.Lists.{keep, upto}
+use Rattle.lists.proofs.Counts.{keep-append}
 use Rattle.cnf.specs.Clauses.{valueOf}
 use Rattle.table.specs.Maps.{classes}
 use Rattle.maps.proofs.Numbered.{class-below}
@@ -22,20 +23,10 @@ use Rattle.reduce.specs.Lowest.{Lowest, LowestJoined, MapOf}
 -- ---- the first state that passes a test
 
 module _ (f : ℕ → Bool) where
-  keep-append : (xs ys : List ℕ) → keep f (xs ++ ys) ≡ keep f xs ++ keep f ys
-  unfolding keep
-  keep-append [] ys = refl
-  keep-append (x ∷ xs) ys = go (f x) (keep-append xs ys)
-    where
-      go : (t : Bool) → keep f (xs ++ ys) ≡ keep f xs ++ keep f ys
-          → _≡_ {A = List ℕ} (elim t [ true ↦ x ∷ keep f (xs ++ ys) | false ↦ keep f (xs ++ ys) ]) (_++_ {A = ℕ} (elim t [ true ↦ x ∷ keep f xs | false ↦ keep f xs ]) (keep f ys))
-      go true e = ap (λ zs. x ∷ zs) e
-      go false e = e
-
   kept-none : (q : ℕ) → ((p : ℕ) → p < q → f p ≡ false) → keep f (upto q) ≡ []
   unfolding keep upto
   kept-none zero h = refl
-  kept-none (suc q) h = keep-append (upto q) (q ∷ []) ∙ rw (kept-none q (λ p l. h p (omega arith)), h q (omega arith), keep)
+  kept-none (suc q) h = keep-append f (upto q) (q ∷ []) ∙ rw (kept-none q (λ p l. h p (omega arith)), h q (omega arith), keep)
 
   kept-first : (q l : ℕ) → l < q → f l ≡ true → ((p : ℕ) → p < l → f p ≡ false) → (ps : List ℕ) × (keep f (upto q) ≡ l ∷ ps)
   unfolding keep upto
@@ -45,8 +36,8 @@ module _ (f : ℕ → Bool) where
       go : Dec (l ≡ q) → (l < q → f l ≡ true → ((p : ℕ) → p < l → f p ≡ false) → (ps : List ℕ) × (keep f (upto q) ≡ l ∷ ps)) → (ps : List ℕ) × (keep f (upto q ++ (q ∷ [])) ≡ l ∷ ps)
       go (yes d) ih =
           let own : f q ≡ true = ap f (sym d) ∙ e in
-          ([], keep-append (upto q) (q ∷ []) ∙ rw (kept-none q (λ p k. n p (omega arith)), own, keep) (ap (λ x. x ∷ []) (sym d)))
-      go (no d) ih = let r = ih (omega arith) e n in (r .0 ++ keep f (q ∷ []), keep-append (upto q) (q ∷ []) ∙ ap (λ xs. xs ++ keep f (q ∷ [])) (r .1))
+          ([], keep-append f (upto q) (q ∷ []) ∙ rw (kept-none q (λ p k. n p (omega arith)), own, keep) (ap (λ x. x ∷ []) (sym d)))
+      go (no d) ih = let r = ih (omega arith) e n in (r .0 ++ keep f (q ∷ []), keep-append f (upto q) (q ∷ []) ∙ ap (λ xs. xs ++ keep f (q ∷ [])) (r .1))
 
 -- ---- one class number more
 

@@ -1,7 +1,7 @@
 -- Laws for judging a list of clause words: what is still to come of each loop. Assumes nothing.
 use mathlib.Core.Path.{_≡_, refl, sym, ap, _∙_, subst}
 use mathlib.Core.Logic.{_⊎_, inl, inr}
-use mathlib.Core.Bool.{Bool, true, false, _&&_, _||_, not, and-false, or-false as or-none}
+use mathlib.Core.Bool.{true, false, _&&_, _||_, not, and-false, or-false as or-none}
 use mathlib.Core.List.{List, [], _∷_, _++_, map, map-append, List·Memᴰ, List·Memᴰ·head, List·Memᴰ·tail, Memᴰ·append-right, List·Memᴰ·append-cases as append-cases, List·Memᴰ·not-nil as not-nil, List·Memᴰ·eq-of-singleton as eq-of-singleton}
 use Prim.Native.Nat.{ℕ, suc, _+_, _-_, _/_, _≤_, _<_}
 use native.Mathlib.Numerals.{add-one}
@@ -12,7 +12,7 @@ use lib.Seq.{getD-set-same, getD-set-other, take-suc, drop-cons, drop-drop, take
 use lib.Dec.{eqb, leb}
 use borrow.Author.Tests.{eqb-false, eq-eqb, ne-eqb, le-leb, lt-leb, not-true}
 use Rattle.lists.specs.Lists.{any, all, mem}
-use Rattle.lists.proofs.Members.{and-true, or-right, or-false, mem-true, mem-false, mem-snoc}
+use Rattle.lists.proofs.Members.{and-true, or-right, or-false, not-so, mem-true, mem-false, mem-snoc}
 use Rattle.search.specs.Marks.{Below}
 use Rattle.cnf.specs.Clauses.{clausesIn, whole, distinct, clauseFits}
 use Rattle.cnf.proofs.Words.{clauses-nil, clauses-cons, whole-nil, whole-cons, fits-below, fits-distinct, fits-of}
@@ -20,10 +20,6 @@ use Rattle.cnf.proofs.Words.{clauses-nil, clauses-cons, whole-nil, whole-cons, 
 -- a clause's variables
 abbrev pub variablesOf : List ℕ → List ℕ
 variablesOf = map (λ l. l / 2)
-
-not-so : (t : Bool) → (t ≡ true → ⊥) → t ≡ false
-not-so true h = absurd (h refl)
-not-so false h = refl
 
 -- ---- the marks of the variables met in a clause
 

@@ -3,24 +3,18 @@ use mathlib.Core.Path.{_≡_, refl, sym, ap, _∙_}
 use mathlib.Core.Logic.{_≢_, _⊎_, inl, inr}
 use mathlib.Core.Bool.{Bool, true, false}
 use mathlib.Core.List.{List, [], _∷_, _++_, append-nil, append-assoc, List·Memᴰ, List·Memᴰ·append-cases as append-cases, List·Memᴰ·not-nil as not-nil, List·Memᴰ·eq-of-singleton as eq-of-singleton}
-use Prim.Native.Nat.{ℕ, zero, suc, _+_, _-_, _/_, _%_, _≤_, _<_}
-use native.Mathlib.Nat.{not-suc-le-zero, le-of-suc-le-suc}
+use Prim.Native.Nat.{ℕ, _+_, _-_, _/_, _%_, _≤_, _<_}
 use native.Mathlib.Numerals.{add-one}
 use native.Mathlib.Omega.{arith}
 use lib.ListN.{length, getD, set, take, length-set, length-append}
 use lib.Seq.{set-set, set-getD, take-suc-set, length-take-le}
 use borrow.Author.Tests.{ne-eqb}
+use Rattle.lists.proofs.Members.{getD-any}
 use Rattle.cnf.specs.Clauses.{valueOf}
 use Rattle.cnf.specs.Search.{isRight, isUnset}
 use Rattle.cnf.proofs.Values.{unsetCount, unset-set}
 use Rattle.cnf.proofs.Found.{right-of, unset-of}
 use Rattle.search.specs.Trail.{valueBy, literalValue, unsetting, Grown}
-
--- an element that is there is the same at any default
-pub getD-any : (l : List ℕ) (i d e : ℕ) → i < length l → getD l i d ≡ getD l i e
-getD-any [] i d e h = absurd (not-suc-le-zero h)
-getD-any (x ∷ l) zero d e h = refl
-getD-any (x ∷ l) (suc i) d e h = getD-any l i d e (le-of-suc-le-suc h)
 
 -- ---- a literal's value
 

@@ -3,15 +3,16 @@
 use mathlib.Core.Path.{_≡_, refl, sym, ap, _∙_, subst}
 use mathlib.Core.Logic.{_≢_, _⊎_, inl, inr}
 use mathlib.Core.Bool.{Bool, true, false}
-use mathlib.Core.List.{List, [], _∷_, _++_, List·Memᴰ, Memᴰ·append-left, List·Memᴰ·head, List·Memᴰ·tail, List·Memᴰ·not-nil as not-nil, List·Memᴰ·append-cases as append-cases, List·Memᴰ·eq-of-singleton as eq-of-singleton}
+use mathlib.Core.List.{List, [], _∷_, _++_, List·Memᴰ, Memᴰ·append-left, List·Memᴰ·not-nil as not-nil, List·Memᴰ·append-cases as append-cases, List·Memᴰ·eq-of-singleton as eq-of-singleton}
 use mathlib.Core.Option.{some}
-use Prim.Native.Nat.{ℕ, zero, suc, _+_, _-_, _/_, _%_, _*_, _≤_, _<_, zero-le}
+use Prim.Native.Nat.{ℕ, suc, _+_, _-_, _/_, _%_, _*_, _≤_, _<_, zero-le}
 use native.Mathlib.Numerals.{add-one}
 use native.Mathlib.Omega.{arith}
 use native.Mathlib.Decide.{ℕ-discrete, decLt}
 use lib.ListN.{length, getD, set, take, drop, length-set, length-append, List·getD-append, take-append-drop}
 use lib.Seq.{slice, getD-set-same, getD-set-other, take-append-le, drop-append-le, take-append-seam, drop-append-seam, getD-append-seam, take-suc, take-suc-set, drop-cons, getD-take, take-take, length-take-le}
 use borrow.Author.Tests.{eq-eqb, ne-eqb}
+use Rattle.lists.proofs.Members.{getD-mem}
 use Rattle.cnf.specs.Clauses.{valueOf, clausesIn}
 use Rattle.cnf.specs.Search.{goes, Outcome, solved, none-exists, spent, Guess, undo, decide, lowestUnset, searchFrom}
 use Rattle.cnf.proofs.Values.{Formed, Values, set-values, start-values, unsetCount, unset-set, unset-start, none-set}
@@ -99,11 +100,6 @@ no-guess (one em lm ex eu z c l s) e = absurd (omega arith)
 
 mem-take : (k : ℕ) (l : List ℕ) (x : ℕ) → List·Memᴰ x (take k l) → List·Memᴰ x l
 mem-take k l x m = subst (λ (r : List ℕ). List·Memᴰ x r) (take-append-drop k l) (Memᴰ·append-left (drop k l) m)
-
-mem-getD : (l : List ℕ) (i d : ℕ) → i < length l → List·Memᴰ (getD l i d) l
-mem-getD [] i d h = absurd (omega arith)
-mem-getD (x ∷ l) zero d h = List·Memᴰ·head refl
-mem-getD (x ∷ l) (suc i) d h = List·Memᴰ·tail (mem-getD l i d (omega arith))
 
 -- the first variable that is unset again
 unset-first : (v p : List ℕ) (m : ℕ) → m < length p → getD p m 0 < length v → valueOf (unsetting v (drop m p)) (getD p m 0) ≡ 2
@@ -218,7 +214,7 @@ module _ {cs : List (List ℕ)} {v t ms w s : List ℕ} {n b count depth made lo
       can-undo = record {
         inside = place;
         room = omega (arith, after-count);
-        below = λ j h. rw after-size (after-below (getD s j 0) (subst (λ (y : ℕ). List·Memᴰ y (take more s)) (getD-take more s j 0 h) (mem-getD (take more s) j 0 (omega (arith, trail-length)))));
+        below = λ j h. rw after-size (after-below (getD s j 0) (subst (λ (y : ℕ). List·Memᴰ y (take more s)) (getD-take more s j 0 h) (getD-mem (take more s) j 0 (omega (arith, trail-length)))));
       }
 
       module _ {u : List ℕ} {x : ℕ} (r : Undone w s mark more u x) where
@@ -233,7 +229,7 @@ module _ {cs : List (List ℕ)} {v t ms w s : List ℕ} {n b count depth made lo
         undone = r .values ∙ ap (λ (y : List ℕ). set y x 0) restored
 
         pub inside : x < n
-        inside = rw guessed (after-below _ (mem-getD (take more s) (getD ms d 0) 0 (top .place)))
+        inside = rw guessed (after-below _ (getD-mem (take more s) (getD ms d 0) 0 (top .place)))
 
         was-unset : valueOf (top .values) x ≡ 2
         was-unset =

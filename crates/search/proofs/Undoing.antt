@@ -7,10 +7,11 @@ use native.Mathlib.Decide.{ℕ-discrete}
 use native.Mathlib.Omega.{arith}
 use lib.ListN.{length, getD, set}
 use lib.Seq.{slice, slice-empty, slice-cons}
+use Rattle.lists.proofs.Members.{getD-any}
 use Rattle.cnf.specs.Clauses.{valueOf}
 use Rattle.search.specs.Trail.{unsetting}
 use Rattle.search.specs.Turns.{NextUnset, Undoable, Undone}
-use Rattle.search.proofs.Trails.{getD-any, length-unsetting}
+use Rattle.search.proofs.Trails.{length-unsetting}
 
 -- ---- an unset variable
 

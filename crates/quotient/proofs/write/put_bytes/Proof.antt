@@ -4,7 +4,8 @@ use mathlib.Core.Path.{refl, ap, _∙_}
 use Prim.Native.Nat.{_-_}
 use lib.ListN.{length}
 use Rattle.lists.specs.Lists.{over}
-use Rattle.quotient.proofs.Writing.{Spelling, spelling, byte-room, byte-spelt, spelt, over-length}
+use Rattle.lists.proofs.Copying.{length-over}
+use Rattle.quotient.proofs.Writing.{Spelling, spelling, byte-room, byte-spelt, spelt}
 use Rattle.quotient.proofs.write.put_bytes.Statement.{statement}
 use Rattle.quotient.proofs.write.put_bytes.Tie as tie
 
@@ -33,7 +34,7 @@ bytes-again : tie.Need-bytes-again Inv-bytes μ-bytes
 bytes-again c = byte-spelt (c .before .before .bytes .inv) (c .before .bytes-test .taken) refl
 
 same-length : tie.Need-same-length Inv-bytes μ-bytes
-same-length c = ap length (spelt (c .before .bytes .inv) (c .bytes-test .left)) ∙ over-length _ _ (c .before .before .pre)
+same-length c = ap length (spelt (c .before .bytes .inv) (c .bytes-test .left)) ∙ length-over _ _ (c .before .before .pre)
 
 returns : tie.Need-returns Inv-bytes μ-bytes
 returns c = spelt (c .before .bytes .inv) (c .bytes-test .left)

@@ -6,7 +6,8 @@ use native.Mathlib.Omega.{arith}
 use lib.ListN.{length}
 use Rattle.lists.specs.Lists.{gather, over}
 use Rattle.quotient.specs.Keys.{lastBytes}
-use Rattle.quotient.proofs.Writing.{Listing, listing, key-room, key-listed, listed, part-put, same-long, over-length}
+use Rattle.lists.proofs.Copying.{length-over}
+use Rattle.quotient.proofs.Writing.{Listing, listing, key-room, key-listed, listed, part-put, same-long}
 use borrow.Author.Needs.{needs}
 use Rattle.quotient.proofs.write.put_keys.Statement.{statement}
 use Rattle.quotient.proofs.write.put_keys.Tie as tie
@@ -43,7 +44,7 @@ add-at c =
     let a = c .before .before .before .before .before .before .before .before .before in
     let h = key-room (c .before .before .before .before .before .before .keys .inv) (λ k. length-last (a .args .width) k (a .pre .0)) (c .before .before .before .before .before .keys-test .taken) in
     let k = same-long (c .before .before .before .before .before .before .keys .inv .rest) in
-    omega (arith, h, k, over-length (gather (lastBytes (a .args .width)) (a .args .keys .now)) (a .args .out .now) (a .pre .1), a .good .1 .1 .0 .0)
+    omega (arith, h, k, length-over (gather (lastBytes (a .args .width)) (a .args .keys .now)) (a .args .out .now) (a .pre .1), a .good .1 .1 .0 .0)
 
 add-i : tie.Need-add-i Inv-keys μ-keys
 add-i c = search needs
@@ -55,7 +56,7 @@ keys-again : tie.Need-keys-again Inv-keys μ-keys
 keys-again c = key-listed (c .before .before .before .before .before .before .keys .inv) (λ k. length-last (c .before .before .before .before .before .before .before .before .before .args .width) k (c .before .before .before .before .before .before .before .before .before .pre .0)) (c .before .before .before .before .before .keys-test .taken) (part-put _ (c .before .before .before .before .before .before .keys .out) (c .before .before .before .before .before .before .keys .at) (c .before .before .put-key .ensures))
 
 same-length : tie.Need-same-length Inv-keys μ-keys
-same-length c = ap length (listed (c .before .keys .inv) (c .keys-test .left)) ∙ over-length _ _ (c .before .before .before .before .pre .1)
+same-length c = ap length (listed (c .before .keys .inv) (c .keys-test .left)) ∙ length-over _ _ (c .before .before .before .before .pre .1)
 
 returns : tie.Need-returns Inv-keys μ-keys
 returns c = listed (c .before .keys .inv) (c .keys-test .left)

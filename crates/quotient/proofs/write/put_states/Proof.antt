@@ -1,6 +1,7 @@
 -- `quotient::write::put_states` meets its contract: the bytes of the classes from here on are still to be written. Assumes nothing.
 use Rattle.maps.specs.Sections.{ofStates}
-use Rattle.quotient.proofs.Writing.{Spelling, spelling, byte-room, byte-spelt, spelt, over-length}
+use Rattle.lists.proofs.Copying.{length-over}
+use Rattle.quotient.proofs.Writing.{Spelling, spelling, byte-room, byte-spelt, spelt}
 use Rattle.quotient.proofs.ClassBytes.{length-bytes, byte-of-class}
 use Rattle.quotient.specs.Sections.{classBytes}
 use Rattle.lists.specs.Lists.{over}
@@ -42,7 +43,7 @@ classes-again c =
     byte-spelt (c .before .before .classes .inv) (omega (arith, c .before .classes-test .taken, length-bytes (ofStates (a .args .states .now)) (a .args .map .now) (a .args .classes))) (c .class-byte .ensures ∙ byte-of-class (ofStates (a .args .states .now)) (a .args .map .now) (a .args .classes) (c .before .before .classes .c) (c .before .classes-test .taken))
 
 same-length : tie.Need-same-length Inv-classes μ-classes
-same-length c = let a = c .before .before .before .before .before in ap length (spelt (c .before .classes .inv) (omega (arith, c .classes-test .left, length-bytes (ofStates (a .args .states .now)) (a .args .map .now) (a .args .classes)))) ∙ over-length _ _ (omega (arith, a .pre .1, length-bytes (ofStates (a .args .states .now)) (a .args .map .now) (a .args .classes)))
+same-length c = let a = c .before .before .before .before .before in ap length (spelt (c .before .classes .inv) (omega (arith, c .classes-test .left, length-bytes (ofStates (a .args .states .now)) (a .args .map .now) (a .args .classes)))) ∙ length-over _ _ (omega (arith, a .pre .1, length-bytes (ofStates (a .args .states .now)) (a .args .map .now) (a .args .classes)))
 
 returns : tie.Need-returns Inv-classes μ-classes
 returns c = let a = c .before .before .before .before .before in spelt (c .before .classes .inv) (omega (arith, c .classes-test .left, length-bytes (ofStates (a .args .states .now)) (a .args .map .now) (a .args .classes)))

@@ -1,7 +1,8 @@
 -- `quotient::write::put_table` meets its contract: what is still to be written behind each section. Assumes nothing.
 use Rattle.maps.specs.Sections.{ofStates}
 use Rattle.quotient.proofs.Whole.{gather-long, behindReturns, behindCalls, behindInternals, behindStates, behindSymbols, bytes-apart, length-trailer, bytes-long}
-use Rattle.quotient.proofs.Writing.{Writing, begun, written, part-room, finished, part-put, over-length, same-long}
+use Rattle.lists.proofs.Copying.{length-over}
+use Rattle.quotient.proofs.Writing.{Writing, begun, written, part-room, finished, part-put, same-long}
 use Rattle.quotient.proofs.Keys.{length-last}
 use Rattle.quotient.specs.Keys.{lastBytes}
 use Rattle.quotient.proofs.ClassBytes.{length-bytes}
@@ -38,7 +39,7 @@ module _ (c : tie.Start) where
   all-long = bytes-long (c .args .symbols .now) states (c .args .internals .now) (c .args .calls .now) (c .args .returns .now)
 
   end-long : length end < 2 ^ 64
-  end-long = omega (arith, over-length all (c .args .out .now) (c .pre .1), c .good .1 .1 .1 .1 .1 .1 .1 .0 .0)
+  end-long = omega (arith, length-over all (c .args .out .now) (c .pre .1), c .good .1 .1 .1 .1 .1 .1 .1 .0 .0)
 
 -- the output when a part that was lent from a place on is back
 abbrev back : List ℕ → ℕ → List ℕ → List ℕ
@@ -212,7 +213,7 @@ put-trailer-requires c κs =
     (omega (arith, a .pre .1, all-long a, states-long a, a .good .1 .1 .1 .1 .1 .1 .1 .0 .0), rw (length-trailer (a .args .symbols .now) (states a) (a .args .internals .now) (a .args .calls .now) (a .args .returns .now)) at r)
 
 same-length : tie.Need-same-length
-same-length c = let a = start7 c in ap length (finished (all-put c)) ∙ over-length (all a) (a .args .out .now) (a .pre .1)
+same-length c = let a = start7 c in ap length (finished (all-put c)) ∙ length-over (all a) (a .args .out .now) (a .pre .1)
 
 returns : tie.Need-returns
 returns c = finished (all-put c)

@@ -1,5 +1,6 @@
 -- `quotient::write::put_words` meets its contract: the words from here on are still to be written. Assumes nothing.
-use Rattle.quotient.proofs.Writing.{Listing, listing, length-word, key-room, key-listed, listed, part-put, same-long, over-length}
+use Rattle.lists.proofs.Copying.{length-over}
+use Rattle.quotient.proofs.Writing.{Listing, listing, length-word, key-room, key-listed, listed, part-put, same-long}
 use Rattle.table.specs.File.{bytes16}
 use Rattle.lists.specs.Lists.{gather, over}
 use lib.ListN.{length}
@@ -42,7 +43,7 @@ add-at c =
     let a = c .before .before .before .before .before .before .before .before .before in
     let h = key-room (c .before .before .before .before .before .before .words .inv) length-word (c .before .before .before .before .before .words-test .taken) in
     let k = same-long (c .before .before .before .before .before .before .words .inv .rest) in
-    omega (arith, h, k, over-length (gather bytes16 (a .args .words .now)) (a .args .out .now) (a .pre), a .good .1 .0 .0)
+    omega (arith, h, k, length-over (gather bytes16 (a .args .words .now)) (a .args .out .now) (a .pre), a .good .1 .0 .0)
 
 add-i : tie.Need-add-i Inv-words μ-words
 add-i c = search needs
@@ -54,7 +55,7 @@ words-again : tie.Need-words-again Inv-words μ-words
 words-again c = key-listed (c .before .before .before .before .before .before .words .inv) length-word (c .before .before .before .before .before .words-test .taken) (part-put _ (c .before .before .before .before .before .before .words .out) (c .before .before .before .before .before .before .words .at) (c .before .before .put-word .ensures))
 
 same-length : tie.Need-same-length Inv-words μ-words
-same-length c = ap length (listed (c .before .words .inv) (c .words-test .left)) ∙ over-length _ _ (c .before .before .before .before .pre)
+same-length c = ap length (listed (c .before .words .inv) (c .words-test .left)) ∙ length-over _ _ (c .before .before .before .before .pre)
 
 returns : tie.Need-returns Inv-words μ-words
 returns c = listed (c .before .words .inv) (c .words-test .left)
