@@ -1,12 +1,12 @@
 -- What is still to be written at each place of a writer, and a law for each way to write. One invariant for every writer. Assumes nothing.
 use mathlib.Core.Path.{_≡_, refl, sym, ap, _∙_, subst}
-use mathlib.Core.List.{List, [], _∷_, _++_, append-assoc, append-nil}
+use mathlib.Core.List.{List, [], _++_, append-assoc, append-nil}
 use Prim.Native.Nat.{ℕ, suc, _+_, _-_, _<_, _≤_}
 use native.Mathlib.Omega.{arith}
 use native.Mathlib.Nat.{zero-add}
 use native.Mathlib.Numerals.{add-one}
-use lib.ListN.{length, getD, take, drop, set, length-append, length-drop, take-append-drop, drop-of-length-le}
-use lib.Seq.{length-take-le, drop-cons, drop-drop, take-all, take-at, drop-at, set-split}
+use lib.ListN.{length, getD, take, drop, length-append, length-drop, take-append-drop, drop-of-length-le}
+use lib.Seq.{length-take-le, drop-cons, drop-drop, take-all, take-at, drop-at}
 use Rattle.lists.specs.Lists.{gather, over}
 use Rattle.lists.proofs.Copying.{length-over}
 use Rattle.table.specs.File.{bytes16}
@@ -59,11 +59,6 @@ pub finished : {end out : List ℕ} {at : ℕ} → Writing [] end out at → out
 unfolding over
 finished {end} {out} {at} w = sym (w .meets ∙ take-append-drop at out)
 
--- one byte
-pub byte-put : (out : List ℕ) (at b : ℕ) → at < length out → set out at b ≡ take at out ++ over (b ∷ []) (drop at out)
-unfolding over
-byte-put out at b h = set-split out at b h ∙ ap (λ zs. take at out ++ b ∷ zs) (ap (λ n. drop n out) (sym (add-one at)) ∙ sym (drop-drop 1 at out))
-
 -- a part of the output that was lent, and is back
 pub part-put : (x out : List ℕ) (at : ℕ) {ys : List ℕ} → ys ≡ over x (take (length out - at) (drop at out)) → take at out ++ (ys ++ drop (length out - at) (drop at out)) ≡ take at out ++ over x (drop at out)
 part-put x out at {ys} e =
@@ -71,25 +66,6 @@ part-put x out at {ys} e =
     let a : ys ≡ over x (drop at out) = e ∙ ap (over x) (take-all (length out - at) (drop at out) n) in
     let b : drop (length out - at) (drop at out) ≡ [] = drop-of-length-le (drop at out) n in
     rw (a, b, append-nil)
-
--- ---- bytes one by one
-
--- the bytes from i on are still to be written
-pub record Spelling (xs end out : List ℕ) (i : ℕ) : Type 0 where
-  pub rest : Writing (drop i xs) end out i
-
-pub spelling : (xs out : List ℕ) → length xs ≤ length out → Spelling xs (over xs out) out 0
-spelling xs out h = record { rest = writing xs out h }
-
-module _ {xs end out : List ℕ} {i : ℕ} (w : Spelling xs end out i) where
-  pub byte-room : i < length xs → i < length out
-  byte-room h = omega (arith, w .rest .room, length-drop i xs)
-
-  pub byte-spelt : {b : ℕ} → i < length xs → b ≡ getD xs i 0 → Spelling xs end (set out i b) (i + 1)
-  byte-spelt {b} h e = record { rest = written (b ∷ []) (w .rest) (drop-cons xs i 0 h ∙ λ j. sym e j ∷ drop (sym (add-one i) j) xs) refl (byte-put out i b (byte-room h)) }
-
-  pub spelt : length xs ≤ i → out ≡ end
-  spelt h = finished (subst (λ (ys : List ℕ). Writing ys end out i) (drop-of-length-le xs h) (w .rest))
 
 -- ---- numbers, each as bytes of one width
 

@@ -15,11 +15,7 @@ pub(crate) fn put_bytes(bytes: &[u8], out: &mut [u8])
     requires { ⌜ length (now bytes) ≤ length (now out) ⌝ }
     ensures { λ _. ⌜ now (out .exit) ≡ over (now (bytes .entry)) (now (out .entry)) ⌝ }
 {
-    let mut i: usize = 0;
-    'bytes: while i < bytes.len() {
-        out[i] = bytes[i];
-        i += 1;
-    }
+    bytes::copy(bytes, out);
 }
 
 // A record by its key.
