@@ -6,7 +6,7 @@ use Prim.Native.Nat.{ℕ, suc, _+_, _≤_, _<_}
 use native.Mathlib.Numerals.{add-one}
 use native.Mathlib.Omega.{arith}
 use lib.ListN.{length, getD, take, drop, set, length-append, length-map, drop-of-length-le}
-use lib.Seq.{drop-cons, take-suc, take-suc-set, length-take-le, getD-take, set-at}
+use lib.Seq.{drop-cons, take-suc, take-suc-set, length-take-le, getD-take, append-snoc, set-at}
 use lib.Dec.{eqb}
 use borrow.Author.Tests.{eq-eqb, ne-eqb}
 use Rattle.lists.specs.Lists.{any, mem, over}
@@ -102,13 +102,9 @@ module _ {n : ℕ} {words rest₀ rest : List ℕ} {i : ℕ} (w : Storing n word
         meets =
             ap (λ r. set r (i + 1) v) (w .meets ∙ ap (λ t. (n ∷ take i words) ++ t) tail)
             ∙ set-at (n ∷ take i words) (getD rest₀ (i + 1) 0) (drop (suc (i + 1)) rest₀) v (i + 1) taken
-            ∙ split (n ∷ take i words) v (drop (suc (i + 1)) rest₀)
+            ∙ sym (append-snoc (n ∷ take i words) v (drop (suc (i + 1)) rest₀))
             ∙ (λ j. more j ++ drop (sym long j) rest₀);
       }
-    where
-      split : (xs : List ℕ) (a : ℕ) (ys : List ℕ) → xs ++ a ∷ ys ≡ (xs ++ (a ∷ [])) ++ ys
-      split [] a ys = refl
-      split (x ∷ xs) a ys = ap (λ zs. x ∷ zs) (split xs a ys)
 
 pub stored : (rest : List ℕ) {n : ℕ} {words rest' : List ℕ} {i : ℕ} → Storing n words (set rest 0 n) rest' i → n ≤ i → rest' ≡ over (n ∷ take n words) rest
 stored rest {n} {words} {rest'} {i} w h =
