@@ -24,7 +24,7 @@ use Rattle.tops.proofs.Formed.{bounded}
 use Rattle.clauses.specs.Pairs.{pairs, variableOf, pairOf}
 use Rattle.clauses.specs.Clauses.{clauseList}
 use Rattle.clauses.proofs.Pairs.{variable-sym, variable-below, pair-variable, in-order}
-use Rattle.clauses.proofs.Related.{Related, related-true}
+use Rattle.clauses.proofs.Related.{Related}
 use Rattle.clauses.proofs.Models.{model-raq}
 
 abbrev pub bit : Bool → ℕ

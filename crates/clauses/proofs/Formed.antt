@@ -3,23 +3,23 @@
 use mathlib.Core.Path.{_≡_, refl, sym, ap, _∙_, subst}
 use mathlib.Core.Logic.{_⊎_, inl, inr, _≢_}
 use mathlib.Core.Bool.{Bool, true, false, _&&_, not, true≢false}
-use mathlib.Core.List.{List, [], _∷_, _++_, map, List·Memᴰ, List·Memᴰ·head, List·Memᴰ·tail, Memᴰ·of-map, List·Memᴰ·append-cases as append-cases, List·Memᴰ·not-nil as not-nil, List·Memᴰ·eq-of-singleton as eq-of-singleton, List·Memᴰ·cases-cons as cases-cons}
-use Prim.Native.Nat.{ℕ, zero, suc, _+_, _-_, _*_, _/_, _%_, _≤_, _<_, zero-le}
+use mathlib.Core.List.{List, [], _∷_, _++_, map, List·Memᴰ, List·Memᴰ·head, List·Memᴰ·tail, Memᴰ·of-map, List·Memᴰ·append-cases as append-cases, List·Memᴰ·not-nil as not-nil, List·Memᴰ·eq-of-singleton as eq-of-singleton}
+use Prim.Native.Nat.{ℕ, suc, _+_, _-_, _*_, _/_, _%_, _≤_, _<_, zero-le}
 use native.Mathlib.Omega.{arith}
 use native.Mathlib.Decide.{ℕ-discrete}
 use lib.ListN.{length, getD}
 use lib.Dec.{eqb, ltb}
-use borrow.Author.Tests.{eqb-true, eqb-false, ne-eqb, ltb-true, not-true}
-use Rattle.lists.specs.Lists.{any, all, keep, gather, upto, mem}
+use borrow.Author.Tests.{eqb-true, eqb-false, ne-eqb, not-true}
+use Rattle.lists.specs.Lists.{any, all, keep, upto, mem}
 use Rattle.lists.specs.Bits.{has}
-use Rattle.lists.proofs.Members.{and-true, any-false, all-of, all-true, keep-mem, gather-mem, upto-mem, mem-true, mem-of, mem-false}
+use Rattle.lists.proofs.Members.{and-true, any-false, all-of, keep-mem, gather-mem, upto-mem, mem-true, mem-of, mem-false}
 use Rattle.cnf.specs.Clauses.{distinct, clauseFits, isPositive, Horn}
 use Rattle.cnf.proofs.Words.{fits-of}
 use Rattle.table.specs.Limits.{Limits}
 use Rattle.table.specs.File.{Table}
 use Rattle.table.specs.Reading.{WellFormed}
 use Rattle.table.specs.Language.{count, byteOf, look, targets, OneTarget}
-use Rattle.table.proofs.Facts.{Fit, internals-fit, calls-fit, returns-fit, three-bytes, four-bytes, targets-mem}
+use Rattle.table.proofs.Facts.{Fit, internals-fit, calls-fit, returns-fit, targets-mem}
 use Rattle.tops.specs.Tops.{topWords, live, liveReturns}
 use Rattle.clauses.specs.Pairs.{pairs, variableOf}
 use Rattle.clauses.specs.Clauses.{together, apart, opposite, once, tidy, premise, matching, lookClauses, past, triangle, transitivity, moveClause, moveClauses, returnClause, topStates, returnClauses, clauseList}

@@ -1,18 +1,18 @@
 -- What each of the five groups says of an assignment: that its relation respects looks, is transitive, and matches moves and returns.
 -- Each both ways. Assumes nothing.
-use mathlib.Core.Path.{_≡_, refl, sym, ap, _∙_, subst}
+use mathlib.Core.Path.{_≡_, refl, sym, ap, subst}
 use mathlib.Core.Logic.{_⊎_, inl, inr, _≢_}
 use mathlib.Core.Bool.{Bool, true, false, _&&_, true≢false}
 use mathlib.Core.List.{List, [], _∷_, _++_, map, List·Memᴰ, List·Memᴰ·head, List·Memᴰ·tail, Memᴰ·append-left, Memᴰ·append-right, Memᴰ·of-map, List·Memᴰ·append-cases as append-cases, List·Memᴰ·not-nil as not-nil, List·Memᴰ·eq-of-singleton as eq-of-singleton}
-use Prim.Native.Nat.{ℕ, zero, suc, _+_, _-_, _*_, _/_, _%_, _≤_, _<_}
+use Prim.Native.Nat.{ℕ, suc, _+_, _-_, _*_, _/_, _<_}
 use native.Mathlib.Omega.{arith}
 use native.Mathlib.Decide.{ℕ-discrete}
 use lib.ListN.{length, getD}
 use lib.Dec.{eqb, ltb}
 use borrow.Author.Tests.{eqb-true, eqb-false, eq-eqb, ne-eqb, ltb-true, ltb-false, lt-ltb}
-use Rattle.lists.specs.Lists.{keep, gather, upto, mem}
+use Rattle.lists.specs.Lists.{gather, upto, mem}
 use Rattle.lists.specs.Bits.{has}
-use Rattle.lists.proofs.Members.{and-true, keep-mem, keep-of, gather-mem, gather-of, upto-mem, upto-of, mem-false}
+use Rattle.lists.proofs.Members.{keep-mem, keep-of, gather-mem, gather-of, upto-mem, upto-of, mem-false}
 use Rattle.cnf.specs.Clauses.{valueOf, Right, Assignment}
 use Rattle.table.specs.Limits.{Limits}
 use Rattle.table.specs.File.{Table}
@@ -21,7 +21,7 @@ use Rattle.table.proofs.Facts.{Fit, three-bytes, four-bytes, targets-mem, mem-t
 use Rattle.tops.specs.Tops.{topWords, live, liveReturns}
 use Rattle.clauses.specs.Pairs.{pairs, variableOf}
 use Rattle.clauses.specs.Clauses.{together, apart, premise, matching, lookClauses, past, triangle, transitivity, moveClause, moveClauses, returnClause, topStates, returnClauses}
-use Rattle.clauses.proofs.Pairs.{variable-sym, variable-below, in-order}
+use Rattle.clauses.proofs.Pairs.{variable-sym, in-order}
 use Rattle.clauses.proofs.Tidy.{HasRight, Satisfied, Set, Matches, not-all, itself, to, matching-of, of-matching}
 use Rattle.clauses.proofs.Related.{Related, related-refl, related-sym, related-true, variable-bit, related-dec, set-together, premise-set, premise-related, premise-apart, right-positive, positive-right, right-negative, negative-right}
 

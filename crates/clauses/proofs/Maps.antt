@@ -1,23 +1,21 @@
 -- The map of an assignment whose relation is transitive: properly numbered, and joining exactly the related states. Assumes nothing.
 use mathlib.Core.Path.{_≡_, refl, sym, ap, _∙_, subst}
-use mathlib.Core.Logic.{_⊎_, inl, inr, _≢_, _↔_}
+use mathlib.Core.Logic.{inl, inr, _↔_}
 use mathlib.Core.Bool.{Bool, true, false, _&&_}
-use mathlib.Core.List.{List, [], _∷_, _++_, map, List·Memᴰ, List·Memᴰ·head, List·Memᴰ·not-nil as not-nil}
+use mathlib.Core.List.{List, [], _∷_, _++_, List·Memᴰ, List·Memᴰ·head, List·Memᴰ·not-nil as not-nil}
 use Prim.Native.Nat.{ℕ, zero, suc, _+_, _≤_, _<_, max}
 use native.Mathlib.Omega.{arith}
-use native.Mathlib.Decide.{ℕ-discrete, decLt}
-use lib.ListN.{length, getD, length-append, List·getD-append}
+use native.Mathlib.Decide.{decLt}
+use lib.ListN.{length, length-append, List·getD-append}
 use lib.Seq.{getD-append-seam}
-use lib.Dec.{eqb, leb}
+use lib.Dec.{leb}
 use borrow.Author.Tests.{eqb-true, eq-eqb, le-leb}
 use Rattle.lists.specs.Lists.{keep, upto}
 use Rattle.lists.proofs.Members.{and-of, keep-mem, keep-of, upto-mem, upto-of}
-use Rattle.cnf.specs.Clauses.{valueOf}
 use Rattle.table.specs.Maps.{classOf, classes, numberedFrom, numbered}
 use Rattle.maps.proofs.Numbered.{class-below}
-use Rattle.clauses.specs.Pairs.{variableOf}
 use Rattle.clauses.specs.Maps.{joinedBy, nextClass, mapOf}
-use Rattle.clauses.proofs.Related.{Related, related-refl, related-sym, related-true}
+use Rattle.clauses.proofs.Related.{Related, related-sym, related-true}
 
 -- ---- class numbers
 

@@ -1,8 +1,7 @@
 -- An assignment satisfies a table's list exactly when its relation meets Definition 1. Assumes nothing.
-use mathlib.Core.Path.{_≡_, refl, sym, ap, _∙_, subst}
 use mathlib.Core.Logic.{_↔_}
-use mathlib.Core.List.{List, [], _∷_, _++_, List·Memᴰ}
-use Prim.Native.Nat.{ℕ, _<_}
+use mathlib.Core.List.{List, _++_}
+use Prim.Native.Nat.{ℕ}
 use Rattle.cnf.specs.Clauses.{Assignment, Model}
 use Rattle.vpa.specs.Quotients.{Equivalence, Raq}
 use Rattle.vpa.proofs.Relations.{Matched, matched-of, raq-of}
@@ -13,10 +12,10 @@ use Rattle.table.specs.Language.{count, automaton}
 use Rattle.table.proofs.Facts.{internals-fit, calls-fit, returns-fit, look-accepting, accepting-look}
 use Rattle.tops.proofs.Formed.{told, reachable?}
 use Rattle.clauses.specs.Pairs.{pairs}
-use Rattle.clauses.specs.Clauses.{lookClauses, transitivity, moveClauses, returnClauses, clauseList}
+use Rattle.clauses.specs.Clauses.{lookClauses, transitivity, moveClauses, clauseList}
 use Rattle.clauses.proofs.Tidy.{Satisfied}
 use Rattle.clauses.proofs.Related.{Related, related-refl, related-sym}
-use Rattle.clauses.proofs.Groups.{satisfied-left, satisfied-right, satisfied-both, LooksAgree, looks-of, looks-satisfied, Transitive, transitive-of, transitive-satisfied, moves-of, moves-satisfied, returns-of, returns-satisfied}
+use Rattle.clauses.proofs.Groups.{satisfied-left, satisfied-right, satisfied-both, looks-of, looks-satisfied, Transitive, transitive-of, transitive-satisfied, moves-of, moves-satisfied, returns-of, returns-satisfied}
 
 module _ (L : Limits) (t : Table) (wf : WellFormed L t) (v : List ℕ) (full : Assignment (pairs (count t)) v) where
   abbrev one : List (List ℕ)

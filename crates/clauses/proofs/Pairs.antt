@@ -1,13 +1,13 @@
 -- The variables of n states are their pairs: the formula and the way back, both ways. Assumes nothing.
-use mathlib.Core.Path.{_≡_, refl, sym, ap, _∙_, subst}
+use mathlib.Core.Path.{_≡_, refl, sym, ap, _∙_}
 use mathlib.Core.Logic.{_≢_}
 use mathlib.Core.Bool.{Bool, true, false}
-use Prim.Native.Nat.{ℕ, zero, suc, _+_, _-_, _*_, _/_, _≤_, _<_}
+use Prim.Native.Nat.{ℕ, zero, suc, _+_, _-_, _*_, _≤_, _<_}
 use native.Mathlib.Numerals.{add-one}
 use native.Mathlib.Omega.{arith}
 use lib.Dec.{eqb, ltb}
 use borrow.Author.Tests.{eqb-true, eqb-false, ltb-true, ltb-false, lt-ltb, le-ltb}
-use Rattle.clauses.specs.Pairs.{pairs, variableOf, Pair, pairFrom, pairOf}
+use Rattle.clauses.specs.Pairs.{pairs, variableOf, pairFrom, pairOf}
 
 less-one : (m : ℕ) → suc m - 1 ≡ m
 less-one m = omega arith

@@ -1,31 +1,31 @@
 -- What the clauses of a readable table promise: satisfied exactly by the relations of the maps that meet Definition 1, so that every
 -- satisfying assignment has a map that the check accepts, and a maximal one a map that none coarser meets. Assumes nothing.
-use mathlib.Core.Path.{_≡_, refl, sym, ap, _∙_, subst}
-use mathlib.Core.Logic.{_⊎_, inl, inr, _≢_, _↔_}
+use mathlib.Core.Path.{_≡_, sym, ap, _∙_, subst}
+use mathlib.Core.Logic.{inr, _↔_}
 use mathlib.Core.List.{List}
 use Prim.Native.Nat.{ℕ, _<_}
 use native.Mathlib.Omega.{arith}
-use native.Mathlib.Decide.{ℕ-discrete, decLt}
-use lib.ListN.{length, List·getD-eq-default}
+use native.Mathlib.Decide.{decLt}
+use lib.ListN.{List·getD-eq-default}
 use Rattle.cnf.specs.Clauses.{valueOf, Assignment, Model, Maximal}
-use Rattle.vpa.specs.Quotients.{Joined, Raq}
+use Rattle.vpa.specs.Quotients.{Joined}
 use Rattle.vpa.proofs.Relations.{raq-along}
 use Rattle.table.specs.Limits.{Limits}
 use Rattle.table.specs.File.{Table, tableOf}
 use Rattle.table.specs.Reading.{Readable, WellFormed}
 use Rattle.table.specs.Language.{count, automaton}
-use Rattle.table.specs.Maps.{classOf, JoinedBy, Proper, RaqMap, NoneCoarser}
+use Rattle.table.specs.Maps.{JoinedBy, Proper, RaqMap, NoneCoarser}
 use Rattle.table.proofs.Bytes.{read-well-formed}
 use Rattle.maps.specs.Check.{checkNumber}
 use Rattle.maps.proofs.Accepted.{accepts}
-use Rattle.clauses.specs.Pairs.{pairs, variableOf, pairOf}
+use Rattle.clauses.specs.Pairs.{pairs, pairOf}
 use Rattle.clauses.specs.Clauses.{clauseList}
 use Rattle.clauses.specs.Maps.{mapOf}
 use Rattle.clauses.proofs.Pairs.{variable-pair, pair-ordered, pair-below}
 use Rattle.clauses.proofs.Related.{Related, related-true}
 use Rattle.clauses.proofs.Models.{satisfied-transitive, model-raq}
 use Rattle.clauses.proofs.Maps.{map-long, map-numbered, map-joins}
-use Rattle.clauses.proofs.Assignments.{assignmentOf, related-joined, joined-related, map-model}
+use Rattle.clauses.proofs.Assignments.{assignmentOf, joined-related, map-model}
 
 module _ (L : Limits) (t : Table) (wf : WellFormed L t) (v : List ℕ) (model : Model (clauseList L t) (pairs (count t)) v) where
   transitive : (p q s : ℕ) → Related (count t) v p q → Related (count t) v q s → Related (count t) v p s

@@ -1,5 +1,5 @@
 -- The clause list of a table, its five groups in their order (document 01, "Pairs and clauses"). Assumes nothing.
-use mathlib.Core.Bool.{Bool, true, false, _&&_, _||_}
+use mathlib.Core.Bool.{true, false, _&&_}
 use mathlib.Core.List.{List, [], _∷_, _++_, map}
 use Prim.Native.Nat.{ℕ, _+_, _-_, _%_}
 use lib.ListN.{length, getD}

@@ -1,6 +1,5 @@
 // The clauses of internals and calls: groups 3 and 4 of the list.
 ghost use mathlib.Core.Path.{_≡_};
-ghost use Prim.Native.Nat.{_≤_};
 ghost use Rattle.lists.specs.Lists.{gather, upto};
 ghost use Rattle.table.specs.File.{records};
 ghost use Rattle.clauses.specs.Clauses.{moveClause, moveClauses};

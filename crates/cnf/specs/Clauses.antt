@@ -1,11 +1,11 @@
 -- Literals, clauses, assignments, and clauses as words (document 01, "Pairs and clauses"). Assumes nothing.
 use mathlib.Core.Path.{_≡_}
-use mathlib.Core.Bool.{Bool, true, false, _&&_, not}
+use mathlib.Core.Bool.{Bool, true, _&&_, not}
 use mathlib.Core.List.{List, [], _∷_, List·Memᴰ}
 use Prim.Native.Nat.{ℕ, zero, suc, _+_, _*_, _/_, _%_, _≤_, _<_}
 use lib.ListN.{length, getD, take, drop}
 use lib.Dec.{eqb, ltb, leb}
-use Rattle.lists.specs.Lists.{any, all, keep, gather, mem}
+use Rattle.lists.specs.Lists.{all, keep, gather, mem}
 
 -- "Literal 2v says v is true, 2v+1 says v is false."
 abbrev pub positive : ℕ → ℕ

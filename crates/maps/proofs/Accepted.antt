@@ -1,11 +1,10 @@
 -- The check accepts a properly numbered map of a readable table exactly when it meets Definition 1. Assumes nothing.
-use mathlib.Core.Path.{_≡_, refl, sym, ap, _∙_}
+use mathlib.Core.Path.{_≡_, refl, _∙_}
 use mathlib.Core.Logic.{_↔_}
 use mathlib.Core.Bool.{Bool, true, false}
 use mathlib.Core.List.{List}
 use Prim.Native.Nat.{ℕ}
 use native.Mathlib.Omega.{arith}
-use lib.ListN.{length}
 use lib.Dec.{eqb}
 use borrow.Author.Tests.{eqb-true, eqb-false, eq-eqb}
 use Rattle.lists.specs.Lists.{firstFailed}
@@ -14,12 +13,12 @@ use Rattle.vpa.proofs.Relations.{matched-of, joined-raq}
 use Rattle.table.specs.Limits.{Limits}
 use Rattle.table.specs.File.{Table, tableOf}
 use Rattle.table.specs.Reading.{readNumber, Readable, WellFormed}
-use Rattle.table.specs.Language.{count, automaton}
-use Rattle.table.specs.Maps.{classOf, numbered, JoinedBy, Proper, RaqMap}
+use Rattle.table.specs.Language.{automaton}
+use Rattle.table.specs.Maps.{classOf, JoinedBy, Proper, RaqMap}
 use Rattle.table.proofs.Bytes.{read-well-formed}
 use Rattle.tops.proofs.Formed.{reachable?}
 use Rattle.maps.specs.Check.{mapTests, checkNumber}
-use Rattle.maps.proofs.Conditions.{Passed, passed-matched, matched-passed}
+use Rattle.maps.proofs.Conditions.{passed-matched, matched-passed}
 
 module _ (L : Limits) (t : Table) (wf : WellFormed L t) (m : List ℕ) where
   tests-raq : firstFailed (mapTests L t m) ≡ 0 → Proper t m × RaqMap t m

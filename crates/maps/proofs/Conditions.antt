@@ -1,17 +1,15 @@
 -- What the tests 17 to 20 say: together, that the map's relation matches what each state does. Each both ways. Assumes nothing.
-use mathlib.Core.Path.{_≡_, refl, sym, ap, _∙_, subst}
+use mathlib.Core.Path.{_≡_, subst}
 use mathlib.Core.Logic.{_↔_}
-use mathlib.Core.Bool.{Bool, true, false, _&&_, _||_, not}
+use mathlib.Core.Bool.{true, _&&_}
 use mathlib.Core.List.{List, [], _∷_, _++_, List·Memᴰ}
 use Prim.Native.Nat.{ℕ, suc, _<_}
 use native.Mathlib.Omega.{arith}
 use lib.ListN.{length, getD}
-use lib.Dec.{eqb}
 use borrow.Author.Tests.{eqb-true, eq-eqb}
-use Rattle.lists.specs.Lists.{any, all, upto}
+use Rattle.lists.specs.Lists.{any, upto}
 use Rattle.lists.specs.Bits.{has}
 use Rattle.lists.proofs.Members.{and-true, and-of, gives, gives-of, any-true, any-of, all-true, all-of, upto-mem, upto-of}
-use Rattle.vpa.specs.Quotients.{Joined}
 use Rattle.vpa.proofs.Relations.{Matched}
 use Rattle.table.specs.Limits.{Limits}
 use Rattle.table.specs.File.{Table}

@@ -11,7 +11,7 @@ use Rattle.table.specs.File.{Table, tableOf}
 use Rattle.table.specs.Reading.{readNumber}
 use Rattle.table.specs.Language.{count, byteOf, look, targets}
 use Rattle.table.specs.Maps.{joins, classes, numbered}
-use Rattle.tops.specs.Tops.{topWords, live}
+use Rattle.tops.specs.Tops.{topWords}
 use Rattle.maps.specs.declared.Checked.{Checked}
 use Rattle.maps.specs.declared.Checked.the-variants.{Accepted, Refused}
 

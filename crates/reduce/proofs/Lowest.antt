@@ -1,21 +1,17 @@
 -- The lowest state joined to each state, variable by variable, and the map that it gives. Assumes nothing.
 use mathlib.Core.Path.{_≡_, refl, sym, ap, _∙_, subst}
 use mathlib.Core.Logic.{_≢_, _⊎_, inl, inr}
-use mathlib.Core.Bool.{Bool, true, false, true≢false}
-use mathlib.Core.List.{List, [], _∷_, _++_}
+use mathlib.Core.List.{List, [], _∷_}
 use Prim.Native.Nat.{ℕ, suc, _+_, _≤_, _<_}
 use native.Mathlib.Numerals.{add-one}
 use native.Mathlib.Omega.{arith}
 use native.Mathlib.Decide.{ℕ-discrete, decLt}
-use lib.ListN.{length, getD, set, take, length-set}
+use lib.ListN.{length, getD, set, length-set}
 use lib.Seq.{getD-set-same, getD-set-other}
-use lib.Dec.{eqb}
-use borrow.Author.Tests.{eq-eqb, ne-eqb}
-use Rattle.lists.specs.Lists.{keep, upto}
+use Rattle.lists.specs.Lists.{upto}
 use Rattle.lists.proofs.Members.{getD-any, getD-upto}
 use Rattle.cnf.specs.Clauses.{valueOf}
 use Rattle.clauses.specs.Pairs.{pairs, variableOf, Pair, pairOf}
-use Rattle.clauses.specs.Maps.{joinedBy}
 use Rattle.clauses.proofs.Pairs.{variable-lt, variable-pair, pair-variable, pair-ordered, pair-below}
 use Rattle.reduce.specs.Lowest.{Lowest, LowestJoined}
 

@@ -3,7 +3,7 @@
 use mathlib.Core.Path.{_≡_, refl}
 use mathlib.Core.List.{List, [], _∷_, _++_, map}
 use Prim.Native.Nat.{ℕ, _^_}
-use lib.ListN.{length, getD, set, replicate, take, drop}
+use lib.ListN.{replicate, take}
 use lib.Count.{onesIn}
 use Rattle.lists.specs.Lists.{any, all, keep, gather, upto, mem, same, parts, flat, over, firstFailed}
 use Rattle.lists.specs.Bits.{has, hasBit, onesOver}

@@ -1,22 +1,22 @@
 -- What each stage of reduce hands on to the next, as the code finds it: reading, clauses, search, then map and quotient. One law for each answer
 -- of a stage. Assumes nothing.
 use mathlib.Core.Path.{_≡_, refl, sym, ap, _∙_, subst}
-use mathlib.Core.Bool.{Bool, true, false, _&&_}
-use mathlib.Core.List.{List, [], _∷_, _++_}
+use mathlib.Core.Bool.{Bool, true, false}
+use mathlib.Core.List.{List, _++_}
 use Prim.Native.Nat.{ℕ, _+_, _-_, _≤_, _<_}
 use native.Mathlib.Omega.{arith}
 use lib.ListN.{length, take, drop, length-append}
-use lib.Seq.{length-take-le, take-all, take-at, take-append-seam}
+use lib.Seq.{length-take-le, take-at}
 use lib.Dec.{eqb, leb}
 use borrow.Author.Tests.{eq-eqb, ne-eqb, eqb-true, eqb-false, le-leb, lt-leb, leb-true}
 use Rattle.lists.specs.Lists.{all, over, firstFailed}
 use Rattle.lists.proofs.Copying.{copied}
-use Rattle.cnf.specs.Clauses.{clausesIn, whole, clauseFits, wordsOf}
-use Rattle.cnf.specs.Search.{Outcome, solved, none-exists, spent, unfinished, searchFrom}
+use Rattle.cnf.specs.Clauses.{clauseFits}
+use Rattle.cnf.specs.Search.{Outcome, solved, none-exists, spent, unfinished}
 use Rattle.cnf.proofs.Words.{fit-formed, clauses-words, whole-words}
 use Rattle.cnf.proofs.Theorems.{satisfies}
 use Rattle.table.specs.Limits.{Limits, standard}
-use Rattle.table.specs.File.{Table, tableOf}
+use Rattle.table.specs.File.{tableOf}
 use Rattle.table.specs.Reading.{readNumber, Readable, readOf}
 use Rattle.table.specs.Sections.{ReadAs, partOf}
 use Rattle.table.specs.Language.{count}
@@ -38,7 +38,7 @@ use Rattle.clauses.proofs.Pairs.{pairs-mono}
 use Rattle.search.specs.Answers.{listFits, searchNumber, Searched, searched, searchOf}
 use Rattle.search.specs.declared.Solution.{Solution}
 use Rattle.search.specs.declared.Solution.the-variants.{Solved, Refused as NotSolved}
-use Rattle.quotient.specs.Quotient.{quotientBytes, quotientNumber, QuotientDone, quotientOf}
+use Rattle.quotient.specs.Quotient.{quotientNumber, QuotientDone, quotientOf}
 use Rattle.quotient.specs.declared.Written.{Written}
 use Rattle.quotient.specs.declared.Written.the-variants.{Length, Refused as NotWritten}
 use Rattle.reduce.specs.Reduce.{Reduced, beforeSearch, searchOfTable, deliver, afterSearch, reduceOf}

@@ -1,28 +1,26 @@
 -- Demand 3 of reduce, from the lent bytes to the written ones, for every table, budget and buffer. Assumes nothing.
-use mathlib.Core.Path.{_≡_, refl, sym, ap, _∙_, subst}
-use mathlib.Core.Logic.{_≢_, _⊎_, inl, inr}
-use mathlib.Core.Bool.{Bool, true, false}
-use mathlib.Core.List.{List, [], _∷_, List·Memᴰ, List·Memᴰ·head, List·Memᴰ·tail}
-use Prim.Native.Nat.{ℕ, _-_, _*_, _/_, _≤_}
+use mathlib.Core.Path.{_≡_, refl, sym, subst}
+use mathlib.Core.Logic.{_≢_}
+use mathlib.Core.List.{List}
+use Prim.Native.Nat.{ℕ, _-_, _≤_}
 use native.Mathlib.Omega.{arith}
-use lib.ListN.{length, take, drop}
+use lib.ListN.{length, drop}
 use lib.Seq.{take-at, take-append-seam}
 use borrow.Author.Tests.{eq-eqb}
 use Rattle.lists.specs.Lists.{over}
-use Rattle.cnf.specs.Search.{Outcome, solved, none-exists, spent, unfinished, searchFrom}
+use Rattle.cnf.specs.Search.{Outcome, searchFrom}
 use Rattle.cnf.proofs.Words.{fit-formed}
 use Rattle.cnf.proofs.Horn.{madeOf}
 use Rattle.cnf.proofs.Theorems.{horn}
 use Rattle.table.specs.Limits.{Limits, standard}
 use Rattle.table.specs.File.{tableOf}
-use Rattle.table.specs.Reading.{readNumber}
-use Rattle.table.specs.Language.{count, SameWords, OneTarget}
+use Rattle.table.specs.Language.{count, SameWords}
 use Rattle.table.specs.Maps.{classes, NoneCoarser}
 use Rattle.table.proofs.Bytes.{Small, read-well-formed}
 use Rattle.maps.specs.Check.{checkNumber, checkOf}
 use Rattle.maps.specs.declared.Checked.the-variants.{Accepted}
 use Rattle.clauses.specs.Pairs.{pairs}
-use Rattle.clauses.specs.Clauses.{clauseList, clauseWords}
+use Rattle.clauses.specs.Clauses.{clauseList}
 use Rattle.clauses.specs.Maps.{mapOf}
 use Rattle.clauses.proofs.Formed.{list-fits, list-horn}
 use Rattle.clauses.proofs.Theorems.{map-proper, none-coarser}
@@ -30,11 +28,11 @@ use Rattle.quotient.specs.Quotient.{quotientBytes}
 use Rattle.quotient.specs.Demands.{IsQuotient}
 use Rattle.quotient.proofs.Theorems.{is-quotient, keeps-words}
 use Rattle.quotient.proofs.Quotienting.{small}
-use Rattle.reduce.specs.Reduce.{Reduced, beforeSearch, searchOfTable, reduceOf, reductionNumber}
+use Rattle.reduce.specs.Reduce.{Reduced, searchOfTable, reduceOf, reductionNumber}
 use Rattle.reduce.specs.Demands.{OnDelivery, KeepsWords, DeliversQuotient, DeliversChecked, DeliversMaximal, FewGuesses, mapWritten}
 use Rattle.reduce.specs.declared.Reduction.{Reduction}
-use Rattle.reduce.specs.declared.Reduction.the-variants.{Delivered, Refused}
-use Rattle.reduce.proofs.Ways.{FirstNumber, of-reading, map-short, list-long, first-number, Begun, Solved, Ways, refused-first, refused-spent, refused-short, delivers, reduce-ways}
+use Rattle.reduce.specs.declared.Reduction.the-variants.{Delivered}
+use Rattle.reduce.proofs.Ways.{FirstNumber, of-reading, map-short, list-long, first-number, Solved, Ways, refused-first, refused-spent, refused-short, delivers, reduce-ways}
 
 module _ (L : Limits) (b : List ℕ) (budget : ℕ) (list map out : List ℕ) where
   -- the map that was written is the one that was found

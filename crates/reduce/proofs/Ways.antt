@@ -1,6 +1,6 @@
 -- The ways in which reduce ends: refused before the search, spent, refused by 21, or delivered. That no assignment exists, and that the check
 -- refuses the map, do not happen. Assumes nothing.
-use mathlib.Core.Path.{_≡_, refl, sym, ap, _∙_, subst}
+use mathlib.Core.Path.{_≡_, refl}
 use mathlib.Core.Logic.{_≢_}
 use mathlib.Core.Bool.{Bool, true, false}
 use mathlib.Core.List.{List}
@@ -10,7 +10,7 @@ use lib.ListN.{length}
 use lib.Dec.{eqb, leb}
 use borrow.Author.Tests.{eqb-true, eqb-false, eq-eqb, ne-eqb, leb-true, leb-false}
 use Rattle.lists.specs.Lists.{over}
-use Rattle.cnf.specs.Clauses.{Model, Maximal, clauseFits}
+use Rattle.cnf.specs.Clauses.{Model, Maximal}
 use Rattle.cnf.specs.Search.{Outcome, solved, none-exists, spent, unfinished, searchFrom}
 use Rattle.cnf.proofs.Values.{Formed}
 use Rattle.cnf.proofs.Words.{fit-formed}
@@ -31,7 +31,6 @@ use Rattle.clauses.proofs.Assignments.{assignmentOf, nothing-joined}
 use Rattle.clauses.proofs.Theorems.{model-accepted}
 use Rattle.quotient.specs.Quotient.{quotientBytes, quotientNumber}
 use Rattle.reduce.specs.Reduce.{Reduced, beforeSearch, searchOfTable, deliver, afterSearch, reduceOf}
-use Rattle.reduce.specs.declared.Reduction.{Reduction}
 use Rattle.reduce.specs.declared.Reduction.the-variants.{Delivered, Refused}
 
 -- what holds where the search is run

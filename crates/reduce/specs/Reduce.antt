@@ -1,6 +1,6 @@
 -- The operation reduce: its refusals in their order, its answer, and every buffer at exit (document 01, "Check and quotient" and "Refused
 -- calls"). Assumes nothing.
-use mathlib.Core.Bool.{Bool, true, false}
+use mathlib.Core.Bool.{true, false}
 use mathlib.Core.List.{List, [], _∷_}
 use Prim.Native.Nat.{ℕ}
 use lib.ListN.{length}

@@ -2,7 +2,7 @@
 ghost use mathlib.Core.Path.{_≡_};
 ghost use mathlib.Core.List.{List};
 ghost use Prim.Native.Nat.{ℕ, _≤_};
-ghost use lib.ListN.{length, take};
+ghost use lib.ListN.{take};
 ghost use Rattle.cnf.specs.Clauses.{clausesIn, Model, Maximal, Horn};
 ghost use Rattle.search.specs.Answers.{Searched, searchOf};
 ghost use Rattle.search.specs.Turns.{noneSet};

@@ -1,9 +1,9 @@
 -- The records of a section that start with a key stand one behind the other: from the first that does not stand before the key, as many as start
 -- with it. Assumes nothing.
 use mathlib.Core.Bool.{Bool, true, false}
-use mathlib.Core.List.{List, [], _∷_, map}
-use Prim.Native.Nat.{ℕ, zero, suc, _+_}
-use lib.ListN.{length, getD, take, drop}
+use mathlib.Core.List.{List, [], _∷_}
+use Prim.Native.Nat.{ℕ, suc, _+_}
+use lib.ListN.{length, take, drop}
 use Rattle.lists.specs.Lists.{same}
 use Rattle.table.specs.Sections.{firstAt}
 

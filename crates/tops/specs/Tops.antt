@@ -3,12 +3,12 @@ use mathlib.Core.Bool.{Bool, true, false}
 use mathlib.Core.List.{List, [], _∷_, _++_, map}
 use mathlib.Core.Option.{Option, none, some}
 use Prim.Native.Nat.{ℕ, zero, suc, _-_, _*_, _^_}
-use lib.ListN.{length, getD, set, replicate}
+use lib.ListN.{getD, set, replicate}
 use lib.Dec.{eqb}
 use lib.Bits.{bitOr}
 use Rattle.lists.specs.Lists.{keep, same}
 use Rattle.lists.specs.Bits.{has, onesOver}
-use Rattle.table.specs.Limits.{Limits, standard}
+use Rattle.table.specs.Limits.{Limits}
 use Rattle.table.specs.File.{Table, tableOf}
 use Rattle.table.specs.Reading.{isInitial, readNumber}
 use Rattle.table.specs.Language.{count}

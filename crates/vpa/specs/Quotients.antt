@@ -1,8 +1,8 @@
 -- Source 000, Sect. 2.1 and 3: the quotient, closure under successors and Definition 1, in the paper's own form. Assumes nothing.
 use mathlib.Core.Path.{_≡_}
 use mathlib.Core.Logic.{_↔_}
-use mathlib.Core.List.{List, map}
-use mathlib.Core.Option.{Option, some}
+use mathlib.Core.List.{map}
+use mathlib.Core.Option.{some}
 use Prim.Native.Nat.{ℕ}
 use Rattle.vpa.specs.Automata.{Automaton, Configuration, Tops}
 

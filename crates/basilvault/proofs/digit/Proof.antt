@@ -3,8 +3,6 @@ use Rattle.basilvault.proofs.Text.{low-digit, high-digit}
 use borrow.Author.Needs.{needs}
 use Rattle.basilvault.proofs.digit.Statement.{statement}
 use Rattle.basilvault.proofs.digit.Tie as tie
-use Rattle.basilvault.proofs.digit.Reads as reads
-use Rattle.basilvault.proofs.digit.Lts as lts
 
 add-result : tie.Need-add-result
 add-result c = search needs

@@ -6,9 +6,6 @@ use borrow.Author.Needs.{needs}
 use Rattle.basilvault.proofs.Text.{Hexed, none-hexed, hexed-length, hex-on, hex-all}
 use Rattle.basilvault.proofs.put_hex.Statement.{statement}
 use Rattle.basilvault.proofs.put_hex.Tie as tie
-use Rattle.basilvault.proofs.put_hex.Reads as reads
-use Rattle.basilvault.proofs.put_hex.Lts as lts
-use Rattle.basilvault.proofs.digit.Reads as digit-reads
 
 abbrev Inv-bytes : tie.InvT-bytes
 Inv-bytes bytes text₀ i₀ text i = Hexed bytes text₀ text i

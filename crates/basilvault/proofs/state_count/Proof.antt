@@ -7,9 +7,6 @@ use Rattle.reduce.proofs.Stages.{states-count, states-few}
 use borrow.Author.Needs.{needs}
 use Rattle.basilvault.proofs.state_count.Statement.{statement}
 use Rattle.basilvault.proofs.state_count.Tie as tie
-use Rattle.basilvault.proofs.state_count.Reads as reads
-use Rattle.basilvault.proofs.state_count.Lts as lts
-use Rattle.table.proofs.read.Reads as read-reads
 
 read-requires : tie.Need-read-requires
 read-requires c κs = search needs

@@ -1,14 +1,10 @@
 -- `cases::main` is safe and ends. Assumes nothing.
-use Prim.Native.Nat.{_≤_, _-_, _<_}
-use native.Mathlib.Omega.{arith}
+use Prim.Native.Nat.{_-_}
 use mathlib.Core.Path.{_≡_}
 use lib.ListN.{length}
 use borrow.Author.Needs.{needs}
 use Rattle.cases.proofs.main.Statement.{statement}
 use Rattle.cases.proofs.main.Tie as tie
-use Rattle.cases.proofs.main.Reads as reads
-use Rattle.cases.proofs.main.Lts as lts
-use Rattle.cases.proofs.next_case.Reads as next-case-reads
 
 abbrev Inv-cases : tie.InvT-cases
 Inv-cases space₀ turns₀ space turns = 32768 ≡ length space

@@ -1,15 +1,10 @@
 -- `cases::next_case` is safe and ends. Assumes nothing.
-use Prim.Native.Nat.{_≤_, _-_, _<_}
+use Prim.Native.Nat.{_-_}
 use native.Mathlib.Omega.{arith}
 use lib.ListN.{length-take}
 use borrow.Author.Needs.{needs}
 use Rattle.cases.proofs.next_case.Statement.{statement}
 use Rattle.cases.proofs.next_case.Tie as tie
-use Rattle.cases.proofs.next_case.Reads as reads
-use Rattle.cases.proofs.next_case.Lts as lts
-use Rattle.cases.proofs.read_case.Reads as read-case-reads
-use Rattle.cases.proofs.wide.Reads as wide-reads
-use Rattle.io.proofs.read_full.Reads as read-full-reads
 
 slice-aggregate-read-full : tie.Need-slice-aggregate-read-full
 slice-aggregate-read-full c = search needs

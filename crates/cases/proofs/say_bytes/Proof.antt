@@ -1,16 +1,9 @@
 -- `cases::say_bytes` is safe and ends. Assumes nothing.
-use Prim.Native.Nat.{_≤_, _-_, _<_, _*_, _+_}
-use native.Mathlib.Omega.{arith}
-use mathlib.Core.Path.{_≡_}
+use Prim.Native.Nat.{_≤_, _-_}
 use lib.ListN.{length}
 use borrow.Author.Needs.{needs}
 use Rattle.cases.proofs.say_bytes.Statement.{statement}
 use Rattle.cases.proofs.say_bytes.Tie as tie
-use Rattle.cases.proofs.say_bytes.Reads as reads
-use Rattle.cases.proofs.say_bytes.Lts as lts
-use Rattle.cases.proofs.number.Reads as number-reads
-use Rattle.cases.proofs.say.Reads as say-reads
-use Rattle.cases.proofs.wide.Reads as wide-reads
 
 abbrev Inv-bytes : tie.InvT-bytes
 Inv-bytes bytes i₀ i = i ≤ length bytes

@@ -1,17 +1,10 @@
 -- `cases::say_found` is safe and ends. Assumes nothing.
-use Prim.Native.Nat.{_≤_, _-_, _<_}
+use Prim.Native.Nat.{_-_}
 use native.Mathlib.Omega.{arith}
 use lib.ListN.{length-take}
 use borrow.Author.Needs.{needs}
 use Rattle.cases.proofs.say_found.Statement.{statement}
 use Rattle.cases.proofs.say_found.Tie as tie
-use Rattle.cases.proofs.say_found.Reads as reads
-use Rattle.cases.proofs.say_found.Lts as lts
-use Rattle.cases.proofs.number.Reads as number-reads
-use Rattle.cases.proofs.say.Reads as say-reads
-use Rattle.cases.proofs.say_bytes.Reads as say-bytes-reads
-use Rattle.cases.proofs.wide.Reads as wide-reads
-use Rattle.search.proofs.search.Reads as search-reads
 
 slice-aggregate-say : tie.Need-slice-aggregate-say
 slice-aggregate-say c = search needs

@@ -4,13 +4,6 @@ use lib.ListN.{length-take}
 use borrow.Author.Needs.{needs}
 use Rattle.cases.proofs.say_listed.Statement.{statement}
 use Rattle.cases.proofs.say_listed.Tie as tie
-use Rattle.cases.proofs.say_listed.Reads as reads
-use Rattle.cases.proofs.say_listed.Lts as lts
-use Rattle.cases.proofs.number.Reads as number-reads
-use Rattle.cases.proofs.say.Reads as say-reads
-use Rattle.cases.proofs.say_words.Reads as say-words-reads
-use Rattle.cases.proofs.wide.Reads as wide-reads
-use Rattle.clauses.proofs.clauses.Reads as clauses-reads
 
 slice-aggregate-say : tie.Need-slice-aggregate-say
 slice-aggregate-say c = search needs

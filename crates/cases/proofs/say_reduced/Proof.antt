@@ -4,11 +4,6 @@ use lib.ListN.{length-take}
 use borrow.Author.Needs.{needs}
 use Rattle.cases.proofs.say_reduced.Statement.{statement}
 use Rattle.cases.proofs.say_reduced.Tie as tie
-use Rattle.cases.proofs.say_reduced.Reads as reads
-use Rattle.cases.proofs.say_reduced.Lts as lts
-use Rattle.cases.proofs.say.Reads as say-reads
-use Rattle.cases.proofs.say_reduction.Reads as say-reduction-reads
-use Rattle.cases.proofs.word_at.Reads as word-at-reads
 
 word-at-requires : tie.Need-word-at-requires
 word-at-requires c κs = search needs

@@ -1,15 +1,8 @@
 -- `cases::say_tops` is safe and ends. Assumes nothing.
-use Prim.Native.Nat.{_≤_, _-_, _<_, _*_, _+_}
-use native.Mathlib.Omega.{arith}
-use lib.ListN.{length}
+use Prim.Native.Nat.{_≤_, _-_}
 use borrow.Author.Needs.{needs}
 use Rattle.cases.proofs.say_tops.Statement.{statement}
 use Rattle.cases.proofs.say_tops.Tie as tie
-use Rattle.cases.proofs.say_tops.Reads as reads
-use Rattle.cases.proofs.say_tops.Lts as lts
-use Rattle.cases.proofs.number.Reads as number-reads
-use Rattle.cases.proofs.say.Reads as say-reads
-use Rattle.tops.proofs.tops.Reads as tops-reads
 
 abbrev Inv-words : tie.InvT-words
 Inv-words table t q₀ t5 q = q ≤ 24

@@ -1,15 +1,9 @@
 -- `cases::say_words` is safe and ends. Assumes nothing.
-use Prim.Native.Nat.{_≤_, _-_, _<_}
-use native.Mathlib.Omega.{arith}
+use Prim.Native.Nat.{_≤_, _-_}
 use lib.ListN.{length}
 use borrow.Author.Needs.{needs}
 use Rattle.cases.proofs.say_words.Statement.{statement}
 use Rattle.cases.proofs.say_words.Tie as tie
-use Rattle.cases.proofs.say_words.Reads as reads
-use Rattle.cases.proofs.say_words.Lts as lts
-use Rattle.cases.proofs.long.Reads as long-reads
-use Rattle.cases.proofs.number.Reads as number-reads
-use Rattle.cases.proofs.say.Reads as say-reads
 
 abbrev Inv-words : tie.InvT-words
 Inv-words words i₀ i = i ≤ length words

@@ -4,13 +4,6 @@ use lib.ListN.{length-take}
 use borrow.Author.Needs.{needs}
 use Rattle.cases.proofs.say_written.Statement.{statement}
 use Rattle.cases.proofs.say_written.Tie as tie
-use Rattle.cases.proofs.say_written.Reads as reads
-use Rattle.cases.proofs.say_written.Lts as lts
-use Rattle.cases.proofs.number.Reads as number-reads
-use Rattle.cases.proofs.say.Reads as say-reads
-use Rattle.cases.proofs.say_bytes.Reads as say-bytes-reads
-use Rattle.cases.proofs.wide.Reads as wide-reads
-use Rattle.quotient.proofs.quotient.Reads as quotient-reads
 
 slice-aggregate-say : tie.Need-slice-aggregate-say
 slice-aggregate-say c = search needs

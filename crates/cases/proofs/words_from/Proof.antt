@@ -1,14 +1,11 @@
 -- `cases::words_from` meets its contract: it takes no more words than there is room for. Assumes nothing.
-use Prim.Native.Nat.{_≤_, _-_, _<_, _*_, _+_}
+use Prim.Native.Nat.{_≤_, _-_}
 use native.Mathlib.Omega.{arith}
 use mathlib.Core.Path.{_≡_}
 use lib.ListN.{length, length-set}
 use borrow.Author.Needs.{needs}
 use Rattle.cases.proofs.words_from.Statement.{statement}
 use Rattle.cases.proofs.words_from.Tie as tie
-use Rattle.cases.proofs.words_from.Reads as reads
-use Rattle.cases.proofs.words_from.Lts as lts
-use Rattle.cases.proofs.word_at.Reads as word-at-reads
 
 abbrev Inv-words : tie.InvT-words
 Inv-words bytes list₀ n₀ list n = (n ≤ length list) × (length list ≡ length list₀)

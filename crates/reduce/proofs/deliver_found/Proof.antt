@@ -6,11 +6,6 @@ use Rattle.table.specs.Limits.{standard}
 use Rattle.reduce.proofs.Stages as laws
 use Rattle.reduce.proofs.deliver_found.Statement.{statement}
 use Rattle.reduce.proofs.deliver_found.Tie as tie
-use Rattle.reduce.proofs.deliver_found.Reads as reads
-use Rattle.reduce.proofs.deliver_found.Lts as lts
-use Rattle.bytes.proofs.copy.Reads as copy-reads
-use Rattle.quotient.proofs.quotient.Reads as quotient-reads
-use Rattle.reduce.proofs.map.map_of.Reads as map-of-reads
 
 map-of-requires : tie.Need-map-of-requires
 map-of-requires c κs = search needs

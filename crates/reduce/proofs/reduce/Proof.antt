@@ -8,10 +8,6 @@ use Rattle.reduce.proofs.Stages as laws
 use borrow.Author.Needs.{needs}
 use Rattle.reduce.proofs.reduce.Statement.{statement}
 use Rattle.reduce.proofs.reduce.Tie as tie
-use Rattle.reduce.proofs.reduce.Reads as reads
-use Rattle.reduce.proofs.reduce.Lts as lts
-use Rattle.reduce.proofs.reduce_read.Reads as reduce-read-reads
-use Rattle.table.proofs.read.Reads as read-reads
 
 read-requires : tie.Need-read-requires
 read-requires c κs = search needs

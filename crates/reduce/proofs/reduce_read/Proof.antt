@@ -1,5 +1,5 @@
 -- `reduce::reduce_read` meets its contract: the clauses, then a refusal or what the search leads to. Assumes nothing.
-use mathlib.Core.Path.{sym, _∙_}
+use mathlib.Core.Path.{sym}
 use native.Mathlib.Omega.{arith}
 use lib.Seq.{length-take-le}
 use Rattle.table.specs.Limits.{standard}
@@ -7,10 +7,6 @@ use Rattle.reduce.proofs.Stages as laws
 use borrow.Author.Needs.{needs}
 use Rattle.reduce.proofs.reduce_read.Statement.{statement}
 use Rattle.reduce.proofs.reduce_read.Tie as tie
-use Rattle.reduce.proofs.reduce_read.Reads as reads
-use Rattle.reduce.proofs.reduce_read.Lts as lts
-use Rattle.clauses.proofs.clauses.Reads as clauses-reads
-use Rattle.reduce.proofs.solve_listed.Reads as solve-listed-reads
 
 clauses-requires : tie.Need-clauses-requires
 clauses-requires c κs = search needs

@@ -7,11 +7,6 @@ use Rattle.reduce.proofs.Stages as laws
 use borrow.Author.Needs.{needs}
 use Rattle.reduce.proofs.solve_listed.Statement.{statement}
 use Rattle.reduce.proofs.solve_listed.Tie as tie
-use Rattle.reduce.proofs.solve_listed.Reads as reads
-use Rattle.reduce.proofs.solve_listed.Lts as lts
-use Rattle.clauses.proofs.pairs_of.Reads as pairs-of-reads
-use Rattle.reduce.proofs.deliver_found.Reads as deliver-found-reads
-use Rattle.search.proofs.search.Reads as search-reads
 
 pairs-of-requires : tie.Need-pairs-of-requires
 pairs-of-requires c κs = search needs

@@ -4,10 +4,6 @@ use Rattle.tops.proofs.Read.{read-sections, examined, examined-refused}
 use borrow.Author.Needs.{needs}
 use Rattle.tops.proofs.examine.Statement.{statement}
 use Rattle.tops.proofs.examine.Tie as tie
-use Rattle.tops.proofs.examine.Reads as reads
-use Rattle.tops.proofs.examine.Lts as lts
-use Rattle.table.proofs.read.Reads as read-reads
-use Rattle.tops.proofs.tops_read.Reads as tops-read-reads
 
 read-requires : tie.Need-read-requires
 read-requires c κs = search needs

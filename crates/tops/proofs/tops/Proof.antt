@@ -3,9 +3,6 @@ use Rattle.tops.proofs.Read.{tops-answer}
 use borrow.Author.Needs.{needs}
 use Rattle.tops.proofs.tops.Statement.{statement}
 use Rattle.tops.proofs.tops.Tie as tie
-use Rattle.tops.proofs.tops.Reads as reads
-use Rattle.tops.proofs.tops.Lts as lts
-use Rattle.tops.proofs.examine.Reads as examine-reads
 
 examine-requires : tie.Need-examine-requires
 examine-requires c κs = search needs

@@ -1,5 +1,5 @@
 -- `clauses::literals::add_literal` meets its contract. Assumes nothing.
-use mathlib.Core.Path.{_≡_, sym, _∙_}
+use mathlib.Core.Path.{sym, _∙_}
 use borrow.Author.Needs.{needs}
 use Rattle.clauses.proofs.Collecting.{kept-literal, new-literal}
 use Rattle.clauses.proofs.literals.add_literal.Statement.{statement}

@@ -1,10 +1,8 @@
 -- `clauses::literals::contains` meets its contract: the literal is not among those passed. Assumes nothing.
-use mathlib.Core.Path.{_≡_}
-use Prim.Native.Nat.{_-_, _≤_}
-use lib.ListN.{length}
+use Prim.Native.Nat.{_-_}
 use native.Mathlib.Omega.{arith}
 use borrow.Author.Needs.{needs}
-use Rattle.clauses.proofs.Collecting.{whole, Seeking, seeking, seek-on, sought, unseen}
+use Rattle.clauses.proofs.Collecting.{Seeking, seeking, seek-on, sought, unseen}
 use Rattle.clauses.proofs.literals.contains.Statement.{statement}
 use Rattle.clauses.proofs.literals.contains.Tie as tie
 

@@ -1,7 +1,6 @@
 -- `quotient::write::bit_of` meets its contract. Assumes nothing.
 use Rattle.quotient.specs.Quotient.{bitOf}
 use mathlib.Core.Path.{sym, ap}
-use borrow.Author.Needs.{needs}
 use Rattle.quotient.proofs.write.bit_of.Statement.{statement}
 use Rattle.quotient.proofs.write.bit_of.Tie as tie
 

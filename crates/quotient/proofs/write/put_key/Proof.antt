@@ -6,9 +6,6 @@ use Rattle.quotient.proofs.Writing.{last-part}
 use borrow.Author.Needs.{needs}
 use Rattle.quotient.proofs.write.put_key.Statement.{statement}
 use Rattle.quotient.proofs.write.put_key.Tie as tie
-use Rattle.quotient.proofs.write.put_key.Reads as reads
-use Rattle.quotient.proofs.write.put_key.Lts as lts
-use Rattle.quotient.proofs.write.put_bytes.Reads as put-bytes-reads
 
 cast-t7 : tie.Need-cast-t7
 cast-t7 c = search needs

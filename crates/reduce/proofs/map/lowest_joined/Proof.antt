@@ -1,5 +1,5 @@
 -- `reduce::map::lowest_joined` meets its contract: each state has its lowest joined state among the variables so far. Assumes nothing.
-use Prim.Native.Nat.{_≤_, _-_}
+use Prim.Native.Nat.{_-_}
 use mathlib.Core.Path.{sym, _∙_}
 use native.Mathlib.Omega.{arith}
 use borrow.Author.Needs.{needs}
@@ -7,11 +7,6 @@ use Rattle.clauses.specs.Pairs.{pairs}
 use Rattle.reduce.proofs.Lowest.{Seen, all-own, seen-false, seen-later, seen-lower, high-below, low-below, seen-all}
 use Rattle.reduce.proofs.map.lowest_joined.Statement.{statement}
 use Rattle.reduce.proofs.map.lowest_joined.Tie as tie
-use Rattle.reduce.proofs.map.lowest_joined.Reads as reads
-use Rattle.reduce.proofs.map.lowest_joined.Lts as lts
-use Rattle.clauses.proofs.pair_of.Reads as pair-of-reads
-use Rattle.clauses.proofs.pairs_of.Reads as pairs-of-reads
-use Rattle.reduce.proofs.map.wide.Reads as wide-reads
 
 abbrev Inv-variables : tie.InvT-variables
 Inv-variables values n low₀ count v₀ low v = Seen values n v low

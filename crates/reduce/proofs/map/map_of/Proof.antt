@@ -7,10 +7,6 @@ use borrow.Author.Needs.{needs}
 use Rattle.reduce.proofs.Numbering.{Numbered, none-numbered, low-small, numbered-joined, numbered-new, numbered-all}
 use Rattle.reduce.proofs.map.map_of.Statement.{statement}
 use Rattle.reduce.proofs.map.map_of.Tie as tie
-use Rattle.reduce.proofs.map.map_of.Reads as reads
-use Rattle.reduce.proofs.map.map_of.Lts as lts
-use Rattle.reduce.proofs.map.lowest_joined.Reads as lowest-joined-reads
-use Rattle.reduce.proofs.map.wide.Reads as wide-reads
 
 abbrev Inv-states : tie.InvT-states
 Inv-states values n low map₀ next₀ q₀ map next q = Numbered values n map next q

@@ -5,7 +5,6 @@ use native.Mathlib.Omega.{arith}
 use lib.ListN.{length, take, drop}
 use Rattle.table.specs.Keys.{key}
 use Rattle.table.proofs.Spanning.{record-inside}
-use borrow.Author.Needs.{needs}
 use Rattle.table.proofs.keyed.even_at.Statement.{statement}
 use Rattle.table.proofs.keyed.even_at.Tie as tie
 

@@ -4,7 +4,6 @@ use native.Mathlib.Omega.{arith}
 use lib.ListN.{take, drop}
 use Rattle.table.specs.Keys.{key}
 use Rattle.table.proofs.Keys.{next-byte, part-small}
-use borrow.Author.Needs.{needs}
 use Rattle.table.proofs.keyed.four_at.Statement.{statement}
 use Rattle.table.proofs.keyed.four_at.Tie as tie
 

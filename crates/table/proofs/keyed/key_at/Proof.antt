@@ -3,7 +3,6 @@ use mathlib.Core.Path.{ap}
 use Prim.Native.Nat.{_/_}
 use native.Mathlib.Omega.{arith}
 use Rattle.table.proofs.Spanning.{record-inside}
-use borrow.Author.Needs.{needs}
 use Rattle.table.proofs.keyed.key_at.Statement.{statement}
 use Rattle.table.proofs.keyed.key_at.Tie as tie
 

@@ -3,7 +3,6 @@ use mathlib.Core.Path.{_≡_, sym, ap, _∙_}
 use Prim.Native.Nat.{_-_, _*_, _^_}
 use native.Mathlib.Omega.{arith}
 use native.Mathlib.Nat.{mul-one}
-use borrow.Author.Needs.{needs}
 use Rattle.table.proofs.keyed.lowest_at.Statement.{statement}
 use Rattle.table.proofs.keyed.lowest_at.Tie as tie
 

@@ -1,6 +1,5 @@
 -- `table::keyed::two_at` meets its contract. Assumes nothing.
 use mathlib.Core.Path.{refl}
-use Prim.Native.Nat.{_+_}
 use native.Mathlib.Omega.{arith}
 use Rattle.table.proofs.Keys.{first-byte, next-byte}
 use borrow.Author.Needs.{needs}
