@@ -1,4 +1,5 @@
-/* The reducer's C interface: the seven operations of the proved library `capi` (rt staticlib capi).
+/* The reducer's C interface: the seven operations of the proved library `capi` (rt staticlib capi),
+ * each at the limits of 24 states and 32 symbols and, as NAME_within, at given limits of 1 to 40 states and 1 to 64 symbols; others are refused by 39.
  *
  * Each function returns the refusal's number, or 0. Where it is 0 and `values` has room for all the answer's values, they are its first
  * elements. Buffers are written as the operations say; a refused call leaves them as they were, but for the clause list of
@@ -16,7 +17,7 @@ extern "C" {
 /* Five values: the starts of symbols, states, internals, calls and returns. */
 uint32_t basilvault_read(const uint8_t *table, size_t table_len, uint64_t *values, size_t values_len);
 
-/* 25 values: a word of tops for each possible state, then the number of tops found. */
+/* 41 values: a word of tops for each possible state, then the number of tops found. */
 uint32_t basilvault_tops(const uint8_t *table, size_t table_len, uint64_t *values, size_t values_len);
 
 /* Two values: clauses and words. */
@@ -36,6 +37,20 @@ uint32_t basilvault_quotient(const uint8_t *table, size_t table_len, const uint8
 /* Four values: classes, guesses, clause words, quotient length. */
 uint32_t basilvault_reduce(const uint8_t *table, size_t table_len, uint64_t budget, uint16_t *list, size_t list_len, uint8_t *map,
                            size_t map_len, uint8_t *out, size_t out_len, uint64_t *values, size_t values_len);
+
+/* The same at limits. */
+uint32_t basilvault_read_within(size_t states, size_t symbols, const uint8_t *table, size_t table_len, uint64_t *values, size_t values_len);
+uint32_t basilvault_tops_within(size_t states, size_t symbols, const uint8_t *table, size_t table_len, uint64_t *values, size_t values_len);
+uint32_t basilvault_clauses_within(size_t states, size_t symbols, const uint8_t *table, size_t table_len, uint16_t *list, size_t list_len,
+                                   uint64_t *values, size_t values_len);
+uint32_t basilvault_search_within(size_t states, size_t symbols, const uint16_t *list, size_t list_len, size_t variables, uint64_t budget,
+                                  uint8_t *answer, size_t answer_len, uint64_t *values, size_t values_len);
+uint32_t basilvault_check_within(size_t states, size_t symbols, const uint8_t *table, size_t table_len, const uint8_t *map, size_t map_len,
+                                 uint64_t *values, size_t values_len);
+uint32_t basilvault_quotient_within(size_t states, size_t symbols, const uint8_t *table, size_t table_len, const uint8_t *map, size_t map_len,
+                                    uint8_t *out, size_t out_len, uint64_t *values, size_t values_len);
+uint32_t basilvault_reduce_within(size_t states, size_t symbols, const uint8_t *table, size_t table_len, uint64_t budget, uint16_t *list,
+                                  size_t list_len, uint8_t *map, size_t map_len, uint8_t *out, size_t out_len, uint64_t *values, size_t values_len);
 
 #ifdef __cplusplus
 }

@@ -1,7 +1,8 @@
 //! Library and plain Rust on random tables, damaged ones, lists and maps, with buffers of any length: the same answers and the same bytes.
 
 use crate::random::{self, Random};
-use crate::{capi, plain};
+use crate::reference::{Limits, LARGEST, STANDARD};
+use crate::{capi::within as capi, plain};
 
 /// A length around what is needed: shorter, equal, or longer.
 fn around(r: &mut Random, need: usize) -> usize {
@@ -13,46 +14,46 @@ fn around(r: &mut Random, need: usize) -> usize {
 }
 
 /// The operations on a table alone.
-fn compare_table(r: &mut Random, table: &[u8]) {
-    assert_eq!(capi::read(table), plain::read(table), "{table:02x?}");
-    assert_eq!(capi::tops(table), plain::tops(table), "{table:02x?}");
-    let need = capi::clauses(table, &mut vec![0; 60_000]).map_or(9, |v| v[1]) as usize;
+fn compare_table(r: &mut Random, l: Limits, table: &[u8]) {
+    assert_eq!(capi::read(l, table), plain::read(l, table), "{table:02x?}");
+    assert_eq!(capi::tops(l, table), plain::tops(l, table), "{table:02x?}");
+    let need = capi::clauses(l, table, &mut vec![0; 400_000]).map_or(9, |v| v[1]) as usize;
     let mut ours = vec![7; around(r, need)];
     let mut theirs = ours.clone();
-    assert_eq!(capi::clauses(table, &mut ours), plain::clauses(table, &mut theirs), "{table:02x?}");
+    assert_eq!(capi::clauses(l, table, &mut ours), plain::clauses(l, table, &mut theirs), "{table:02x?}");
     assert!(ours == theirs, "{table:02x?}");
 }
 
 /// Reduce; the map that it delivers, or none.
-fn compare_reduce(r: &mut Random, table: &[u8], states: usize) -> Option<Vec<u8>> {
+fn compare_reduce(r: &mut Random, l: Limits, table: &[u8], states: usize) -> Option<Vec<u8>> {
     let budget = if r.chance(20) { r.below(3) as u64 } else { 100_000 };
     let length = [32_768, 32_768, 300][r.below(3)];
     let mut ours = (vec![7; length], vec![7; around(r, states)], vec![7; around(r, table.len())]);
     let mut theirs = ours.clone();
-    let a = capi::reduce(table, budget, &mut ours.0, &mut ours.1, &mut ours.2);
-    let b = plain::reduce(table, budget, &mut theirs.0, &mut theirs.1, &mut theirs.2);
+    let a = capi::reduce(l, table, budget, &mut ours.0, &mut ours.1, &mut ours.2);
+    let b = plain::reduce(l, table, budget, &mut theirs.0, &mut theirs.1, &mut theirs.2);
     assert_eq!(a, b, "{table:02x?}");
     assert!(ours == theirs, "{table:02x?}");
     a.ok().map(|_| ours.1[..states].to_vec())
 }
 
 /// Check and quotient under a map.
-fn compare_map(r: &mut Random, table: &[u8], map: &[u8]) {
-    assert_eq!(capi::check(table, map), plain::check(table, map), "{table:02x?} {map:?}");
+fn compare_map(r: &mut Random, l: Limits, table: &[u8], map: &[u8]) {
+    assert_eq!(capi::check(l, table, map), plain::check(l, table, map), "{table:02x?} {map:?}");
     let mut ours = vec![7; around(r, table.len())];
     let mut theirs = ours.clone();
-    assert_eq!(capi::quotient(table, map, &mut ours), plain::quotient(table, map, &mut theirs), "{table:02x?} {map:?}");
+    assert_eq!(capi::quotient(l, table, map, &mut ours), plain::quotient(l, table, map, &mut theirs), "{table:02x?} {map:?}");
     assert!(ours == theirs, "{table:02x?} {map:?}");
 }
 
 /// The search over a list, well formed or not.
-fn compare_search(r: &mut Random) {
-    let variables = if r.chance(4) { 270 + r.below(10) } else { r.below(16) };
+fn compare_search(r: &mut Random, l: Limits) {
+    let variables = if r.chance(4) { [270, 775][r.below(2)] + r.below(10) } else { r.below(16) };
     let list = random::clause_words(r, variables);
     let budget = if r.chance(30) { r.below(5) as u64 } else { 10_000 };
     let mut ours = vec![7; around(r, variables)];
     let mut theirs = ours.clone();
-    assert_eq!(capi::search(&list, variables, budget, &mut ours), plain::search(&list, variables, budget, &mut theirs), "{list:?}");
+    assert_eq!(capi::search(l, &list, variables, budget, &mut ours), plain::search(l, &list, variables, budget, &mut theirs), "{list:?}");
     assert!(ours == theirs, "{list:?}");
 }
 
@@ -60,16 +61,17 @@ fn compare_search(r: &mut Random) {
 pub fn compare(cases: usize) {
     let mut r = Random::new(1);
     for i in 0..cases {
-        let most = if i % 50 == 0 { 24 } else { 8 };
+        let l = [STANDARD, LARGEST, Limits { states: r.below(43), symbols: r.below(67) }][i % 3];
+        let most = if i % 50 == 0 { 40 } else { 8 };
         let valid = random::any_table(&mut r, most);
         let bytes = valid.bytes();
         let table = if r.chance(30) { random::damaged(&mut r, &bytes) } else { bytes };
-        compare_table(&mut r, &table);
+        compare_table(&mut r, l, &table);
         let states = valid.count();
-        let map = compare_reduce(&mut r, &table, states).filter(|_| i % 2 == 0);
+        let map = compare_reduce(&mut r, l, &table, states).filter(|_| i % 2 == 0);
         let map = map.unwrap_or_else(|| random::map(&mut r, states));
-        compare_map(&mut r, &table, &map);
-        compare_search(&mut r);
+        compare_map(&mut r, l, &table, &map);
+        compare_search(&mut r, l);
     }
     println!("library and plain Rust agree on {cases} random tables, maps and lists\n");
 }

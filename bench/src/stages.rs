@@ -1,6 +1,7 @@
-//! The seven operations, each by the library and in plain Rust, on an input.
+//! The seven operations at the program's limits, each by the library and in plain Rust, on an input.
 
 use crate::inputs::{inputs, pigeons, Input, BUDGET, WORDS};
+use crate::reference::LARGEST;
 use crate::{capi, plain};
 
 /// What an operation writes to, and the values of its answer.
@@ -10,13 +11,13 @@ pub struct Buffers {
     pub answer: Vec<u8>,
     pub map: Vec<u8>,
     pub out: Vec<u8>,
-    pub values: [u64; 25],
+    pub values: [u64; 41],
 }
 
 impl Buffers {
     /// Buffers of the program's sizes.
     pub fn new() -> Self {
-        Buffers { list: vec![7; WORDS], answer: vec![7; 276], map: vec![7; 24], out: vec![7; 22_596], values: [7; 25] }
+        Buffers { list: vec![7; WORDS], answer: vec![7; 780], map: vec![7; 40], out: vec![7; 22_644], values: [7; 41] }
     }
 
     /// Keeps an answer's values; the refusal's number or 0.
@@ -47,11 +48,11 @@ macro_rules! stage {
         Stage {
             name: stringify!($name),
             library: |$i, $b| {
-                let answer = capi::$name($($argument),+);
+                let answer = capi::within::$name(LARGEST, $($argument),+);
                 $b.keep(answer)
             },
             plain: |$i, $b| {
-                let answer = plain::$name($($argument),+);
+                let answer = plain::$name(LARGEST, $($argument),+);
                 $b.keep(answer)
             },
         }

@@ -22,6 +22,24 @@ extern "C" {
         values: *mut u64,
         k: usize,
     ) -> u32;
+    fn basilvault_read_within(states: usize, symbols: usize, table: *const u8, n: usize, values: *mut u64, k: usize) -> u32;
+    fn basilvault_tops_within(states: usize, symbols: usize, table: *const u8, n: usize, values: *mut u64, k: usize) -> u32;
+    fn basilvault_clauses_within(states: usize, symbols: usize, table: *const u8, n: usize, list: *mut u16, l: usize, values: *mut u64, k: usize) -> u32;
+    fn basilvault_search_within(states: usize, symbols: usize, list: *const u16, l: usize, variables: usize, budget: u64, answer: *mut u8, a: usize, values: *mut u64, k: usize) -> u32;
+    fn basilvault_check_within(states: usize, symbols: usize, table: *const u8, n: usize, map: *const u8, m: usize, values: *mut u64, k: usize) -> u32;
+    fn basilvault_quotient_within(states: usize, symbols: usize, table: *const u8, n: usize, map: *const u8, m: usize, out: *mut u8, o: usize, values: *mut u64, k: usize) -> u32;
+    fn basilvault_reduce_within(states: usize, symbols: usize, table: *const u8,
+        n: usize,
+        budget: u64,
+        list: *mut u16,
+        l: usize,
+        map: *mut u8,
+        m: usize,
+        out: *mut u8,
+        o: usize,
+        values: *mut u64,
+        k: usize,
+    ) -> u32;
 }
 
 fn answer<const K: usize>(number: u32, values: [u64; K]) -> Result<[u64; K], u8> {
@@ -38,9 +56,9 @@ pub fn read(table: &[u8]) -> Result<[u64; 5], u8> {
     answer(k, v)
 }
 
-/// The 24 words, then the number of tops found.
-pub fn tops(table: &[u8]) -> Result<[u64; 25], u8> {
-    let mut v = [0u64; 25];
+/// The 40 words, then the number of tops found.
+pub fn tops(table: &[u8]) -> Result<[u64; 41], u8> {
+    let mut v = [0u64; 41];
     let k = unsafe { basilvault_tops(table.as_ptr(), table.len(), v.as_mut_ptr(), v.len()) };
     answer(k, v)
 }
@@ -93,4 +111,68 @@ pub fn reduce(table: &[u8], budget: u64, list: &mut [u16], map: &mut [u8], out: 
         )
     };
     answer(k, v)
+}
+
+/// The same operations at given limits.
+#[allow(dead_code)]
+pub mod within {
+    use super::answer;
+    use crate::reference::Limits;
+
+    pub fn read(l: Limits, table: &[u8]) -> Result<[u64; 5], u8> {
+        let mut v = [0u64; 5];
+        let k = unsafe { super::basilvault_read_within(l.states, l.symbols, table.as_ptr(), table.len(), v.as_mut_ptr(), v.len()) };
+        answer(k, v)
+    }
+
+    /// The 40 words, then the number of tops found.
+    pub fn tops(l: Limits, table: &[u8]) -> Result<[u64; 41], u8> {
+        let mut v = [0u64; 41];
+        let k = unsafe { super::basilvault_tops_within(l.states, l.symbols, table.as_ptr(), table.len(), v.as_mut_ptr(), v.len()) };
+        answer(k, v)
+    }
+
+    pub fn clauses(l: Limits, table: &[u8], list: &mut [u16]) -> Result<[u64; 2], u8> {
+        let mut v = [0u64; 2];
+        let k = unsafe { super::basilvault_clauses_within(l.states, l.symbols, table.as_ptr(), table.len(), list.as_mut_ptr(), list.len(), v.as_mut_ptr(), v.len()) };
+        answer(k, v)
+    }
+
+    pub fn search(l: Limits, list: &[u16], variables: usize, budget: u64, out: &mut [u8]) -> Result<[u64; 1], u8> {
+        let mut v = [0u64; 1];
+        let k = unsafe { super::basilvault_search_within(l.states, l.symbols, list.as_ptr(), list.len(), variables, budget, out.as_mut_ptr(), out.len(), v.as_mut_ptr(), v.len()) };
+        answer(k, v)
+    }
+
+    pub fn check(l: Limits, table: &[u8], map: &[u8]) -> Result<[u64; 1], u8> {
+        let mut v = [0u64; 1];
+        let k = unsafe { super::basilvault_check_within(l.states, l.symbols, table.as_ptr(), table.len(), map.as_ptr(), map.len(), v.as_mut_ptr(), v.len()) };
+        answer(k, v)
+    }
+
+    pub fn quotient(l: Limits, table: &[u8], map: &[u8], out: &mut [u8]) -> Result<[u64; 1], u8> {
+        let mut v = [0u64; 1];
+        let k = unsafe { super::basilvault_quotient_within(l.states, l.symbols, table.as_ptr(), table.len(), map.as_ptr(), map.len(), out.as_mut_ptr(), out.len(), v.as_mut_ptr(), v.len()) };
+        answer(k, v)
+    }
+
+    /// Classes, guesses, clause words, quotient length.
+    pub fn reduce(l: Limits, table: &[u8], budget: u64, list: &mut [u16], map: &mut [u8], out: &mut [u8]) -> Result<[u64; 4], u8> {
+        let mut v = [0u64; 4];
+        let k = unsafe {
+            super::basilvault_reduce_within(l.states, l.symbols, table.as_ptr(),
+                table.len(),
+                budget,
+                list.as_mut_ptr(),
+                list.len(),
+                map.as_mut_ptr(),
+                map.len(),
+                out.as_mut_ptr(),
+                out.len(),
+                v.as_mut_ptr(),
+                v.len(),
+            )
+        };
+        answer(k, v)
+    }
 }

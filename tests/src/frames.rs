@@ -1,7 +1,7 @@
 //! The cases that the program `cases` reads and the lines that it must write. Each method adds one case of its operation, with the plain
 //! implementation's answer, and hands that answer back.
 
-use crate::reference;
+use crate::reference::{self, Limits};
 use std::fmt::Write;
 
 /// What every buffer is filled with beforehand.
@@ -18,9 +18,9 @@ pub struct Room {
     pub out: usize,
 }
 
-/// The frames of the cases, the lines that they must give, and the number of cases of each operation.
-#[derive(Default)]
+/// The limits of the next cases; the frames of the cases, the lines that they must give, and the number of cases of each operation.
 pub struct Cases {
+    pub limits: Limits,
     pub input: Vec<u8>,
     pub output: String,
     pub counts: [usize; 8],
@@ -37,11 +37,17 @@ fn longs<T: Copy + Into<u64>>(values: &[T]) -> Vec<u64> {
 }
 
 impl Cases {
-    /// An operation's number, the length of the rest, and the rest.
+    /// None yet, and the limits of a caller that gives none.
+    pub fn new() -> Cases {
+        Cases { limits: reference::STANDARD, input: vec![], output: String::new(), counts: [0; 8] }
+    }
+
+    /// An operation's number, the limits, the length of the rest, and the rest.
     fn frame(&mut self, operation: u8, parts: &[&[u8]]) {
         let rest = parts.concat();
         self.counts[operation as usize] += 1;
         self.input.push(operation);
+        self.input.extend([self.limits.states, self.limits.symbols].map(|x| u8::try_from(x).unwrap()));
         self.input.extend(words(&[rest.len()]));
         self.input.extend(rest);
     }
@@ -69,19 +75,19 @@ impl Cases {
     /// The five starts.
     pub fn read(&mut self, b: &[u8]) -> Result<[usize; 5], u8> {
         self.frame(1, &[b]);
-        let answer = reference::read(b);
+        let answer = reference::read(self.limits, b);
         self.line("read", answer.map(|starts| starts.map(|x| x as u64).to_vec()));
         self.end();
         answer
     }
 
     /// The words of the tops and their number; with a refusal, 0 in all of them.
-    pub fn tops(&mut self, b: &[u8]) -> Result<([u32; 24], u32), u8> {
+    pub fn tops(&mut self, b: &[u8]) -> Result<([u64; 40], u32), u8> {
         self.frame(2, &[b]);
-        let answer = reference::tops(b);
+        let answer = reference::tops(self.limits, b);
         let (number, top_words, found) = match answer {
             Ok((w, f)) => (0, w, f),
-            Err(k) => (k, [0; 24], 0),
+            Err(k) => (k, [0; 40], 0),
         };
         write!(self.output, "tops {number} {found}").unwrap();
         top_words.iter().for_each(|w| write!(self.output, " {w}").unwrap());
@@ -93,7 +99,7 @@ impl Cases {
     pub fn clauses(&mut self, b: &[u8], room: usize) -> Result<(usize, usize), u8> {
         self.frame(3, &[&words(&[room]), b]);
         let mut list = vec![FILL as u16; room];
-        let answer = reference::clauses(b, &mut list);
+        let answer = reference::clauses(self.limits, b, &mut list);
         assert!(answer.is_ok() || list.iter().all(|&x| x == FILL as u16), "outputs keep their bytes");
         self.line("clauses", answer.map(|(c, w)| vec![c as u64, w as u64]));
         self.buffer(&longs(&list));
@@ -106,7 +112,7 @@ impl Cases {
         let bytes: Vec<u8> = list.iter().flat_map(|w| w.to_le_bytes()).collect();
         self.frame(4, &[&words(&[variables, budget as usize, room]), &bytes]);
         let mut values = vec![FILL; room];
-        let answer = reference::search(list, variables, budget as u64, &mut values);
+        let answer = reference::search(self.limits, list, variables, budget as u64, &mut values);
         assert!(answer.is_ok() || values.iter().all(|&x| x == FILL), "outputs keep their bytes");
         self.line("search", answer.map(|guesses| vec![guesses]));
         self.buffer(&longs(&values));
@@ -117,7 +123,7 @@ impl Cases {
     /// The class count.
     pub fn check(&mut self, b: &[u8], map: &[u8]) -> Result<usize, u8> {
         self.frame(5, &[&words(&[map.len()]), map, b]);
-        let answer = reference::check(b, map);
+        let answer = reference::check(self.limits, b, map);
         self.line("check", answer.map(|classes| vec![classes as u64]));
         self.end();
         answer
@@ -127,7 +133,7 @@ impl Cases {
     pub fn quotient(&mut self, b: &[u8], map: &[u8], room: usize) -> Result<Vec<u8>, u8> {
         self.frame(6, &[&words(&[map.len(), room]), map, b]);
         let mut out = vec![FILL; room];
-        let answer = reference::quotient(b, map, &mut out);
+        let answer = reference::quotient(self.limits, b, map, &mut out);
         assert!(answer.is_ok() || out.iter().all(|&x| x == FILL), "outputs keep their bytes");
         self.line("quotient", answer.map(|length| vec![length as u64]));
         self.buffer(&longs(&out));
@@ -139,7 +145,7 @@ impl Cases {
     pub fn reduce(&mut self, b: &[u8], budget: u64, room: Room) -> (Reduced, Vec<u8>, Vec<u8>) {
         self.frame(7, &[&words(&[budget as usize, room.list, room.map, room.out]), b]);
         let (mut list, mut map, mut out) = (vec![FILL as u16; room.list], vec![FILL; room.map], vec![FILL; room.out]);
-        let answer = reference::reduce(b, budget, &mut list, &mut map, &mut out);
+        let answer = reference::reduce(self.limits, b, budget, &mut list, &mut map, &mut out);
         assert!(answer.is_ok() || map.iter().chain(&out).all(|&x| x == FILL), "outputs keep their bytes");
         let listed = matches!(answer, Ok(_) | Err(13 | 21));
         assert!(listed || list.iter().all(|&x| x == FILL as u16), "the list is written with 13, 21 and a delivery only");

@@ -6,7 +6,7 @@ mod random;
 mod reference;
 
 use random::Random;
-use reference::Table;
+use reference::{Limits, Table, LARGEST, STANDARD};
 use std::io::Write;
 use std::process::{Command, Stdio};
 
@@ -21,13 +21,13 @@ impl Counts {
 
 /// The numbers that each operation can give, 0 for none: a run of many cases must have met each of them.
 const NUMBERS: [(&str, &[u8]); 9] = [
-    ("read", &[0, 1, 2, 3, 4, 5, 6, 7, 8]),
-    ("tops", &[0, 2, 3, 5, 7, 8]),
-    ("clauses", &[0, 3, 5, 7, 8, 10]),
-    ("search", &[0, 11, 12, 13, 14]),
-    ("check", &[0, 3, 7, 8, 15, 16, 17, 18, 19, 20]),
-    ("quotient", &[0, 3, 7, 8, 15, 16, 17, 18, 19, 20, 21]),
-    ("reduce", &[0, 3, 7, 8, 10, 13, 21, 22]),
+    ("read", &[0, 39, 1, 2, 3, 4, 5, 6, 7, 8]),
+    ("tops", &[0, 39, 2, 3, 5, 7, 8]),
+    ("clauses", &[0, 39, 3, 5, 7, 8, 10]),
+    ("search", &[0, 39, 11, 12, 13, 14]),
+    ("check", &[0, 39, 3, 7, 8, 15, 16, 17, 18, 19, 20]),
+    ("quotient", &[0, 39, 3, 7, 8, 15, 16, 17, 18, 19, 20, 21]),
+    ("reduce", &[0, 39, 3, 7, 8, 10, 13, 21, 22]),
     ("words of input and quotient", &[0]),
     ("every map of a small table", &[0]),
 ];
@@ -48,56 +48,63 @@ fn around(r: &mut Random, need: usize) -> usize {
     }
 }
 
-fn compare_read(b: &[u8], c: &mut Counts) {
-    let theirs = reference::read(b).map(|s| s.map(|x| x as u64));
-    same("read", b, capi::read(b), theirs);
+fn compare_read(l: Limits, b: &[u8], c: &mut Counts) {
+    let theirs = reference::read(l, b).map(|s| s.map(|x| x as u64));
+    same("read", b, capi::within::read(l, b), theirs);
+    if l == STANDARD {
+        same("read, no limits given", b, capi::read(b), theirs);
+    }
     c.add("read", theirs);
 }
 
-fn compare_tops(b: &[u8], c: &mut Counts) {
-    let theirs = reference::tops(b).map(|(w, k)| {
-        let mut v = [0u64; 25];
-        w.iter().enumerate().for_each(|(i, &x)| v[i] = x as u64);
-        v[24] = k as u64;
+fn compare_tops(l: Limits, b: &[u8], c: &mut Counts) {
+    let theirs = reference::tops(l, b).map(|(w, k)| {
+        let mut v = [0u64; 41];
+        w.iter().enumerate().for_each(|(i, &x)| v[i] = x);
+        v[40] = k as u64;
         v
     });
-    same("tops", b, capi::tops(b), theirs);
+    same("tops", b, capi::within::tops(l, b), theirs);
+    if l == STANDARD {
+        same("tops, no limits given", b, capi::tops(b), theirs);
+    }
     c.add("tops", theirs);
 }
 
-fn compare_clauses(r: &mut Random, b: &[u8], c: &mut Counts) {
-    let need = reference::parse(b).map(|(t, _)| reference::words_of(&reference::clause_list(&t)).len()).unwrap_or(9);
+fn compare_clauses(r: &mut Random, l: Limits, b: &[u8], c: &mut Counts) {
+    let need = reference::parse(l, b).map(|(t, _)| reference::words_of(&reference::clause_list(&t)).len()).unwrap_or(9);
     let mut ours = vec![0xbeefu16; around(r, need)];
     let mut theirs = ours.clone();
-    let a = capi::clauses(b, &mut ours);
-    let e = reference::clauses(b, &mut theirs).map(|(x, y)| [x as u64, y as u64]);
+    let a = if l == STANDARD { capi::clauses(b, &mut ours) } else { capi::within::clauses(l, b, &mut ours) };
+    let e = reference::clauses(l, b, &mut theirs).map(|(x, y)| [x as u64, y as u64]);
     same("clauses", b, (a, ours), (e, theirs));
     c.add("clauses", e);
 }
 
-fn compare_search(r: &mut Random, words: &[u16], variables: usize, budget: u64, c: &mut Counts) {
+fn compare_search(r: &mut Random, l: Limits, words: &[u16], variables: usize, budget: u64, c: &mut Counts) {
     let mut ours = vec![0x77u8; around(r, variables)];
     let mut theirs = ours.clone();
-    let a = capi::search(words, variables, budget, &mut ours);
-    let e = reference::search(words, variables, budget, &mut theirs).map(|k| [k]);
+    let a = if l == STANDARD { capi::search(words, variables, budget, &mut ours) } else { capi::within::search(l, words, variables, budget, &mut ours) };
+    let e = reference::search(l, words, variables, budget, &mut theirs).map(|k| [k]);
     if (a, &ours) != (e, &theirs) {
         panic!("search differs: {a:?} {ours:?} against {e:?} {theirs:?}; variables {variables}, budget {budget}, words {words:?}");
     }
     c.add("search", e);
 }
 
-fn compare_map(r: &mut Random, b: &[u8], m: &[u8], c: &mut Counts) {
-    let e = reference::check(b, m).map(|k| [k as u64]);
-    same("check", b, capi::check(b, m), e);
+fn compare_map(r: &mut Random, l: Limits, b: &[u8], m: &[u8], c: &mut Counts) {
+    let e = reference::check(l, b, m).map(|k| [k as u64]);
+    let a = if l == STANDARD { capi::check(b, m) } else { capi::within::check(l, b, m) };
+    same("check", b, a, e);
     c.add("check", e);
-    let need = match (reference::parse(b), e) {
+    let need = match (reference::parse(l, b), e) {
         (Ok((t, _)), Ok(_)) => reference::quotient_table(&t, m).bytes().len(),
         _ => b.len(),
     };
     let mut ours = vec![0x55u8; around(r, need)];
     let mut theirs = ours.clone();
-    let a = capi::quotient(b, m, &mut ours);
-    let e = reference::quotient(b, m, &mut theirs).map(|k| [k as u64]);
+    let a = if l == STANDARD { capi::quotient(b, m, &mut ours) } else { capi::within::quotient(l, b, m, &mut ours) };
+    let e = reference::quotient(l, b, m, &mut theirs).map(|k| [k as u64]);
     same("quotient", b, (a, ours), (e, theirs));
     c.add("quotient", e);
 }
@@ -127,13 +134,13 @@ fn compare_words(r: &mut Random, a: &Table, b: &Table, c: &mut Counts) {
     c.add("words of input and quotient", Ok(()));
 }
 
-fn compare_reduce(r: &mut Random, b: &[u8], c: &mut Counts) {
+fn compare_reduce(r: &mut Random, l: Limits, b: &[u8], c: &mut Counts) {
     let budget = match r.below(4) {
         0 => r.below(4) as u64,
         1 => u64::MAX,
         _ => 2000,
     };
-    let parsed = reference::parse(b);
+    let parsed = reference::parse(l, b);
     let (words, states) = match &parsed {
         Ok((t, _)) => (reference::words_of(&reference::clause_list(t)).len(), t.count()),
         Err(_) => (9, 4),
@@ -143,12 +150,12 @@ fn compare_reduce(r: &mut Random, b: &[u8], c: &mut Counts) {
     let mut map = vec![0x66u8; if ample { states + r.below(4) } else { around(r, states) }];
     let mut out = vec![0x44u8; if ample { b.len() + r.below(20) } else { around(r, b.len()) }];
     let (mut list2, mut map2, mut out2) = (list.clone(), map.clone(), out.clone());
-    let a = capi::reduce(b, budget, &mut list, &mut map, &mut out);
-    let e = reference::reduce(b, budget, &mut list2, &mut map2, &mut out2).map(|(x, g, w, l)| [x as u64, g, w as u64, l as u64]);
+    let a = if l == STANDARD { capi::reduce(b, budget, &mut list, &mut map, &mut out) } else { capi::within::reduce(l, b, budget, &mut list, &mut map, &mut out) };
+    let e = reference::reduce(l, b, budget, &mut list2, &mut map2, &mut out2).map(|(x, g, w, l)| [x as u64, g, w as u64, l as u64]);
     same("reduce", b, (a, list, &map, &out), (e, list2, &map2, &out2));
     c.add("reduce", e);
     if let (Ok(v), Ok((t, _))) = (e, parsed) {
-        let small = reference::parse(&out[..v[3] as usize]).expect("the quotient is readable").0;
+        let small = reference::parse(l, &out[..v[3] as usize]).expect("the quotient is readable").0;
         if t.count() <= 8 {
             compare_words(r, &t, &small, c);
         }
@@ -156,13 +163,13 @@ fn compare_reduce(r: &mut Random, b: &[u8], c: &mut Counts) {
 }
 
 /// A random map, the one that a reduction delivers, or that one with two classes joined.
-fn any_map(r: &mut Random, t: &Table, b: &[u8]) -> Vec<u8> {
+fn any_map(r: &mut Random, l: Limits, t: &Table, b: &[u8]) -> Vec<u8> {
     let n = t.count();
     if r.chance(40) {
         return random::map(r, n);
     }
-    let (mut list, mut map, mut out) = (vec![0u16; 60_000], vec![0u8; 24], vec![0u8; 23_000]);
-    if reference::reduce(b, 500, &mut list, &mut map, &mut out).is_err() {
+    let (mut list, mut map, mut out) = (vec![0u16; 400_000], vec![0u8; 40], vec![0u8; 23_000]);
+    if reference::reduce(l, b, 500, &mut list, &mut map, &mut out).is_err() {
         return (0..n as u8).collect();
     }
     let found = map[..n].to_vec();
@@ -215,7 +222,7 @@ fn compare_all_maps(t: &Table, c: &mut Counts) {
         same("check of every map", &b, capi::check(&b, m), e);
         c.add("check", e);
     }
-    let (mut list, mut map, mut out) = (vec![0u16; 40_000], vec![0u8; 24], vec![0u8; b.len()]);
+    let (mut list, mut map, mut out) = (vec![0u16; 40_000], vec![0u8; 40], vec![0u8; b.len()]);
     if capi::reduce(&b, u64::MAX, &mut list, &mut map, &mut out).is_ok() {
         let found = &map[..t.count()];
         assert!(met.iter().any(|m| &m[..] == found), "the delivered map meets Definition 1");
@@ -226,11 +233,11 @@ fn compare_all_maps(t: &Table, c: &mut Counts) {
 
 /// What the program must print for a table: document 01's three lines, or the refusal.
 fn printed(b: &[u8]) -> String {
-    let (mut list, mut map, mut out) = (vec![0u16; 32_768], vec![0u8; 24], vec![0u8; 22_596]);
-    match reference::reduce(b, 100_000, &mut list, &mut map, &mut out) {
+    let (mut list, mut map, mut out) = (vec![0u16; 32_768], vec![0u8; 40], vec![0u8; 22_644]);
+    match reference::reduce(LARGEST, b, 100_000, &mut list, &mut map, &mut out) {
         Err(k) => format!("refused {k}\n"),
         Ok((classes, guesses, words, length)) => {
-            let n = reference::parse(b).unwrap().0.count();
+            let n = reference::parse(LARGEST, b).unwrap().0.count();
             let map: String = map[..n].iter().map(|x| format!(" {x}")).collect();
             let table: String = out[..length].iter().map(|x| format!(" {x:02x}")).collect();
             format!("states {n} classes {classes} guesses {guesses} words {words}\nmap{map}\ntable{table}\n")
@@ -242,8 +249,8 @@ fn printed(b: &[u8]) -> String {
 fn compare_program() {
     let program = concat!(env!("CARGO_MANIFEST_DIR"), "/../target/bin/basilvault");
     let mut r = Random::new(7);
-    let mut files = vec![vec![], vec![0; 22_597], vec![0; 40_000]];
-    for n in [1, 4, 9, 16, 24] {
+    let mut files = vec![vec![], vec![0; 22_645], vec![0; 40_000]];
+    for n in [1, 4, 9, 16, 24, 26, 40] {
         files.push(random::table(&mut r, n, true).bytes());
         files.push(random::blown_up(&mut r, n, true).bytes());
         let damaged = random::damaged(&mut r, files.last().unwrap());
@@ -262,18 +269,28 @@ fn compare_program() {
 /// A values buffer without room for every value keeps its content, and the number is the same.
 fn compare_short_values(t: &Table) {
     let b = t.bytes();
-    for room in 0..30 {
+    for room in 0..46 {
         let mut values = vec![9u64; room];
         assert_eq!(capi::tops_into(&b, &mut values), 0);
-        match reference::tops(&b) {
-            Ok((w, k)) if room >= 25 => {
-                assert_eq!(values[..24], w.map(u64::from));
-                assert_eq!(values[24], k as u64);
-                assert!(values[25..].iter().all(|&x| x == 9));
+        match reference::tops(STANDARD, &b) {
+            Ok((w, k)) if room >= 41 => {
+                assert_eq!(values[..40], w);
+                assert_eq!(values[40], k as u64);
+                assert!(values[41..].iter().all(|&x| x == 9));
             }
             _ => assert!(values.iter().all(|&x| x == 9)),
         }
         assert_eq!(capi::tops_into(&b[1..], &mut vec![9u64; room]), 3);
+    }
+}
+
+/// Mostly the limits of a caller that gives none and the largest; else any, some of them zero or past their maximum.
+fn any_limits(r: &mut Random, i: usize) -> Limits {
+    match (i / 6) % 4 {
+        0 => STANDARD,
+        1 => LARGEST,
+        2 => Limits { states: r.below(43), symbols: r.below(67) },
+        _ => Limits { states: 3 + r.below(8), symbols: 2 + r.below(6) },
     }
 }
 
@@ -289,7 +306,8 @@ fn main() {
     let mut c = Counts(Default::default());
     compare_short_values(&random::table(&mut r, 5, false));
     for i in 0..cases {
-        let most = if i % 100 == 0 { 24 } else if i % 7 == 0 { 12 } else { 7 };
+        let l = any_limits(&mut r, i);
+        let most = if i % 100 == 0 { 40 } else if i % 7 == 0 { 12 } else { 7 };
         let mut t = random::any_table(&mut r, most);
         if most < 12 && r.chance(15) {
             let more = 1 + r.below(3);
@@ -297,26 +315,26 @@ fn main() {
         }
         let valid = t.bytes();
         let b = if r.chance(25) { random::damaged(&mut r, &valid) } else { valid.clone() };
-        compare_read(&b, &mut c);
+        compare_read(l, &b, &mut c);
         match i % 6 {
-            0 => compare_tops(&b, &mut c),
-            1 => compare_clauses(&mut r, &b, &mut c),
+            0 => compare_tops(l, &b, &mut c),
+            1 => compare_clauses(&mut r, l, &b, &mut c),
             2 => {
-                let variables = if r.chance(4) { 270 + r.below(10) } else { r.below(16) };
+                let variables = if r.chance(2) { 270 + r.below(10) } else if r.chance(2) { 775 + r.below(10) } else { r.below(16) };
                 let words = random::clause_words(&mut r, variables);
                 let budget = if r.chance(30) { r.below(5) as u64 } else { 10_000 };
-                compare_search(&mut r, &words, variables, budget, &mut c);
-                if let Ok((t, _)) = reference::parse(&b) {
+                compare_search(&mut r, l, &words, variables, budget, &mut c);
+                if let Ok((t, _)) = reference::parse(l, &b) {
                     let words = reference::words_of(&reference::clause_list(&t));
                     let n = t.count();
-                    compare_search(&mut r, &words, n * (n - 1) / 2, 3000, &mut c);
+                    compare_search(&mut r, l, &words, n * (n - 1) / 2, 3000, &mut c);
                 }
             }
             3 => {
-                let m = any_map(&mut r, &t, &valid);
-                compare_map(&mut r, &b, &m, &mut c);
+                let m = any_map(&mut r, l, &t, &valid);
+                compare_map(&mut r, l, &b, &m, &mut c);
             }
-            4 => compare_reduce(&mut r, &b, &mut c),
+            4 => compare_reduce(&mut r, l, &b, &mut c),
             _ => {
                 let n = 1 + r.below(6);
                 let small = match r.below(3) {

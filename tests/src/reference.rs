@@ -2,9 +2,26 @@
 
 use std::collections::{BTreeMap, BTreeSet, VecDeque};
 
-pub const STATES: usize = 24;
-pub const SYMBOLS: usize = 32;
-pub const BOTTOM: usize = 24;
+pub const BOTTOM: usize = 40;
+
+/// The limits that a table is read at.
+#[derive(Clone, Copy, Debug, PartialEq, Eq)]
+pub struct Limits {
+    pub states: usize,
+    pub symbols: usize,
+}
+
+/// The limits of a caller that gives none, and the largest.
+pub const STANDARD: Limits = Limits { states: 24, symbols: 32 };
+pub const LARGEST: Limits = Limits { states: 40, symbols: 64 };
+
+impl Limits {
+    /// 39: a limit of zero or past its maximum.
+    fn judged(self) -> Result<(), u8> {
+        let fine = (1..=LARGEST.states).contains(&self.states) && (1..=LARGEST.symbols).contains(&self.symbols);
+        if fine { Ok(()) } else { Err(39) }
+    }
+}
 
 /// A table as the file holds it.
 #[derive(Clone, Debug, PartialEq, Eq)]
@@ -66,9 +83,9 @@ fn quads(bytes: &[u8]) -> Vec<[u8; 4]> {
 }
 
 /// The first of 4 to 8 that applies to the parts of a file.
-fn fault(table: &Table) -> Option<u8> {
+fn fault(l: Limits, table: &Table) -> Option<u8> {
     let n = table.count();
-    if table.symbols.len() > SYMBOLS || n == 0 || n > STATES {
+    if table.symbols.len() > l.symbols || n == 0 || n > l.states {
         return Some(4);
     }
     if table.internals.len() > 1024 || table.calls.len() > 1024 || table.returns.len() > 4096 {
@@ -98,8 +115,9 @@ fn fault(table: &Table) -> Option<u8> {
 }
 
 /// Reading: the table and the five starts, or the number of the first refusal that applies.
-pub fn parse(b: &[u8]) -> Result<(Table, [usize; 5]), u8> {
-    if b.len() < 12 || b.len() > 22_596 {
+pub fn parse(l: Limits, b: &[u8]) -> Result<(Table, [usize; 5]), u8> {
+    l.judged()?;
+    if b.len() < 12 || b.len() > 22_540 + l.states + l.symbols {
         return Err(1);
     }
     let t = b.len() - 12;
@@ -122,15 +140,15 @@ pub fn parse(b: &[u8]) -> Result<(Table, [usize; 5]), u8> {
         calls: triples(&b[at[3]..at[4]]),
         returns: quads(&b[at[4]..t]),
     };
-    match fault(&table) {
+    match fault(l, &table) {
         Some(number) => Err(number),
         None => Ok((table, [at[0], at[1], at[2], at[3], at[4]])),
     }
 }
 
 /// The operation read: the five starts.
-pub fn read(b: &[u8]) -> Result<[usize; 5], u8> {
-    parse(b).map(|x| x.1)
+pub fn read(l: Limits, b: &[u8]) -> Result<[usize; 5], u8> {
+    parse(l, b).map(|x| x.1)
 }
 
 /// The reachable tops of each state, by a worklist over pairs of state and top.
@@ -173,10 +191,10 @@ pub fn top_sets(t: &Table) -> Vec<BTreeSet<usize>> {
     tops
 }
 
-/// The operation tops: 24 words, and the number of tops found.
-pub fn tops(b: &[u8]) -> Result<([u32; 24], u32), u8> {
-    let (t, _) = parse(b)?;
-    let mut words = [0u32; 24];
+/// The operation tops: 40 words, and the number of tops found.
+pub fn tops(l: Limits, b: &[u8]) -> Result<([u64; 40], u32), u8> {
+    let (t, _) = parse(l, b)?;
+    let mut words = [0u64; 40];
     let mut found = 0;
     for (q, set) in top_sets(&t).iter().enumerate() {
         for &x in set {
@@ -314,8 +332,8 @@ pub fn words_of(list: &[Vec<u16>]) -> Vec<u16> {
 }
 
 /// The operation clauses: the clause count and the word count.
-pub fn clauses(b: &[u8], list: &mut [u16]) -> Result<(usize, usize), u8> {
-    let (t, _) = parse(b)?;
+pub fn clauses(l: Limits, b: &[u8], list: &mut [u16]) -> Result<(usize, usize), u8> {
+    let (t, _) = parse(l, b)?;
     let all = clause_list(&t);
     let words = words_of(&all);
     if words.len() > list.len() {
@@ -397,15 +415,16 @@ pub fn run_search(list: &[Vec<u16>], variables: usize, budget: u64) -> Outcome {
 }
 
 /// The operation search: the guesses made.
-pub fn search(list: &[u16], variables: usize, budget: u64, answer: &mut [u8]) -> Result<u64, u8> {
-    if variables > 276 {
+pub fn search(l: Limits, list: &[u16], variables: usize, budget: u64, answer: &mut [u8]) -> Result<u64, u8> {
+    l.judged()?;
+    if variables > l.states * (l.states - 1) / 2 {
         return Err(11);
     }
     let all = clauses_in(list).ok_or(11)?;
     for c in &all {
         let mut seen = BTreeSet::new();
-        for l in c {
-            let v = (l / 2) as usize;
+        for literal in c {
+            let v = (literal / 2) as usize;
             if v >= variables || !seen.insert(v) {
                 return Err(11);
             }
@@ -493,8 +512,8 @@ pub fn broken(t: &Table, map: &[u8]) -> Option<u8> {
 }
 
 /// The operation check: the class count.
-pub fn check(b: &[u8], map: &[u8]) -> Result<usize, u8> {
-    let (t, _) = parse(b)?;
+pub fn check(l: Limits, b: &[u8], map: &[u8]) -> Result<usize, u8> {
+    let (t, _) = parse(l, b)?;
     if map.len() != t.count() {
         return Err(15);
     }
@@ -534,9 +553,9 @@ pub fn quotient_table(t: &Table, map: &[u8]) -> Table {
 }
 
 /// The operation quotient: the length.
-pub fn quotient(b: &[u8], map: &[u8], out: &mut [u8]) -> Result<usize, u8> {
-    check(b, map)?;
-    let (t, _) = parse(b)?;
+pub fn quotient(l: Limits, b: &[u8], map: &[u8], out: &mut [u8]) -> Result<usize, u8> {
+    check(l, b, map)?;
+    let (t, _) = parse(l, b)?;
     let bytes = quotient_table(&t, map).bytes();
     if bytes.len() > out.len() {
         return Err(21);
@@ -546,8 +565,8 @@ pub fn quotient(b: &[u8], map: &[u8], out: &mut [u8]) -> Result<usize, u8> {
 }
 
 /// The operation reduce: class count, guesses, clause words and quotient length.
-pub fn reduce(b: &[u8], budget: u64, list: &mut [u16], map: &mut [u8], out: &mut [u8]) -> Result<(usize, u64, usize, usize), u8> {
-    let (t, _) = parse(b)?;
+pub fn reduce(l: Limits, b: &[u8], budget: u64, list: &mut [u16], map: &mut [u8], out: &mut [u8]) -> Result<(usize, u64, usize, usize), u8> {
+    let (t, _) = parse(l, b)?;
     let n = t.count();
     if map.len() < n {
         return Err(22);
@@ -564,7 +583,7 @@ pub fn reduce(b: &[u8], budget: u64, list: &mut [u16], map: &mut [u8], out: &mut
         Outcome::Solved(values, made) => (values, made),
     };
     let found = map_of(&values, n);
-    let classes = check(b, &found).expect("the check accepts the map");
+    let classes = check(l, b, &found).expect("the check accepts the map");
     let bytes = quotient_table(&t, &found).bytes();
     if bytes.len() > out.len() {
         return Err(21);

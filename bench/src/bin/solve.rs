@@ -5,6 +5,9 @@
 mod capi;
 #[path = "../dimacs.rs"]
 mod dimacs;
+#[path = "../../../tests/src/reference.rs"]
+#[allow(dead_code)]
+mod reference;
 
 /// Reads, searches with the program's budget, and writes.
 fn main() {

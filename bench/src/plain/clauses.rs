@@ -2,6 +2,7 @@
 
 use super::table::{parse, Table};
 use super::tops::{has_top, words_of, Words};
+use crate::reference::Limits;
 
 /// The list as far as it was counted, and whether it is written too.
 struct List<'a> {
@@ -29,16 +30,16 @@ impl List<'_> {
     }
 }
 
-/// The literals of a clause; it has at most 26.
+/// The literals of a clause; it has at most 42.
 struct Clause {
-    literals: [u16; 32],
+    literals: [u16; 42],
     count: usize,
 }
 
 impl Clause {
     /// A clause without literals.
     fn new() -> Self {
-        Clause { literals: [0; 32], count: 0 }
+        Clause { literals: [0; 42], count: 0 }
     }
 
     /// The literals so far.
@@ -157,11 +158,11 @@ fn live_returns(section: &[[u8; 4]], tops: &Words, count: u8, list: &mut List) {
 }
 
 /// The states in a word of tops, ascending.
-fn states_in(word: u32, count: u8) -> impl Iterator<Item = u8> {
+fn states_in(word: u64, count: u8) -> impl Iterator<Item = u8> {
     let mut rest = word & ((1 << count) - 1);
     std::iter::from_fn(move || {
         let u = rest.trailing_zeros() as u8;
-        if u == 32 {
+        if u == 64 {
             return None;
         }
         rest &= rest - 1;
@@ -191,8 +192,8 @@ pub fn list_of(t: &Table, tops: &Words, words: &mut [u16]) -> Result<(usize, usi
 }
 
 /// Clauses and words; the list.
-pub fn clauses(bytes: &[u8], list: &mut [u16]) -> Result<[u64; 2], u8> {
-    let (t, _) = parse(bytes)?;
+pub fn clauses(l: Limits, bytes: &[u8], list: &mut [u16]) -> Result<[u64; 2], u8> {
+    let (t, _) = parse(l, bytes)?;
     let (clauses, words) = list_of(&t, &words_of(&t), list)?;
     Ok([clauses as u64, words as u64])
 }

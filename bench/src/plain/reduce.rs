@@ -5,10 +5,11 @@ use super::quotient::quotient_read;
 use super::search::solve;
 use super::table::parse;
 use super::tops::words_of;
+use crate::reference::Limits;
 
 /// The map of an assignment: each state gets the class of the lowest state that is joined to it, or a new one.
-fn map_of(values: &[u8], n: usize) -> [u8; 24] {
-    let mut map = [0; 24];
+fn map_of(values: &[u8], n: usize) -> [u8; 40] {
+    let mut map = [0; 40];
     let mut next = 0;
     for q in 0..n {
         let first = q * q.saturating_sub(1) / 2;
@@ -24,8 +25,8 @@ fn map_of(values: &[u8], n: usize) -> [u8; 24] {
 }
 
 /// Classes, guesses, clause words, quotient length; the list, the map and the quotient.
-pub fn reduce(bytes: &[u8], budget: u64, list: &mut [u16], map: &mut [u8], out: &mut [u8]) -> Result<[u64; 4], u8> {
-    let (t, _) = parse(bytes)?;
+pub fn reduce(l: Limits, bytes: &[u8], budget: u64, list: &mut [u16], map: &mut [u8], out: &mut [u8]) -> Result<[u64; 4], u8> {
+    let (t, _) = parse(l, bytes)?;
     let n = t.count();
     if map.len() < n {
         return Err(22);

@@ -1,5 +1,7 @@
 //! Reading a table.
 
+use crate::reference::Limits;
+
 /// The sections of a table that was read.
 pub struct Table<'a> {
     pub symbols: &'a [u8],
@@ -17,8 +19,8 @@ impl Table<'_> {
 }
 
 /// The five section starts by the trailer's distances, or 1 to 3.
-fn starts_of(bytes: &[u8]) -> Result<[usize; 5], u8> {
-    if !(12..=22_596).contains(&bytes.len()) {
+fn starts_of(l: Limits, bytes: &[u8]) -> Result<[usize; 5], u8> {
+    if !(12..=l.states + l.symbols + 22_540).contains(&bytes.len()) {
         return Err(1);
     }
     let (body, trailer) = bytes.split_at(bytes.len() - 12);
@@ -38,8 +40,8 @@ fn starts_of(bytes: &[u8]) -> Result<[usize; 5], u8> {
 }
 
 /// 4: the counts.
-fn counts_fit(t: &Table) -> bool {
-    t.symbols.len() <= 32 && (1..=24).contains(&t.count()) && t.internals.len() <= 1024 && t.calls.len() <= 1024 && t.returns.len() <= 4096
+fn counts_fit(l: Limits, t: &Table) -> bool {
+    t.symbols.len() <= l.symbols && (1..=l.states).contains(&t.count()) && t.internals.len() <= 1024 && t.calls.len() <= 1024 && t.returns.len() <= 4096
 }
 
 /// 7: the states and symbols of every record.
@@ -57,8 +59,8 @@ fn records_ascend(t: &Table) -> bool {
 }
 
 /// The first of 4 to 8 that applies.
-fn test(t: &Table) -> Result<(), u8> {
-    if !counts_fit(t) {
+fn test(l: Limits, t: &Table) -> Result<(), u8> {
+    if !counts_fit(l, t) {
         return Err(4);
     }
     if t.symbols.iter().any(|&x| x > 2) || t.states.iter().any(|&x| x > 3) {
@@ -76,9 +78,17 @@ fn test(t: &Table) -> Result<(), u8> {
     Ok(())
 }
 
-/// The sections and their starts, or 1 to 8.
-pub fn parse(bytes: &[u8]) -> Result<(Table<'_>, [usize; 5]), u8> {
-    let starts = starts_of(bytes)?;
+/// Whether 39 does not apply.
+pub fn limits_fit(l: Limits) -> bool {
+    (1..=40).contains(&l.states) && (1..=64).contains(&l.symbols)
+}
+
+/// The sections and their starts, or 39, 1 to 8.
+pub fn parse(l: Limits, bytes: &[u8]) -> Result<(Table<'_>, [usize; 5]), u8> {
+    if !limits_fit(l) {
+        return Err(39);
+    }
+    let starts = starts_of(l, bytes)?;
     let [_, states, internals, calls, returns] = starts;
     let table = Table {
         symbols: &bytes[..states],
@@ -87,11 +97,11 @@ pub fn parse(bytes: &[u8]) -> Result<(Table<'_>, [usize; 5]), u8> {
         calls: bytes[calls..returns].as_chunks().0,
         returns: bytes[returns..bytes.len() - 12].as_chunks().0,
     };
-    test(&table)?;
+    test(l, &table)?;
     Ok((table, starts))
 }
 
 /// The five section starts.
-pub fn read(bytes: &[u8]) -> Result<[u64; 5], u8> {
-    parse(bytes).map(|(_, starts)| starts.map(|x| x as u64))
+pub fn read(l: Limits, bytes: &[u8]) -> Result<[u64; 5], u8> {
+    parse(l, bytes).map(|(_, starts)| starts.map(|x| x as u64))
 }

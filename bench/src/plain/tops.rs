@@ -1,9 +1,10 @@
 //! The reachable stack tops of a table.
 
 use super::table::{parse, Table};
+use crate::reference::Limits;
 
 /// A word of tops a state.
-pub type Words = [u32; 24];
+pub type Words = [u64; 40];
 
 /// Whether top x is in the word of state q.
 pub fn has_top(words: &Words, q: u8, x: u8) -> bool {
@@ -29,10 +30,10 @@ fn round(t: &Table, words: &mut Words) {
 
 /// All records pass until a round changes nothing.
 pub fn words_of(t: &Table) -> Words {
-    let mut words = [0; 24];
+    let mut words = [0; 40];
     for (word, state) in words.iter_mut().zip(t.states) {
         if state % 2 == 1 {
-            *word = 1 << 24;
+            *word = 1 << 40;
         }
     }
     loop {
@@ -44,13 +45,11 @@ pub fn words_of(t: &Table) -> Words {
     }
 }
 
-/// The 24 words, then the number of tops found.
-pub fn tops(bytes: &[u8]) -> Result<[u64; 25], u8> {
-    let words = words_of(&parse(bytes)?.0);
-    let mut answer = [0; 25];
-    for (value, &word) in answer.iter_mut().zip(&words) {
-        *value = word as u64;
-    }
-    answer[24] = words.iter().map(|w| w.count_ones() as u64).sum();
+/// The 40 words, then the number of tops found.
+pub fn tops(l: Limits, bytes: &[u8]) -> Result<[u64; 41], u8> {
+    let words = words_of(&parse(l, bytes)?.0);
+    let mut answer = [0; 41];
+    answer[..40].copy_from_slice(&words);
+    answer[40] = words.iter().map(|w| w.count_ones() as u64).sum();
     Ok(answer)
 }

@@ -6,13 +6,14 @@ ghost use lib.Dec.{leb};
 ghost use lib.ListN.{length};
 ghost use Rattle.io.specs.Digits.{glyph};
 ghost use Rattle.lists.specs.Lists.{over};
-ghost use Rattle.table.specs.Limits.{standard};
+ghost use Rattle.basilvault.specs.Program.{widest};
 ghost use Rattle.table.specs.File.{tableOf};
 ghost use Rattle.table.specs.Reading.{Readable};
 ghost use Rattle.table.specs.Language.{count};
 ghost use Rattle.basilvault.specs.Text.{hexText};
 use libc::STDIN_FILENO;
 use libc::STDOUT_FILENO;
+use limits::Limits;
 use reduce::Reduction;
 use table::Reading;
 use table::Section;
@@ -81,12 +82,12 @@ fn put_hex(bytes: &[u8], text: &mut [u8])
 
 // Answers whether the bytes are no more than a table has; more are not printed.
 fn say_table(bytes: &[u8]) -> bool
-    ensures { λ r. ⌜ r ≡ leb (length (now (bytes .entry))) 22596 ⌝ }
+    ensures { λ r. ⌜ r ≡ leb (length (now (bytes .entry))) 22644 ⌝ }
 {
-    if 22596 < bytes.len() {
+    if 22644 < bytes.len() {
         return false;
     }
-    let mut text = [0u8; 67788];
+    let mut text = [0u8; 67932];
     put_hex(bytes, &mut text);
     say(b"table");
     say(&text[..3 * bytes.len()]);
@@ -94,11 +95,21 @@ fn say_table(bytes: &[u8]) -> bool
     true
 }
 
+// "The program uses 40 and 64."
+fn widest() -> Limits
+    ensures { λ r. ⌜ r ≡ widest ⌝ }
+{
+    Limits {
+        states: 40,
+        symbols: 64,
+    }
+}
+
 // How many states a table has that reduce did not refuse.
 fn state_count(table: &[u8]) -> usize
-    ensures { λ r. ⌜ (r ≤ 24) × (Readable standard (now (table .entry)) → r ≡ count (tableOf (now (table .entry)))) ⌝ }
+    ensures { λ r. ⌜ (r ≤ 40) × (Readable widest (now (table .entry)) → r ≡ count (tableOf (now (table .entry)))) ⌝ }
 {
-    let reading = table::read(table);
+    let reading = table::read_within(widest(), table);
     match reading {
         Reading::Sections(starts) => {
             let states = table::part(table, starts, Section::States);
@@ -110,9 +121,9 @@ fn state_count(table: &[u8]) -> usize
 
 fn reduce_lent(table: &[u8]) {
     let mut list = [0u16; 32768];
-    let mut map = [0u8; 24];
-    let mut out = [0u8; 22596];
-    let answer = reduce::reduce(table, 100000, &mut list, &mut map, &mut out);
+    let mut map = [0u8; 40];
+    let mut out = [0u8; 22644];
+    let answer = reduce::reduce_within(widest(), table, 100000, &mut list, &mut map, &mut out);
     match answer {
         Reduction::Delivered {
             classes,
@@ -134,7 +145,7 @@ fn reduce_lent(table: &[u8]) {
 
 // A file longer than any table is read one byte past the limit, and so refused by 1.
 fn main() {
-    let mut space = [0u8; 22597];
+    let mut space = [0u8; 22645];
     let length = io::read_full(STDIN_FILENO, &mut space);
     reduce_lent(&space[..length]);
 }

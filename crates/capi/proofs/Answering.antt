@@ -27,10 +27,10 @@ unfolding over
 stored-none values = stored-all [] values (omega arith)
 
 -- the words stand in all places but the last
-module _ {found : ℕ} {words all : List ℕ} {q : ℕ} (l : length words ≡ 24) (w : Writing words (replicate 25 found) all q) where
-  pub last-kept : 24 ≤ q → all ≡ words ++ (found ∷ [])
+module _ {found : ℕ} {words all : List ℕ} {q : ℕ} (l : length words ≡ 40) (w : Writing words (replicate 41 found) all q) where
+  pub last-kept : 40 ≤ q → all ≡ words ++ (found ∷ [])
   unfolding over
-  last-kept h = write-all w (omega arith) ∙ ap (λ n. words ++ drop n (replicate 25 found)) l
+  last-kept h = write-all w (omega arith) ∙ ap (λ n. words ++ drop n (replicate 41 found)) l
 
 -- ---- an answer whose number is m and whose values are vs, as the code found them
 

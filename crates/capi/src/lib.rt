@@ -3,7 +3,7 @@
 // Each function returns the refusal's number, or 0. The answer's values are the first elements of `values` where it has room for all of them.
 ghost use mathlib.Core.Path.{_≡_};
 ghost use mathlib.Core.List.{[], _∷_, _++_};
-ghost use Rattle.table.specs.Limits.{standard};
+ghost use Rattle.limits.specs.Limits.{standard};
 ghost use Rattle.table.specs.Reading.{readOf};
 ghost use Rattle.tops.specs.Tops.{topsOf};
 ghost use Rattle.clauses.specs.Clauses.{clausesOf};
@@ -13,6 +13,7 @@ ghost use Rattle.quotient.specs.Quotient.{quotientOf};
 ghost use Rattle.reduce.specs.Reduce.{reduceOf};
 ghost use Rattle.capi.specs.Answers.{stored, readOut, topsOut, clausesOut, searchOut, checkOut, quotientOut, reduceOut};
 use clauses::Listed;
+use limits::Limits;
 use maps::Checked;
 use quotient::Written;
 use reduce::Reduction;
@@ -34,13 +35,13 @@ fn store(answer: &[u64], values: &mut [u64])
 }
 
 // The words, then the number found: the words take all places but the last.
-fn words_and_count(words: [u32; 24], found: u32) -> [u64; 25]
+fn words_and_count(words: [u64; 40], found: u32) -> [u64; 41]
     ensures { λ r. ⌜ r ≡ words ++ (found ∷ []) ⌝ }
 {
-    let mut all = [found as u64; 25];
+    let mut all = [found as u64; 41];
     let mut q: usize = 0;
-    'words: while q < 24 {
-        all[q] = words[q] as u64;
+    'words: while q < 40 {
+        all[q] = words[q];
         q += 1;
     }
     all
@@ -48,12 +49,18 @@ fn words_and_count(words: [u32; 24], found: u32) -> [u64; 25]
 
 // Reads a table. Five values: the starts of symbols, states, internals, calls and returns.
 #[no_mangle]
-pub extern "C" fn basilvault_read(table: &[u8], values: &mut [u64]) -> u32
+pub extern "C" fn basilvault_read_within(
+    states: usize,
+    symbols: usize,
+    table: &[u8],
+    values: &mut [u64],
+) -> u32
     ensures { λ r. ⌜
         record { number = r; buffers = []; values = now (values .exit) }
-        ≡ readOut (now (values .entry)) (readOf standard (now (table .entry))) ⌝ }
+        ≡ readOut (now (values .entry)) (readOf (record { states = states; symbols = symbols }) (now (table .entry))) ⌝ }
 {
-    let reading = table::read(table);
+    let limits = Limits { states, symbols };
+    let reading = table::read_within(limits, table);
     match reading {
         Reading::Sections(starts) => {
             let answer = [
@@ -70,14 +77,30 @@ pub extern "C" fn basilvault_read(table: &[u8], values: &mut [u64]) -> u32
     }
 }
 
-// Works out the reachable tops. 25 values: a word for each possible state, then the number of tops found.
+// The same at the limits of a caller that gives none.
 #[no_mangle]
-pub extern "C" fn basilvault_tops(table: &[u8], values: &mut [u64]) -> u32
+pub extern "C" fn basilvault_read(table: &[u8], values: &mut [u64]) -> u32
     ensures { λ r. ⌜
         record { number = r; buffers = []; values = now (values .exit) }
-        ≡ topsOut (now (values .entry)) (topsOf standard (now (table .entry))) ⌝ }
+        ≡ readOut (now (values .entry)) (readOf standard (now (table .entry))) ⌝ }
 {
-    let tops = tops::tops(table);
+    basilvault_read_within(limits::STATES, limits::SYMBOLS, table, values)
+}
+
+// Works out the reachable tops. 41 values: a word for each possible state, then the number of tops found.
+#[no_mangle]
+pub extern "C" fn basilvault_tops_within(
+    states: usize,
+    symbols: usize,
+    table: &[u8],
+    values: &mut [u64],
+) -> u32
+    ensures { λ r. ⌜
+        record { number = r; buffers = []; values = now (values .exit) }
+        ≡ topsOut (now (values .entry)) (topsOf (record { states = states; symbols = symbols }) (now (table .entry))) ⌝ }
+{
+    let limits = Limits { states, symbols };
+    let tops = tops::tops_within(limits, table);
     let number = tops.number;
     if number != 0 {
         return number as u32;
@@ -88,14 +111,31 @@ pub extern "C" fn basilvault_tops(table: &[u8], values: &mut [u64]) -> u32
     0
 }
 
+// The same at the limits of a caller that gives none.
+#[no_mangle]
+pub extern "C" fn basilvault_tops(table: &[u8], values: &mut [u64]) -> u32
+    ensures { λ r. ⌜
+        record { number = r; buffers = []; values = now (values .exit) }
+        ≡ topsOut (now (values .entry)) (topsOf standard (now (table .entry))) ⌝ }
+{
+    basilvault_tops_within(limits::STATES, limits::SYMBOLS, table, values)
+}
+
 // Writes the clause list. Two values: clauses and words.
 #[no_mangle]
-pub extern "C" fn basilvault_clauses(table: &[u8], list: &mut [u16], values: &mut [u64]) -> u32
+pub extern "C" fn basilvault_clauses_within(
+    states: usize,
+    symbols: usize,
+    table: &[u8],
+    list: &mut [u16],
+    values: &mut [u64],
+) -> u32
     ensures { λ r. ⌜
         record { number = r; buffers = now (list .exit) ∷ []; values = now (values .exit) }
-        ≡ clausesOut (now (values .entry)) (clausesOf standard (now (table .entry)) (now (list .entry))) ⌝ }
+        ≡ clausesOut (now (values .entry)) (clausesOf (record { states = states; symbols = symbols }) (now (table .entry)) (now (list .entry))) ⌝ }
 {
-    let listed = clauses::clauses(table, list);
+    let limits = Limits { states, symbols };
+    let listed = clauses::clauses_within(limits, table, list);
     match listed {
         Listed::List { clauses, words } => {
             let answer = [clauses as u64, words as u64];
@@ -106,9 +146,21 @@ pub extern "C" fn basilvault_clauses(table: &[u8], list: &mut [u16], values: &mu
     }
 }
 
+// The same at the limits of a caller that gives none.
+#[no_mangle]
+pub extern "C" fn basilvault_clauses(table: &[u8], list: &mut [u16], values: &mut [u64]) -> u32
+    ensures { λ r. ⌜
+        record { number = r; buffers = now (list .exit) ∷ []; values = now (values .exit) }
+        ≡ clausesOut (now (values .entry)) (clausesOf standard (now (table .entry)) (now (list .entry))) ⌝ }
+{
+    basilvault_clauses_within(limits::STATES, limits::SYMBOLS, table, list, values)
+}
+
 // Searches for an assignment. One value: the guesses made.
 #[no_mangle]
-pub extern "C" fn basilvault_search(
+pub extern "C" fn basilvault_search_within(
+    states: usize,
+    symbols: usize,
     list: &[u16],
     variables: usize,
     budget: u64,
@@ -117,9 +169,10 @@ pub extern "C" fn basilvault_search(
 ) -> u32
     ensures { λ r. ⌜
         record { number = r; buffers = now (answer .exit) ∷ []; values = now (values .exit) }
-        ≡ searchOut (now (values .entry)) (searchOf 276 (now (list .entry)) variables budget (now (answer .entry))) ⌝ }
+        ≡ searchOut (now (values .entry)) (searchOf (record { states = states; symbols = symbols }) (now (list .entry)) variables budget (now (answer .entry))) ⌝ }
 {
-    let solution = search::search(list, variables, budget, answer);
+    let limits = Limits { states, symbols };
+    let solution = search::search_within(limits, list, variables, budget, answer);
     match solution {
         Solution::Solved(guesses) => {
             let made = [guesses];
@@ -130,14 +183,45 @@ pub extern "C" fn basilvault_search(
     }
 }
 
+// The same at the limits of a caller that gives none.
+#[no_mangle]
+pub extern "C" fn basilvault_search(
+    list: &[u16],
+    variables: usize,
+    budget: u64,
+    answer: &mut [u8],
+    values: &mut [u64],
+) -> u32
+    ensures { λ r. ⌜
+        record { number = r; buffers = now (answer .exit) ∷ []; values = now (values .exit) }
+        ≡ searchOut (now (values .entry)) (searchOf standard (now (list .entry)) variables budget (now (answer .entry))) ⌝ }
+{
+    basilvault_search_within(
+        limits::STATES,
+        limits::SYMBOLS,
+        list,
+        variables,
+        budget,
+        answer,
+        values,
+    )
+}
+
 // Checks a map. One value: the class count.
 #[no_mangle]
-pub extern "C" fn basilvault_check(table: &[u8], map: &[u8], values: &mut [u64]) -> u32
+pub extern "C" fn basilvault_check_within(
+    states: usize,
+    symbols: usize,
+    table: &[u8],
+    map: &[u8],
+    values: &mut [u64],
+) -> u32
     ensures { λ r. ⌜
         record { number = r; buffers = []; values = now (values .exit) }
-        ≡ checkOut (now (values .entry)) (checkOf standard (now (table .entry)) (now (map .entry))) ⌝ }
+        ≡ checkOut (now (values .entry)) (checkOf (record { states = states; symbols = symbols }) (now (table .entry)) (now (map .entry))) ⌝ }
 {
-    let checked = maps::check(table, map);
+    let limits = Limits { states, symbols };
+    let checked = maps::check_within(limits, table, map);
     match checked {
         Checked::Accepted(classes) => {
             let answer = [classes as u64];
@@ -148,7 +232,43 @@ pub extern "C" fn basilvault_check(table: &[u8], map: &[u8], values: &mut [u64])
     }
 }
 
+// The same at the limits of a caller that gives none.
+#[no_mangle]
+pub extern "C" fn basilvault_check(table: &[u8], map: &[u8], values: &mut [u64]) -> u32
+    ensures { λ r. ⌜
+        record { number = r; buffers = []; values = now (values .exit) }
+        ≡ checkOut (now (values .entry)) (checkOf standard (now (table .entry)) (now (map .entry))) ⌝ }
+{
+    basilvault_check_within(limits::STATES, limits::SYMBOLS, table, map, values)
+}
+
 // Writes the quotient under a map. One value: its length.
+#[no_mangle]
+pub extern "C" fn basilvault_quotient_within(
+    states: usize,
+    symbols: usize,
+    table: &[u8],
+    map: &[u8],
+    out: &mut [u8],
+    values: &mut [u64],
+) -> u32
+    ensures { λ r. ⌜
+        record { number = r; buffers = now (out .exit) ∷ []; values = now (values .exit) }
+        ≡ quotientOut (now (values .entry)) (quotientOf (record { states = states; symbols = symbols }) (now (table .entry)) (now (map .entry)) (now (out .entry))) ⌝ }
+{
+    let limits = Limits { states, symbols };
+    let written = quotient::quotient_within(limits, table, map, out);
+    match written {
+        Written::Length(length) => {
+            let answer = [length as u64];
+            store(&answer, values);
+            0
+        }
+        Written::Refused(number) => number as u32,
+    }
+}
+
+// The same at the limits of a caller that gives none.
 #[no_mangle]
 pub extern "C" fn basilvault_quotient(
     table: &[u8],
@@ -160,18 +280,44 @@ pub extern "C" fn basilvault_quotient(
         record { number = r; buffers = now (out .exit) ∷ []; values = now (values .exit) }
         ≡ quotientOut (now (values .entry)) (quotientOf standard (now (table .entry)) (now (map .entry)) (now (out .entry))) ⌝ }
 {
-    let written = quotient::quotient(table, map, out);
-    match written {
-        Written::Length(length) => {
-            let answer = [length as u64];
-            store(&answer, values);
-            0
-        }
-        Written::Refused(number) => number as u32,
-    }
+    basilvault_quotient_within(limits::STATES, limits::SYMBOLS, table, map, out, values)
 }
 
 // Reduces a table. Four values: classes, guesses, clause words and the quotient's length.
+#[no_mangle]
+pub extern "C" fn basilvault_reduce_within(
+    states: usize,
+    symbols: usize,
+    table: &[u8],
+    budget: u64,
+    list: &mut [u16],
+    map: &mut [u8],
+    out: &mut [u8],
+    values: &mut [u64],
+) -> u32
+    ensures { λ r. ⌜
+        record { number = r; buffers = now (list .exit) ∷ now (map .exit) ∷ now (out .exit) ∷ []; values = now (values .exit) }
+        ≡ reduceOut (now (values .entry))
+        (reduceOf (record { states = states; symbols = symbols }) (now (table .entry)) budget (now (list .entry)) (now (map .entry)) (now (out .entry))) ⌝ }
+{
+    let limits = Limits { states, symbols };
+    let reduction = reduce::reduce_within(limits, table, budget, list, map, out);
+    match reduction {
+        Reduction::Delivered {
+            classes,
+            guesses,
+            words,
+            length,
+        } => {
+            let answer = [classes as u64, guesses, words as u64, length as u64];
+            store(&answer, values);
+            0
+        }
+        Reduction::Refused(number) => number as u32,
+    }
+}
+
+// The same at the limits of a caller that gives none.
 #[no_mangle]
 pub extern "C" fn basilvault_reduce(
     table: &[u8],
@@ -186,18 +332,14 @@ pub extern "C" fn basilvault_reduce(
         ≡ reduceOut (now (values .entry))
         (reduceOf standard (now (table .entry)) budget (now (list .entry)) (now (map .entry)) (now (out .entry))) ⌝ }
 {
-    let reduction = reduce::reduce(table, budget, list, map, out);
-    match reduction {
-        Reduction::Delivered {
-            classes,
-            guesses,
-            words,
-            length,
-        } => {
-            let answer = [classes as u64, guesses, words as u64, length as u64];
-            store(&answer, values);
-            0
-        }
-        Reduction::Refused(number) => number as u32,
-    }
+    basilvault_reduce_within(
+        limits::STATES,
+        limits::SYMBOLS,
+        table,
+        budget,
+        list,
+        map,
+        out,
+        values,
+    )
 }

@@ -1,6 +1,7 @@
 // Runs the operations on the cases of its standard input, and prints each answer and every buffer.
 //
-// A case is the operation's number, the length of the rest, and the rest. Lengths, budgets and words are 16-bit little-endian numbers.
+// A case is the operation's number, the state limit and the symbol limit, a byte each; the length of the rest, and the rest. Lengths, budgets and
+// words are 16-bit little-endian numbers.
 //
 //   1 read      the table
 //   2 tops      the table
@@ -17,6 +18,7 @@ ghost use Prim.Native.Nat.{_≤_, _<_};
 ghost use lib.ListN.{length};
 use clauses::Listed;
 use libc::STDOUT_FILENO;
+use limits::Limits;
 use maps::Checked;
 use quotient::Written;
 use reduce::Reduction;
@@ -72,9 +74,9 @@ fn say_bytes(bytes: &[u8]) {
 }
 
 // The five starts, or the refusal.
-fn say_read(table: &[u8]) -> bool {
+fn say_read(limits: Limits, table: &[u8]) -> bool {
     say(b"read");
-    let reading = table::read(table);
+    let reading = table::read_within(limits, table);
     match reading {
         Reading::Sections(starts) => {
             number(0);
@@ -92,14 +94,14 @@ fn say_read(table: &[u8]) -> bool {
 }
 
 // The number of tops found, and the word of each state.
-fn say_tops(table: &[u8]) -> bool {
+fn say_tops(limits: Limits, table: &[u8]) -> bool {
     say(b"tops");
-    let t = tops::tops(table);
+    let t = tops::tops_within(limits, table);
     number(t.number as u64);
     number(t.found as u64);
     let mut q: usize = 0;
-    'words: while q < 24 {
-        number(t.words[q] as u64);
+    'words: while q < 40 {
+        number(t.words[q]);
         q += 1;
     }
     say(b"\n")
@@ -116,12 +118,12 @@ fn say_words(words: &[u16]) {
 }
 
 // Writes the clauses into the first words of a buffer.
-fn say_listed(table: &[u8], space: &mut [u16], length: usize) -> bool {
+fn say_listed(limits: Limits, table: &[u8], space: &mut [u16], length: usize) -> bool {
     if space.len() < length {
         return say(b" ?\n");
     }
     let list = &mut space[..length];
-    let listed = clauses::clauses(table, list);
+    let listed = clauses::clauses_within(limits, table, list);
     match listed {
         Listed::List { clauses, words } => {
             number(0);
@@ -137,14 +139,14 @@ fn say_listed(table: &[u8], space: &mut [u16], length: usize) -> bool {
 }
 
 // The table behind the length of the list.
-fn say_clauses(rest: &[u8]) -> bool {
+fn say_clauses(limits: Limits, rest: &[u8]) -> bool {
     say(b"clauses");
     if rest.len() < 2 {
         return say(b" ?\n");
     }
     let length = word_at(rest, 0);
     let mut list = [7u16; 8192];
-    say_listed(&rest[2..], &mut list, length)
+    say_listed(limits, &rest[2..], &mut list, length)
 }
 
 // The clause words of a search, from their bytes.
@@ -164,6 +166,7 @@ fn words_from(bytes: &[u8], list: &mut [u16]) -> usize
 
 // Searches in the first words of a list, for an answer in the first bytes of a buffer.
 fn say_found(
+    limits: Limits,
     list: &[u16],
     words: usize,
     variables: usize,
@@ -178,7 +181,7 @@ fn say_found(
         return say(b" ?\n");
     }
     let answer = &mut space[..length];
-    let solution = search::search(&list[..words], variables, budget, answer);
+    let solution = search::search_within(limits, &list[..words], variables, budget, answer);
     match solution {
         Solution::Solved(guesses) => {
             number(0);
@@ -193,7 +196,7 @@ fn say_found(
 }
 
 // The clause words behind the variables, the budget and the length of the answer.
-fn say_search(rest: &[u8]) -> bool {
+fn say_search(limits: Limits, rest: &[u8]) -> bool {
     say(b"search");
     if rest.len() < 6 {
         return say(b" ?\n");
@@ -203,18 +206,18 @@ fn say_search(rest: &[u8]) -> bool {
     let length = word_at(rest, 4);
     let mut list = [0u16; 8192];
     let words = words_from(&rest[6..], &mut list);
-    let mut answer = [7u8; 512];
-    say_found(&list, words, variables, budget, &mut answer, length)
+    let mut answer = [7u8; 1024];
+    say_found(limits, &list, words, variables, budget, &mut answer, length)
 }
 
 // Checks the map at the beginning on the table behind it.
-fn say_check(rest: &[u8]) -> bool {
+fn say_check(limits: Limits, rest: &[u8]) -> bool {
     say(b"check");
     let end = 2 + word_at(rest, 0);
     if rest.len() < end {
         return say(b" ?\n");
     }
-    let checked = maps::check(&rest[end..], &rest[2..end]);
+    let checked = maps::check_within(limits, &rest[end..], &rest[2..end]);
     match checked {
         Checked::Accepted(classes) => {
             number(0);
@@ -228,12 +231,12 @@ fn say_check(rest: &[u8]) -> bool {
 }
 
 // Writes the quotient into the first bytes of a buffer.
-fn say_written(table: &[u8], map: &[u8], space: &mut [u8], length: usize) -> bool {
+fn say_written(limits: Limits, table: &[u8], map: &[u8], space: &mut [u8], length: usize) -> bool {
     if space.len() < length {
         return say(b" ?\n");
     }
     let out = &mut space[..length];
-    let written = quotient::quotient(table, map, out);
+    let written = quotient::quotient_within(limits, table, map, out);
     match written {
         Written::Length(bytes) => {
             number(0);
@@ -248,7 +251,7 @@ fn say_written(table: &[u8], map: &[u8], space: &mut [u8], length: usize) -> boo
 }
 
 // The quotient under the map at the beginning of the table behind it.
-fn say_quotient(rest: &[u8]) -> bool {
+fn say_quotient(limits: Limits, rest: &[u8]) -> bool {
     say(b"quotient");
     let end = 4 + word_at(rest, 0);
     if rest.len() < end {
@@ -256,18 +259,19 @@ fn say_quotient(rest: &[u8]) -> bool {
     }
     let length = word_at(rest, 2);
     let mut out = [7u8; 4096];
-    say_written(&rest[end..], &rest[4..end], &mut out, length)
+    say_written(limits, &rest[end..], &rest[4..end], &mut out, length)
 }
 
 // Reduces a table with buffers that exist, and prints the clause list, the map buffer and the output.
 fn say_reduction(
+    limits: Limits,
     table: &[u8],
     budget: u64,
     list: &mut [u16],
     map: &mut [u8],
     out: &mut [u8],
 ) -> bool {
-    let reduction = reduce::reduce(table, budget, list, map, out);
+    let reduction = reduce::reduce_within(limits, table, budget, list, map, out);
     match reduction {
         Reduction::Delivered {
             classes,
@@ -292,7 +296,13 @@ fn say_reduction(
 }
 
 // Reduces the table behind the budget and three lengths, with the first parts of the buffers, of these lengths.
-fn say_reduced(rest: &[u8], list: &mut [u16], map: &mut [u8], out: &mut [u8]) -> bool {
+fn say_reduced(
+    limits: Limits,
+    rest: &[u8],
+    list: &mut [u16],
+    map: &mut [u8],
+    out: &mut [u8],
+) -> bool {
     let budget = word_at(rest, 0) as u64;
     let words = word_at(rest, 2);
     let states = word_at(rest, 4);
@@ -310,6 +320,7 @@ fn say_reduced(rest: &[u8], list: &mut [u16], map: &mut [u8], out: &mut [u8]) ->
         return say(b" ?\n");
     }
     say_reduction(
+        limits,
         &rest[8..],
         budget,
         &mut list[..words],
@@ -319,49 +330,53 @@ fn say_reduced(rest: &[u8], list: &mut [u16], map: &mut [u8], out: &mut [u8]) ->
 }
 
 // A reduction, with buffers for it.
-fn say_reduce(rest: &[u8]) -> bool {
+fn say_reduce(limits: Limits, rest: &[u8]) -> bool {
     say(b"reduce");
     let mut list = [7u16; 4096];
     let mut map = [7u8; 64];
     let mut out = [7u8; 1024];
-    say_reduced(rest, &mut list, &mut map, &mut out)
+    say_reduced(limits, rest, &mut list, &mut map, &mut out)
 }
 
 // One case by its operation's number.
-fn say_case(operation: u8, rest: &[u8]) -> bool {
+fn say_case(operation: u8, limits: Limits, rest: &[u8]) -> bool {
     match operation {
-        1 => say_read(rest),
-        2 => say_tops(rest),
-        3 => say_clauses(rest),
-        4 => say_search(rest),
-        5 => say_check(rest),
-        6 => say_quotient(rest),
-        7 => say_reduce(rest),
+        1 => say_read(limits, rest),
+        2 => say_tops(limits, rest),
+        3 => say_clauses(limits, rest),
+        4 => say_search(limits, rest),
+        5 => say_check(limits, rest),
+        6 => say_quotient(limits, rest),
+        7 => say_reduce(limits, rest),
         _ => say(b"?\n"),
     }
 }
 
 // A case of a known length: false where the input ends before it does.
-fn read_case(operation: u8, rest: &mut [u8]) -> bool {
+fn read_case(operation: u8, limits: Limits, rest: &mut [u8]) -> bool {
     let length = io::read_full(0, rest);
     if length < rest.len() {
         return false;
     }
-    say_case(operation, rest)
+    say_case(operation, limits, rest)
 }
 
 // One case; false at the end of the input.
 fn next_case(space: &mut [u8]) -> bool {
-    let mut head = [0u8; 3];
+    let mut head = [0u8; 5];
     let got = io::read_full(0, &mut head);
-    if got < 3 {
+    if got < 5 {
         return false;
     }
-    let n = wide(head[1]) + 256 * wide(head[2]);
+    let limits = Limits {
+        states: wide(head[1]),
+        symbols: wide(head[2]),
+    };
+    let n = wide(head[3]) + 256 * wide(head[4]);
     if space.len() < n {
         return false;
     }
-    read_case(head[0], &mut space[..n])
+    read_case(head[0], limits, &mut space[..n])
 }
 
 // Every case of the input, one after the other.

@@ -15,13 +15,14 @@ use Rattle.lists.proofs.Members.{getD-map, length-upto, getD-upto}
 use Rattle.cnf.specs.Clauses.{valueOf, Assignment, Model}
 use Rattle.vpa.specs.Quotients.{Joined, Raq}
 use Rattle.vpa.proofs.Relations.{raq-along, equality-raq}
-use Rattle.table.specs.Limits.{Limits}
+use Rattle.limits.specs.declared.Limits.{Limits}
 use Rattle.table.specs.File.{Table}
 use Rattle.table.specs.Reading.{WellFormed}
 use Rattle.table.specs.Language.{count, automaton}
 use Rattle.tops.proofs.Bounded.{lawful}
 use Rattle.tops.proofs.Formed.{bounded}
-use Rattle.clauses.specs.Pairs.{pairs, variableOf, pairOf}
+use Rattle.limits.specs.Pairs.{pairs}
+use Rattle.clauses.specs.Pairs.{variableOf, pairOf}
 use Rattle.clauses.specs.Clauses.{clauseList}
 use Rattle.clauses.proofs.Pairs.{variable-sym, variable-below, pair-variable, in-order}
 use Rattle.clauses.proofs.Related.{Related}
@@ -95,11 +96,11 @@ module _ (t : Table) (f : ℕ → ℕ) where
 
 module _ (L : Limits) (t : Table) (wf : WellFormed L t) where
   -- a map that meets Definition 1 satisfies the list
-  pub map-model : (f : ℕ → ℕ) → Raq (automaton t) (Joined (automaton t) f) → Model (clauseList L t) (pairs (count t)) (assignmentOf f (count t))
+  pub map-model : (f : ℕ → ℕ) → Raq (automaton t) (Joined (automaton t) f) → Model (clauseList t) (pairs (count t)) (assignmentOf f (count t))
   map-model f raq =
       model-raq L t wf (assignmentOf f (count t)) (assigned f (count t)) .1
       (raq-along (automaton t) (Joined (automaton t) f) (Related (count t) (assignmentOf f (count t))) (joined-related t f) (related-joined t f) raq)
 
   -- the list is satisfiable: nothing joined
-  pub nothing-joined : Model (clauseList L t) (pairs (count t)) (assignmentOf (λ q. q) (count t))
+  pub nothing-joined : Model (clauseList t) (pairs (count t)) (assignmentOf (λ q. q) (count t))
   nothing-joined = map-model (λ q. q) (equality-raq (automaton t) (lawful (bounded wf)))

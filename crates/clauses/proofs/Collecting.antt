@@ -14,8 +14,8 @@ use Rattle.lists.proofs.Copying.{length-over}
 use Rattle.clauses.specs.declared.literals.Literals.{Literals}
 use Rattle.clauses.specs.Emit.{literalsOf, withLiteral, Holds}
 
--- the words of a clause are 32
-pub whole : (words : List ℕ) → length (map (λ v. v) words) ≡ 32 → length words ≡ 32
+-- the words of a clause are 42
+pub whole : (words : List ℕ) → length (map (λ v. v) words) ≡ 42 → length words ≡ 42
 whole words e = sym (length-map words (λ v. v)) ∙ e
 
 -- ---- looking for a literal: it is among all of them where it is among those to come
@@ -47,11 +47,11 @@ module _ {l : ℕ} {words : List ℕ} {n i : ℕ} (w : Seeking l words n i) wher
 
 -- ---- one literal more
 
-pub kept-literal : (c : Literals) (l : ℕ) → length (c .words) ≡ 32 → c .n < 32 → mem l (literalsOf c) ≡ true → Holds c (withLiteral (literalsOf c) l)
+pub kept-literal : (c : Literals) (l : ℕ) → length (c .words) ≡ 42 → c .n < 42 → mem l (literalsOf c) ≡ true → Holds c (withLiteral (literalsOf c) l)
 unfolding withLiteral
 kept-literal c l h k e = rw (e, withLiteral) (record { count = sym (length-take-le (c .n) (c .words) (omega arith)); same = refl })
 
-pub new-literal : (c : Literals) (l : ℕ) → length (c .words) ≡ 32 → c .n < 32 → mem l (literalsOf c) ≡ false → Holds (record { words = set (c .words) (c .n) l; n = c .n + 1 }) (withLiteral (literalsOf c) l)
+pub new-literal : (c : Literals) (l : ℕ) → length (c .words) ≡ 42 → c .n < 42 → mem l (literalsOf c) ≡ false → Holds (record { words = set (c .words) (c .n) l; n = c .n + 1 }) (withLiteral (literalsOf c) l)
 unfolding withLiteral
 new-literal c l h k e =
     rw (e, withLiteral)

@@ -4,7 +4,7 @@ use mathlib.Core.Path.{_≡_, refl, sym, ap, _∙_, subst}
 use mathlib.Core.Logic.{_⊎_, inl, inr, _≢_}
 use mathlib.Core.Bool.{Bool, true, false, _&&_, not, true≢false}
 use mathlib.Core.List.{List, [], _∷_, _++_, map, List·Memᴰ, List·Memᴰ·head, List·Memᴰ·tail, Memᴰ·of-map, List·Memᴰ·append-cases as append-cases, List·Memᴰ·not-nil as not-nil, List·Memᴰ·eq-of-singleton as eq-of-singleton}
-use Prim.Native.Nat.{ℕ, suc, _+_, _-_, _*_, _/_, _%_, _≤_, _<_, zero-le}
+use Prim.Native.Nat.{ℕ, suc, _+_, _*_, _/_, _%_, _≤_, _<_, zero-le}
 use native.Mathlib.Omega.{arith}
 use native.Mathlib.Decide.{ℕ-discrete}
 use lib.ListN.{length, getD}
@@ -15,13 +15,14 @@ use Rattle.lists.specs.Bits.{has}
 use Rattle.lists.proofs.Members.{and-true, any-false, all-of, keep-mem, gather-mem, upto-mem, mem-true, mem-of, mem-false}
 use Rattle.cnf.specs.Clauses.{distinct, clauseFits, isPositive, Horn}
 use Rattle.cnf.proofs.Words.{fits-of}
-use Rattle.table.specs.Limits.{Limits}
+use Rattle.limits.specs.declared.Limits.{Limits}
 use Rattle.table.specs.File.{Table}
 use Rattle.table.specs.Reading.{WellFormed}
 use Rattle.table.specs.Language.{count, byteOf, look, targets, OneTarget}
 use Rattle.table.proofs.Facts.{Fit, internals-fit, calls-fit, returns-fit, targets-mem}
 use Rattle.tops.specs.Tops.{topWords, live, liveReturns}
-use Rattle.clauses.specs.Pairs.{pairs, variableOf}
+use Rattle.limits.specs.Pairs.{pairs}
+use Rattle.clauses.specs.Pairs.{variableOf}
 use Rattle.clauses.specs.Clauses.{together, apart, opposite, once, tidy, premise, matching, lookClauses, past, triangle, transitivity, moveClause, moveClauses, returnClause, topStates, returnClauses, clauseList}
 use Rattle.clauses.proofs.Pairs.{variable-below, variable-injective}
 use Rattle.clauses.proofs.Tidy.{opposite-half, opposite-sign, once-mem}
@@ -227,15 +228,15 @@ module _ (t : Table) where
       go p a p' q lp lt lq false k =
           matching-kinds rs (q ∷ a ∷ []) (premise p q) p' (fit .wide) (λ x j. fit .states _ j 2 (omega arith) (omega arith)) (λ d. one d (q ∷ a ∷ [])) (premise-below p q lp lq) (premise-negative p q) lt c k
 
-  return-kinds : (L : Limits) → Fit t 2 4 (t .returns) → (c : List ℕ) → List·Memᴰ c (returnClauses L t) → Kind c
+  return-kinds : Fit t 2 4 (t .returns) → (c : List ℕ) → List·Memᴰ c (returnClauses t) → Kind c
   unfolding returnClauses returnClause liveReturns topStates
-  return-kinds L fit c m =
-      let a = gather-mem _ (liveReturns L t) c m in
+  return-kinds fit c m =
+      let a = gather-mem _ (liveReturns t) c m in
       let b = gather-mem _ (upto (count t)) c (a .2) in
-      let d = gather-mem _ (topStates (topWords L t) (count t) (b .0)) c (b .2) in
+      let d = gather-mem _ (topStates (topWords t) (count t) (b .0)) c (b .2) in
       let r = a .0 in
-      let k = keep-mem (live (topWords L t)) (t .returns) r (a .1) .0 in
-      let j = keep-mem (has (topWords L t) (b .0)) (upto (count t)) (d .0) (d .1) .0 in
+      let k = keep-mem (live (topWords t)) (t .returns) r (a .1) .0 in
+      let j = keep-mem (has (topWords t) (b .0)) (upto (count t)) (d .0) (d .1) .0 in
       go (getD r 0 0) (getD r 1 0) (getD r 2 0) (getD r 3 0) (b .0) (d .0)
       (fit .states r k 0 (omega arith) (omega arith)) (fit .states r k 2 (omega arith) (omega arith)) (fit .states r k 3 (omega arith) (omega arith)) (upto-mem (count t) (b .0) (b .1)) (upto-mem (count t) (d .0) j)
       (eqb (b .0) (getD r 0 0) && eqb (d .0) (getD r 2 0)) (d .2)
@@ -254,7 +255,7 @@ module _ (t : Table) where
           matching-kinds (t .returns) (q ∷ a ∷ u ∷ []) (premise p q ++ premise s u) p' (fit .wide) (λ x j. fit .states _ j 3 (omega arith) (omega arith)) (λ d. d .returns (q ∷ a ∷ u ∷ []))
           (λ l j. either p q s u lp lq ls lu l (append-cases (premise p q) j)) (λ l j. negative p q s u l (append-cases (premise p q) j)) lt c k
 
-  pub list-kinds : {L : Limits} → WellFormed L t → (c : List ℕ) → List·Memᴰ c (clauseList L t) → Kind c
+  pub list-kinds : {L : Limits} → WellFormed L t → (c : List ℕ) → List·Memᴰ c (clauseList t) → Kind c
   unfolding clauseList
   list-kinds {L} wf c m = five (append-cases (lookClauses t ++ transitivity t ++ moveClauses (t .internals) (count t) ++ moveClauses (t .calls) (count t)) m)
     where
@@ -270,9 +271,9 @@ module _ (t : Table) where
       four (inl k) = three (append-cases (lookClauses t ++ transitivity t) k)
       four (inr k) = move-kinds 1 (t .calls) (calls-fit wf) (λ d. d .calls) c k
 
-      five : List·Memᴰ c (lookClauses t ++ transitivity t ++ moveClauses (t .internals) (count t) ++ moveClauses (t .calls) (count t)) ⊎ List·Memᴰ c (returnClauses L t) → Kind c
+      five : List·Memᴰ c (lookClauses t ++ transitivity t ++ moveClauses (t .internals) (count t) ++ moveClauses (t .calls) (count t)) ⊎ List·Memᴰ c (returnClauses t) → Kind c
       five (inl k) = four (append-cases (lookClauses t ++ transitivity t ++ moveClauses (t .internals) (count t)) k)
-      five (inr k) = return-kinds L (returns-fit wf) c k
+      five (inr k) = return-kinds (returns-fit wf) c k
 
   -- ---- what each kind is
 
@@ -322,10 +323,10 @@ module _ (t : Table) where
       both (q, a, e) (s, b, u) = sym e ∙ ap (together p') (one d q s a b) ∙ u
 
   -- the list's clauses are well formed
-  pub list-fits : {L : Limits} → WellFormed L t → all (clauseFits (pairs (count t))) (clauseList L t) ≡ true
-  list-fits {L} wf = all-of (clauseFits (pairs (count t))) (clauseList L t) (λ c m. kind-fits c (list-kinds wf c m))
+  pub list-fits : {L : Limits} → WellFormed L t → all (clauseFits (pairs (count t))) (clauseList t) ≡ true
+  list-fits {L} wf = all-of (clauseFits (pairs (count t))) (clauseList t) (λ c m. kind-fits c (list-kinds wf c m))
 
   -- "If the VPA is deterministic, we obtain a Horn clause system": one target a move is enough
-  pub list-horn : {L : Limits} → WellFormed L t → OneTarget t → Horn (clauseList L t)
+  pub list-horn : {L : Limits} → WellFormed L t → OneTarget t → Horn (clauseList t)
   unfolding clauseFits
   list-horn {L} wf d = record { one = λ c m. one-positive c (and-true (all (λ l. ltb (l / 2) (pairs (count t))) c) (distinct (map (λ l. l / 2) c)) (kind-fits c (list-kinds wf c m)) .1) (kind-horn d c (list-kinds wf c m)) }

@@ -4,7 +4,7 @@ use mathlib.Core.Path.{_≡_, refl, sym, ap, subst}
 use mathlib.Core.Logic.{_⊎_, inl, inr, _≢_}
 use mathlib.Core.Bool.{Bool, true, false, _&&_, true≢false}
 use mathlib.Core.List.{List, [], _∷_, _++_, map, List·Memᴰ, List·Memᴰ·head, List·Memᴰ·tail, Memᴰ·append-left, Memᴰ·append-right, Memᴰ·of-map, List·Memᴰ·append-cases as append-cases, List·Memᴰ·not-nil as not-nil, List·Memᴰ·eq-of-singleton as eq-of-singleton}
-use Prim.Native.Nat.{ℕ, suc, _+_, _-_, _*_, _/_, _<_}
+use Prim.Native.Nat.{ℕ, suc, _+_, _*_, _/_, _<_}
 use native.Mathlib.Omega.{arith}
 use native.Mathlib.Decide.{ℕ-discrete}
 use lib.ListN.{length, getD}
@@ -14,12 +14,12 @@ use Rattle.lists.specs.Lists.{gather, upto, mem}
 use Rattle.lists.specs.Bits.{has}
 use Rattle.lists.proofs.Members.{keep-mem, keep-of, gather-mem, gather-of, upto-mem, upto-of, mem-false}
 use Rattle.cnf.specs.Clauses.{valueOf, Right, Assignment}
-use Rattle.table.specs.Limits.{Limits}
 use Rattle.table.specs.File.{Table}
 use Rattle.table.specs.Language.{count, byteOf, look, targets}
 use Rattle.table.proofs.Facts.{Fit, three-bytes, four-bytes, targets-mem, mem-targets}
 use Rattle.tops.specs.Tops.{topWords, live, liveReturns}
-use Rattle.clauses.specs.Pairs.{pairs, variableOf}
+use Rattle.limits.specs.Pairs.{pairs}
+use Rattle.clauses.specs.Pairs.{variableOf}
 use Rattle.clauses.specs.Clauses.{together, apart, premise, matching, lookClauses, past, triangle, transitivity, moveClause, moveClauses, returnClause, topStates, returnClauses}
 use Rattle.clauses.proofs.Pairs.{variable-sym, in-order}
 use Rattle.clauses.proofs.Tidy.{HasRight, Satisfied, Set, Matches, not-all, itself, to, matching-of, of-matching}
@@ -290,16 +290,16 @@ module _ (t : Table) (v : List ℕ) (full : Assignment (pairs (count t)) v) wher
       go (inl j) = h l j
       go (inr j) = k l j
 
-  module _ (L : Limits) (fit : Fit t 2 4 (t .returns)) where
+  module _ (fit : Fit t 2 4 (t .returns)) where
     abbrev pub ReturnsMatch : Type 0
     ReturnsMatch =
-        (p q s u p' a : ℕ) → Related (count t) v p q → Related (count t) v s u → has (topWords L t) p s ≡ true → has (topWords L t) q u ≡ true
+        (p q s u p' a : ℕ) → Related (count t) v p q → Related (count t) v s u → has (topWords t) p s ≡ true → has (topWords t) q u ≡ true
         → List·Memᴰ (p ∷ a ∷ s ∷ p' ∷ []) (t .returns) → (q' : ℕ) × List·Memᴰ (q ∷ a ∷ u ∷ q' ∷ []) (t .returns) × Related (count t) v p' q'
 
     end-below : {p a s q : ℕ} → List·Memᴰ (p ∷ a ∷ s ∷ q ∷ []) (t .returns) → q < count t
     end-below m = fit .states _ m 3 (omega arith) (omega arith)
 
-    pub returns-of : Satisfied v (returnClauses L t) → ReturnsMatch
+    pub returns-of : Satisfied v (returnClauses t) → ReturnsMatch
     unfolding returnClauses returnClause liveReturns live topStates
     returns-of h p q s u p' a r z hp hq m = go (ℕ-discrete q p) (ℕ-discrete u s)
       where
@@ -309,24 +309,24 @@ module _ (t : Table) (v : List ℕ) (full : Assignment (pairs (count t)) v) wher
             (append-set (premise p q) (premise s u) (premise-set (count t) v full (r .left) (r .right)) (premise-set (count t) v full (z .left) (z .right)))
             (append-none (premise p q) (premise s u) (premise-related (count t) v r) (premise-related (count t) v z))
             (unless-satisfied v (eqb q p && eqb u s) _
-            (satisfied-at v _ (topStates (topWords L t) (count t) q)
+            (satisfied-at v _ (topStates (topWords t) (count t) q)
             (satisfied-at v _ (upto (count t))
-            (satisfied-at v _ (liveReturns L t) h (p ∷ a ∷ s ∷ p' ∷ []) (keep-of (live (topWords L t)) (t .returns) (p ∷ a ∷ s ∷ p' ∷ []) m hp)) q (upto-of (count t) q (r .right)))
-            u (keep-of (has (topWords L t) q) (upto (count t)) u (upto-of (count t) u (z .right)) hq)) e)
+            (satisfied-at v _ (liveReturns t) h (p ∷ a ∷ s ∷ p' ∷ []) (keep-of (live (topWords t)) (t .returns) (p ∷ a ∷ s ∷ p' ∷ []) m hp)) q (upto-of (count t) q (r .right)))
+            u (keep-of (has (topWords t) q) (upto (count t)) u (upto-of (count t) u (z .right)) hq)) e)
 
         go : Dec (q ≡ p) → Dec (u ≡ s) → (q' : ℕ) × List·Memᴰ (q ∷ a ∷ u ∷ q' ∷ []) (t .returns) × Related (count t) v p' q'
         go (yes e) (yes f) = (p', subst (λ (x : List ℕ). List·Memᴰ x (t .returns)) (λ i. sym e i ∷ a ∷ sym f i ∷ p' ∷ []) m, related-refl (count t) v (end-below m))
         go (no d) f = found (rw (ne-eqb q p d))
         go (yes e) (no f) = found (rw (eq-eqb q p e, ne-eqb u s f))
 
-    pub returns-satisfied : ReturnsMatch → Satisfied v (returnClauses L t)
+    pub returns-satisfied : ReturnsMatch → Satisfied v (returnClauses t)
     unfolding returnClauses returnClause liveReturns live topStates
-    returns-satisfied h = satisfied-each v _ (liveReturns L t) (λ r mr. satisfied-each v _ (upto (count t)) (λ q mq. satisfied-each v _ (topStates (topWords L t) (count t) q) (λ u mu. satisfied-unless v (eqb q (getD r 0 0) && eqb u (getD r 2 0)) _ (λ e.
-        let k = keep-mem (live (topWords L t)) (t .returns) r mr in
-        let j = keep-mem (has (topWords L t) q) (upto (count t)) u mu in
+    returns-satisfied h = satisfied-each v _ (liveReturns t) (λ r mr. satisfied-each v _ (upto (count t)) (λ q mq. satisfied-each v _ (topStates (topWords t) (count t) q) (λ u mu. satisfied-unless v (eqb q (getD r 0 0) && eqb u (getD r 2 0)) _ (λ e.
+        let k = keep-mem (live (topWords t)) (t .returns) r mr in
+        let j = keep-mem (has (topWords t) q) (upto (count t)) u mu in
         one (getD r 0 0) (getD r 1 0) (getD r 2 0) (getD r 3 0) q u (k .1) (j .1) (subst (λ (x : List ℕ). List·Memᴰ x (t .returns)) (four-bytes r (fit .wide r (k .0))) (k .0)) (upto-mem (count t) q mq) (upto-mem (count t) u (j .0))))))
       where
-        one : (p a s p' q u : ℕ) → has (topWords L t) p s ≡ true → has (topWords L t) q u ≡ true → List·Memᴰ (p ∷ a ∷ s ∷ p' ∷ []) (t .returns) → q < count t → u < count t → Satisfied v (matching (premise p q ++ premise s u) p' (targets (t .returns) (q ∷ a ∷ u ∷ [])))
+        one : (p a s p' q u : ℕ) → has (topWords t) p s ≡ true → has (topWords t) q u ≡ true → List·Memᴰ (p ∷ a ∷ s ∷ p' ∷ []) (t .returns) → q < count t → u < count t → Satisfied v (matching (premise p q ++ premise s u) p' (targets (t .returns) (q ∷ a ∷ u ∷ [])))
         one p a s p' q u hp hq m lq lu =
             reaches-satisfied (t .returns) (q ∷ a ∷ u ∷ []) p' (fit .wide) (λ x k. end-below k) (end-below m) (premise p q ++ premise s u)
             (pick (related-dec (count t) v full (fit .states _ m 0 (omega arith) (omega arith)) lq) (related-dec (count t) v full (fit .states _ m 2 (omega arith) (omega arith)) lu))

@@ -5,13 +5,13 @@ use Prim.Native.Nat.{ℕ}
 use Rattle.cnf.specs.Clauses.{Assignment, Model}
 use Rattle.vpa.specs.Quotients.{Equivalence, Raq}
 use Rattle.vpa.proofs.Relations.{Matched, matched-of, raq-of}
-use Rattle.table.specs.Limits.{Limits}
+use Rattle.limits.specs.declared.Limits.{Limits}
 use Rattle.table.specs.File.{Table}
 use Rattle.table.specs.Reading.{WellFormed}
 use Rattle.table.specs.Language.{count, automaton}
 use Rattle.table.proofs.Facts.{internals-fit, calls-fit, returns-fit, look-accepting, accepting-look}
 use Rattle.tops.proofs.Formed.{told, reachable?}
-use Rattle.clauses.specs.Pairs.{pairs}
+use Rattle.limits.specs.Pairs.{pairs}
 use Rattle.clauses.specs.Clauses.{lookClauses, transitivity, moveClauses, clauseList}
 use Rattle.clauses.proofs.Tidy.{Satisfied}
 use Rattle.clauses.proofs.Related.{Related, related-refl, related-sym}
@@ -30,11 +30,11 @@ module _ (L : Limits) (t : Table) (wf : WellFormed L t) (v : List ℕ) (full : A
   abbrev four : List (List ℕ)
   four = three ++ moveClauses (t .calls) (count t)
 
-  pub satisfied-transitive : Satisfied v (clauseList L t) → Transitive t v full
+  pub satisfied-transitive : Satisfied v (clauseList t) → Transitive t v full
   unfolding clauseList
   satisfied-transitive h = transitive-of t v full (satisfied-right v one _ (satisfied-left v two _ (satisfied-left v three _ (satisfied-left v four _ h))))
 
-  pub satisfied-matched : Satisfied v (clauseList L t) → Matched (automaton t) (Related (count t) v)
+  pub satisfied-matched : Satisfied v (clauseList t) → Matched (automaton t) (Related (count t) v)
   unfolding clauseList
   satisfied-matched h =
       let h4 = satisfied-left v four _ h in
@@ -44,10 +44,10 @@ module _ (L : Limits) (t : Table) (wf : WellFormed L t) (v : List ℕ) (full : A
         accepting = λ {p} {q} r. look-accepting wf p q (looks-of t v full (satisfied-left v one _ h2) p q r);
         internals = λ {p} {q} {p'} {a} r k. moves-of t v full 0 (t .internals) (internals-fit wf) (satisfied-right v two _ h3) p q p' a r k;
         calls = λ {p} {q} {p'} {a} r k. moves-of t v full 1 (t .calls) (calls-fit wf) (satisfied-right v three _ h4) p q p' a r k;
-        returns = λ {p} {q} {s} {u} {p'} {a} r z tp tq k. returns-of t v full L (returns-fit wf) (satisfied-right v four _ h) p q s u p' a r z (told wf p s (z .left) .1 tp) (told wf q u (z .right) .1 tq) k;
+        returns = λ {p} {q} {s} {u} {p'} {a} r z tp tq k. returns-of t v full (returns-fit wf) (satisfied-right v four _ h) p q s u p' a r z (told wf p s (z .left) .1 tp) (told wf q u (z .right) .1 tq) k;
       }
 
-  pub matched-satisfied : ((p q : ℕ) → Related (count t) v p q → automaton t .accepting p ↔ automaton t .accepting q) → Transitive t v full → Matched (automaton t) (Related (count t) v) → Satisfied v (clauseList L t)
+  pub matched-satisfied : ((p q : ℕ) → Related (count t) v p q → automaton t .accepting p ↔ automaton t .accepting q) → Transitive t v full → Matched (automaton t) (Related (count t) v) → Satisfied v (clauseList t)
   unfolding clauseList
   matched-satisfied agree trans h =
       satisfied-both v four _
@@ -56,7 +56,7 @@ module _ (L : Limits) (t : Table) (wf : WellFormed L t) (v : List ℕ) (full : A
       (satisfied-both v one _ (looks-satisfied t v full (λ p q r. accepting-look wf p q (agree p q r))) (transitive-satisfied t v full trans))
       (moves-satisfied t v full 0 (t .internals) (internals-fit wf) (λ p q p' a r k. h .internals r k)))
       (moves-satisfied t v full 1 (t .calls) (calls-fit wf) (λ p q p' a r k. h .calls r k)))
-      (returns-satisfied t v full L (returns-fit wf) (λ p q s u p' a r z hp hq k. h .returns r z (told wf p s (z .left) .0 hp) (told wf q u (z .right) .0 hq) k))
+      (returns-satisfied t v full (returns-fit wf) (λ p q s u p' a r z hp hq k. h .returns r z (told wf p s (z .left) .0 hp) (told wf q u (z .right) .0 hq) k))
 
   related-equivalence : Transitive t v full → Equivalence (automaton t) (Related (count t) v)
   related-equivalence trans = record {
@@ -67,7 +67,7 @@ module _ (L : Limits) (t : Table) (wf : WellFormed L t) (v : List ℕ) (full : A
   }
 
   -- "All assignments satisfying Φ represent valid RAQ relations", and the other way
-  pub model-raq : Model (clauseList L t) (pairs (count t)) v ↔ Raq (automaton t) (Related (count t) v)
+  pub model-raq : Model (clauseList t) (pairs (count t)) v ↔ Raq (automaton t) (Related (count t) v)
   model-raq = (
     λ h. raq-of (automaton t) (Related (count t) v) (related-equivalence (satisfied-transitive (h .each))) (λ q s lq ls. reachable? wf q s) (satisfied-matched (h .each)),
     λ h. record { assigns = full; each = matched-satisfied (λ p q r. h .accepting r) (λ p q s r z. h .equivalence .transitive r z) (matched-of (automaton t) (Related (count t) v) h) },

@@ -10,6 +10,7 @@ use lib.ListN.{length, getD, take, drop, length-take}
 use lib.Dec.{eqb}
 use borrow.Author.Tests.{eq-eqb, ne-eqb}
 use Rattle.lists.specs.Lists.{gather, upto, keep, same}
+use Rattle.limits.specs.Limits.{stateMost}
 use Rattle.table.specs.File.{records}
 use Rattle.table.specs.Language.{targets}
 use Rattle.table.specs.Spans.{startsWith}
@@ -40,8 +41,8 @@ module _ (s : List ℕ) (p a p' q : ℕ) where
   move-self t e = sym (rw (eq-eqb q p e, moveClause))
 
   module _ (found : List ℕ) {none c : Literals} (f : records 3 found ≡ keep (startsWith (q ∷ a ∷ [])) (records 3 s)) (z : Holds none []) (h : Holds c (withAll (literalsOf none) (premise p q))) where
-    pub move-room : Sorted 3 s → c .n + length (records 3 found) ≤ 32
-    move-room o = omega (arith, premise-more none p q h, z .count, ap length f, few-targets (q ∷ a ∷ []) 24 s (o .ascends) (λ r m. o .names .states r m 2 (omega arith) (omega arith)))
+    pub move-room : Sorted 3 s → c .n + length (records 3 found) ≤ 42
+    move-room o = omega (arith, premise-more none p q h, z .count, ap length f, few-targets (q ∷ a ∷ []) stateMost s (o .ascends) (λ r m. o .names .states r m 2 (omega arith) (omega arith)))
 
     pub move-other : (t : State) {next : State} → q ≢ p → next ≡ emit (matchingFrom (literalsOf c) p' (lastBytes 3 found)) t → next ≡ emit (moveClause (records 3 s) p a p' q) t
     unfolding moveClause targets startsWith

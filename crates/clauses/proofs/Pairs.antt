@@ -7,23 +7,9 @@ use native.Mathlib.Numerals.{add-one}
 use native.Mathlib.Omega.{arith}
 use lib.Dec.{eqb, ltb}
 use borrow.Author.Tests.{eqb-true, eqb-false, ltb-true, ltb-false, lt-ltb, le-ltb}
-use Rattle.clauses.specs.Pairs.{pairs, variableOf, pairFrom, pairOf}
-
-less-one : (m : ℕ) → suc m - 1 ≡ m
-less-one m = omega arith
-
-pub pairs-suc : (n : ℕ) → pairs (suc n) ≡ pairs n + n
-unfolding pairs
-pairs-suc zero = refl
-pairs-suc (suc m) = rw (less-one (suc m), less-one m) (omega arith)
-
-pub pairs-mono : (m n : ℕ) → m ≤ n → pairs m ≤ pairs n
-pairs-mono m zero h = let e : m ≡ 0 = omega arith in omega (arith, ap pairs e)
-pairs-mono m (suc n) h = go (eqb m (suc n)) refl (pairs-mono m n)
-  where
-    go : (t : Bool) → eqb m (suc n) ≡ t → (m ≤ n → pairs m ≤ pairs n) → pairs m ≤ pairs (suc n)
-    go true e ih = omega (arith, ap pairs (eqb-true m (suc n) e))
-    go false e ih = omega (arith, pairs-suc n, ih (omega (arith, eqb-false m (suc n) e)))
+use Rattle.limits.specs.Pairs.{pairs}
+use Rattle.limits.proofs.Pairs.{less-one, pairs-suc, pairs-mono}
+use Rattle.clauses.specs.Pairs.{variableOf, pairFrom, pairOf}
 
 -- the formula, with the lower state first
 pub variable-lt : (p q : ℕ) → p < q → variableOf p q ≡ pairs q + p

@@ -10,7 +10,8 @@ use borrow.Author.Tests.{eq-eqb, ne-eqb}
 use Rattle.lists.specs.Lists.{any, mem, gather, upto}
 use Rattle.table.specs.Language.{look}
 use Rattle.clauses.specs.declared.literals.Literals.{Literals}
-use Rattle.clauses.specs.Pairs.{pairs, Pair, pairOf}
+use Rattle.limits.specs.Pairs.{pairs}
+use Rattle.clauses.specs.Pairs.{Pair, pairOf}
 use Rattle.clauses.specs.Clauses.{together, apart, lookClauses, triangle}
 use Rattle.clauses.specs.Emit.{literalsOf, withLiteral, Holds, State, emit, statesOnly, lookClause}
 use Rattle.clauses.proofs.Pairs.{pair-ordered, pair-below, variable-pair}

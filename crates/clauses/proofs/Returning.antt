@@ -15,6 +15,7 @@ use Rattle.lists.specs.Lists.{gather, keep, upto}
 use Rattle.lists.specs.Bits.{hasBit, has}
 use Rattle.lists.proofs.Bits.{no-bit}
 use Rattle.lists.proofs.Lowest.{Lowest, trailing-lowest, keep-none, keep-lowest, bit-le}
+use Rattle.limits.specs.Limits.{stateMost}
 use Rattle.table.specs.File.{records}
 use Rattle.table.specs.Language.{targets}
 use Rattle.table.specs.Spans.{startsWith}
@@ -39,10 +40,10 @@ module _ (s : List ℕ) (x : Return) (q u : ℕ) where
 
   module _ (found : List ℕ) {none c d : Literals} (f : records 4 found ≡ keep (startsWith (q ∷ x .symbol ∷ u ∷ [])) (records 4 s))
       (z : Holds none []) (h : Holds c (withAll (literalsOf none) (premise (x .from) q))) (k : Holds d (withAll (literalsOf c) (premise (x .under) u))) where
-    pub return-room : Sorted 4 s → d .n + length (records 4 found) ≤ 32
+    pub return-room : Sorted 4 s → d .n + length (records 4 found) ≤ 42
     return-room o =
         omega
-        (arith, premise-more none (x .from) q h, premise-more c (x .under) u k, z .count, ap length f, few-targets (q ∷ x .symbol ∷ u ∷ []) 24 s (o .ascends) (λ r m. o .names .states r m 3 (omega arith) (omega arith)))
+        (arith, premise-more none (x .from) q h, premise-more c (x .under) u k, z .count, ap length f, few-targets (q ∷ x .symbol ∷ u ∷ []) stateMost s (o .ascends) (λ r m. o .names .states r m 3 (omega arith) (omega arith)))
 
     pub return-other : (t : State) {next : State} {b : Bool} → b ≡ (eqb q (x .from) && eqb u (x .under)) → b ≡ false → next ≡ emit (matchingFrom (literalsOf d) (x .to) (lastBytes 4 found)) t → next ≡ emit (returnOf (records 4 s) x q u) t
     unfolding returnClause targets startsWith
@@ -58,22 +59,22 @@ module _ (s : List ℕ) (x : Return) (q u : ℕ) where
 
 module _ (g : ℕ → List (List ℕ)) (n : ℕ) where
   pub record Toward (all : List (List ℕ)) (start : State) (rest : ℕ) (now : State) : Type 0 where
-    pub small : rest < 2 ^ 32
+    pub small : rest < 2 ^ 64
     pub coming : Coming all start (gather g (keep (hasBit rest) (upto n))) now
 
-  pub toward : (word : ℕ) (start : State) → word < 2 ^ 32 → Ordered (start .tally) → Toward (gather g (keep (hasBit word) (upto n))) start word start
+  pub toward : (word : ℕ) (start : State) → word < 2 ^ 64 → Ordered (start .tally) → Toward (gather g (keep (hasBit word) (upto n))) start word start
   toward word start l h = record { small = l; coming = coming _ start h }
 
 module _ {g : ℕ → List (List ℕ)} {n : ℕ} {all : List (List ℕ)} {start : State} {rest : ℕ} {now : State} (w : Toward g n all start rest now) where
-  module _ {u : ℕ} (d : rest ≢ 0) (e : u ≡ trailingZeros 32 rest) where
+  module _ {u : ℕ} (d : rest ≢ 0) (e : u ≡ trailingZeros 64 rest) where
     low : Lowest rest u
-    low = rw e (trailing-lowest 32 rest (w .small) d .1)
+    low = rw e (trailing-lowest 64 rest (w .small) d .1)
 
     -- what is left is less
-    pub toward-less : rest - 2 ^ trailingZeros 32 rest < rest
-    toward-less = omega (arith, pow-pos (trailingZeros 32 rest), bit-le rest (trailingZeros 32 rest) (trailing-lowest 32 rest (w .small) d .1 .own))
+    pub toward-less : rest - 2 ^ trailingZeros 64 rest < rest
+    toward-less = omega (arith, pow-pos (trailingZeros 64 rest), bit-le rest (trailingZeros 64 rest) (trailing-lowest 64 rest (w .small) d .1 .own))
 
-    pub toward-on : {next : State} {later : ℕ} → u < n → next ≡ emit (g u) now → later ≡ rest - 2 ^ trailingZeros 32 rest → Toward g n all start later next
+    pub toward-on : {next : State} {later : ℕ} → u < n → next ≡ emit (g u) now → later ≡ rest - 2 ^ trailingZeros 64 rest → Toward g n all start later next
     unfolding gather
     toward-on {next} {later} h f l =
         let k : rest - 2 ^ u ≡ later = ap (λ x. rest - 2 ^ x) e ∙ sym l in
@@ -128,10 +129,10 @@ module _ {s : List ℕ} {g : List ℕ → List (List ℕ)} {all : List (List ℕ
   first : getD (take 4 (drop at s)) 0 0 ≡ getD s at 0
   first = record-byte 4 s at 0 (omega arith) ∙ ap (λ k. getD s k 0) (add-zero at)
 
-  pub from-few : Sorted 4 s → getD s at 0 < 24
+  pub from-few : Sorted 4 s → getD s at 0 < stateMost
   from-few o = let k = o .names .states (take 4 (drop at s)) (along-here i (omega arith) h) 0 (omega arith) (omega arith) in omega (arith, first)
 
-  pub under-few : Sorted 4 s → getD s (at + 2) 0 < 24
+  pub under-few : Sorted 4 s → getD s (at + 2) 0 < stateMost
   under-few o = let k = o .names .states (take 4 (drop at s)) (along-here i (omega arith) h) 2 (omega arith) (omega arith) in omega (arith, record-byte 4 s at 2 (omega arith))
 
   pub fields-here : record { from = getD s at 0; symbol = getD s (at + 1) 0; under = getD s (at + 2) 0; to = getD s (at + 3) 0 } ≡ fieldsOf (take 4 (drop at s))

@@ -15,10 +15,12 @@ use Rattle.lists.proofs.Upto.{upto-on}
 use Rattle.lists.proofs.Counts.{keep-append, gather-append}
 use Rattle.table.specs.File.{records}
 use Rattle.table.proofs.Walks.{records-cons, records-end}
-use Rattle.clauses.specs.Pairs.{pairs, pairOf}
+use Rattle.limits.specs.Pairs.{pairs}
+use Rattle.clauses.specs.Pairs.{pairOf}
 use Rattle.clauses.specs.Clauses.{past}
 use Rattle.clauses.specs.Emit.{State, Ordered, emit}
-use Rattle.clauses.proofs.Pairs.{pairs-suc, variable-lt, pair-variable}
+use Rattle.limits.proofs.Pairs.{pairs-suc}
+use Rattle.clauses.proofs.Pairs.{variable-lt, pair-variable}
 use Rattle.clauses.proofs.Emitting.{Coming, coming, come-on, come-as, come}
 
 -- ---- the numbers from q on

@@ -19,7 +19,7 @@ use Rattle.clauses.proofs.Tidying.{Matching, match-itself, match-both, 
 
 -- ---- premises
 
-pub premise-none : (c : Literals) (p q : ℕ) → length (c .words) ≡ 32 → c .n < 32 → p ≡ q → Holds c (withAll (literalsOf c) (premise p q))
+pub premise-none : (c : Literals) (p q : ℕ) → length (c .words) ≡ 42 → c .n < 42 → p ≡ q → Holds c (withAll (literalsOf c) (premise p q))
 unfolding premise withAll
 premise-none c p q h k e = rw (eq-eqb p q e, premise) (record { count = sym (length-take-le (c .n) (c .words) (omega arith)); same = refl })
 
@@ -40,10 +40,10 @@ with-length ls l = go (mem l ls)
 pub record Targeting (found : List ℕ) (w p' : ℕ) (all : List (List ℕ)) (clause : Literals) (at : ℕ) : Type 0 where
   pub inside : at ≤ length found
   pub some-width : 0 < w
-  pub few : clause .n + length (records w (drop at found)) ≤ 32
+  pub few : clause .n + length (records w (drop at found)) ≤ 42
   pub meets : all ≡ matchingFrom (literalsOf clause) p' (lastBytes w (drop at found))
 
-pub targeting : (found : List ℕ) (w p' : ℕ) (c : Literals) → 0 < w → c .n + length (records w found) ≤ 32 → Targeting found w p' (matchingFrom (literalsOf c) p' (lastBytes w found)) c 0
+pub targeting : (found : List ℕ) (w p' : ℕ) (c : Literals) → 0 < w → c .n + length (records w found) ≤ 42 → Targeting found w p' (matchingFrom (literalsOf c) p' (lastBytes w found)) c 0
 targeting found w p' c h k = record { inside = omega arith; some-width = h; few = k; meets = refl }
 
 module _ {found : List ℕ} {w p' : ℕ} {all : List (List ℕ)} {c : Literals} {at : ℕ} (i : Targeting found w p' all c at) where
@@ -59,7 +59,7 @@ module _ {found : List ℕ} {w p' : ℕ} {all : List (List ℕ)} {c : Literals} 
     matching : Matching all (literalsOf c) p' (getD found (at + w - 1) 0 ∷ lastBytes w (drop (at + w) found))
     matching = record { meets = i .meets ∙ ap (λ rs. matchingFrom (literalsOf c) p' (map (λ r. getD r (w - 1) 0) rs)) here ∙ ap (λ q. matchingFrom (literalsOf c) p' (q ∷ lastBytes w (drop (at + w) found))) last }
 
-    pub room : c .n < 32
+    pub room : c .n < 42
     room = omega (arith, i .few, ap length here)
 
     pub target-itself : (t : State) → getD found (at + w - 1) 0 ≡ p' → t ≡ emit all t

@@ -10,7 +10,7 @@ use lib.ListN.{List·getD-eq-default}
 use Rattle.cnf.specs.Clauses.{valueOf, Assignment, Model, Maximal}
 use Rattle.vpa.specs.Quotients.{Joined}
 use Rattle.vpa.proofs.Relations.{raq-along}
-use Rattle.table.specs.Limits.{Limits}
+use Rattle.limits.specs.declared.Limits.{Limits}
 use Rattle.table.specs.File.{Table, tableOf}
 use Rattle.table.specs.Reading.{Readable, WellFormed}
 use Rattle.table.specs.Language.{count, automaton}
@@ -18,7 +18,8 @@ use Rattle.table.specs.Maps.{JoinedBy, Proper, RaqMap, NoneCoarser}
 use Rattle.table.proofs.Bytes.{read-well-formed}
 use Rattle.maps.specs.Check.{checkNumber}
 use Rattle.maps.proofs.Accepted.{accepts}
-use Rattle.clauses.specs.Pairs.{pairs, pairOf}
+use Rattle.limits.specs.Pairs.{pairs}
+use Rattle.clauses.specs.Pairs.{pairOf}
 use Rattle.clauses.specs.Clauses.{clauseList}
 use Rattle.clauses.specs.Maps.{mapOf}
 use Rattle.clauses.proofs.Pairs.{variable-pair, pair-ordered, pair-below}
@@ -27,7 +28,7 @@ use Rattle.clauses.proofs.Models.{satisfied-transitive, model-raq}
 use Rattle.clauses.proofs.Maps.{map-long, map-numbered, map-joins}
 use Rattle.clauses.proofs.Assignments.{assignmentOf, joined-related, map-model}
 
-module _ (L : Limits) (t : Table) (wf : WellFormed L t) (v : List ℕ) (model : Model (clauseList L t) (pairs (count t)) v) where
+module _ (L : Limits) (t : Table) (wf : WellFormed L t) (v : List ℕ) (model : Model (clauseList t) (pairs (count t)) v) where
   transitive : (p q s : ℕ) → Related (count t) v p q → Related (count t) v q s → Related (count t) v p s
   transitive = satisfied-transitive L t wf v (model .assigns) (model .each)
 
@@ -45,7 +46,7 @@ module _ (L : Limits) (t : Table) (wf : WellFormed L t) (v : List ℕ) (model : 
   map-raq = raq-along (automaton t) (Related (count t) v) (JoinedBy t (mapOf v (count t))) joined-of related-of (model-raq L t wf v (model .assigns) .0 model)
 
   -- demand 3: no map meeting Definition 1 joins all pairs of a maximal assignment's map and one more
-  module _ (maximal : Maximal (clauseList L t) (pairs (count t)) v) where
+  module _ (maximal : Maximal (clauseList t) (pairs (count t)) v) where
     above : (f : ℕ → ℕ) → ((p q : ℕ) → JoinedBy t (mapOf v (count t)) p q → f p ≡ f q) → (x : ℕ) → valueOf v x ≡ 1 → valueOf (assignmentOf f (count t)) x ≡ 1
     above f h x e = go (decLt x (pairs (count t)))
       where
@@ -75,14 +76,14 @@ module _ (L : Limits) (t : Table) (wf : WellFormed L t) (v : List ℕ) (model : 
 
 module _ (L : Limits) (b : List ℕ) (readable : Readable L b) (v : List ℕ) where
   -- demand 3: no assignment satisfies the clauses and has a map that the check refuses
-  pub model-accepted : Model (clauseList L (tableOf b)) (pairs (count (tableOf b))) v → checkNumber L b (mapOf v (count (tableOf b))) ≡ 0
+  pub model-accepted : Model (clauseList (tableOf b)) (pairs (count (tableOf b))) v → checkNumber L b (mapOf v (count (tableOf b))) ≡ 0
   model-accepted model =
       let wf = read-well-formed L b readable in
       accepts L b (mapOf v (count (tableOf b))) (record { readable = readable; proper = map-proper L (tableOf b) wf v model; raq = map-raq L (tableOf b) wf v model })
 
   -- an assignment satisfies the list exactly when it is the relation of a map that meets Definition 1
   pub model-exact : Assignment (pairs (count (tableOf b))) v
-      → Model (clauseList L (tableOf b)) (pairs (count (tableOf b))) v
+      → Model (clauseList (tableOf b)) (pairs (count (tableOf b))) v
       ↔ ((m : List ℕ) × RaqMap (tableOf b) m × ((p q : ℕ) → JoinedBy (tableOf b) m p q ↔ Related (count (tableOf b)) v p q))
   model-exact full =
       let wf = read-well-formed L b readable in (

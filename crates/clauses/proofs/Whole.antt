@@ -9,11 +9,12 @@ use native.Mathlib.Omega.{arith}
 use lib.ListN.{length, take, drop, replicate}
 use lib.Seq.{slice, take-append-seam}
 use lib.Dec.{eqb, leb}
-use borrow.Author.Tests.{eq-eqb, ne-eqb, eqb-true, eqb-false}
+use borrow.Author.Tests.{eq-eqb, ne-eqb, eqb-true}
 use Rattle.lists.specs.Lists.{over}
 use Rattle.cnf.specs.Clauses.{Model, clausesIn, wordsOf}
 use Rattle.cnf.proofs.Words.{clauses-words}
-use Rattle.table.specs.Limits.{standard}
+use Rattle.limits.specs.declared.Limits.{Limits}
+use Rattle.limits.specs.Limits.{stateMost}
 use Rattle.table.specs.File.{trailer, start, tableOf, records}
 use Rattle.table.specs.Reading.{readNumber, Readable, startsOf}
 use Rattle.table.specs.Language.{count}
@@ -28,9 +29,10 @@ use Rattle.tops.specs.Demands.{examinedOf}
 use Rattle.tops.specs.declared.Examined.{Examined}
 use Rattle.tops.proofs.Loops.{section-within}
 use Rattle.tops.proofs.Read.{sections-read}
+use Rattle.maps.specs.Sections.{Known}
 use Rattle.clauses.specs.declared.Listed.{Listed}
 use Rattle.clauses.specs.declared.Listed.the-variants.{Refused}
-use Rattle.clauses.specs.Pairs.{pairs}
+use Rattle.limits.specs.Pairs.{pairs}
 use Rattle.clauses.specs.Clauses.{lookClauses, transitivity, moveClauses, returnClauses, clauseList, clauseWords, clausesNumber, ClausesDone, clausesOf}
 use Rattle.clauses.specs.Emit.{State, emit, statesOnly, returnClausesBy, Ready, listBy, listedBy}
 use Rattle.clauses.specs.Demands.{ListSound}
@@ -57,22 +59,22 @@ groups states internals calls returns tops s e1 e2 e3 e4 e5 =
 
 -- ---- a refusal
 
-refused : (b list : List ℕ) {k : ℕ} → clausesNumber standard b list ≡ k → k ≢ 0 → record { answer = Refused k; list = list } ≡ clausesOf standard b list
+refused : (L : Limits) (b list : List ℕ) {k : ℕ} → clausesNumber L b list ≡ k → k ≢ 0 → record { answer = Refused k; list = list } ≡ clausesOf L b list
 unfolding clausesOf
-refused b list e n =
-    let z : eqb (clausesNumber standard b list) 0 ≡ false = ne-eqb _ _ (λ q. n (sym e ∙ q)) in
+refused L b list e n =
+    let z : eqb (clausesNumber L b list) 0 ≡ false = ne-eqb _ _ (λ q. n (sym e ∙ q)) in
     rw (z, clausesOf) (λ i. record { answer = Refused (sym e i); list = list })
 
 -- ---- the parts of the file
 
-module _ (b : List ℕ) (readable : Readable standard b) where
-  tested : Tested standard (tableOf b)
-  tested = formed-tested (read-well-formed standard b readable)
+module _ (L : Limits) (b : List ℕ) (readable : Readable L b) where
+  tested : Tested L (tableOf b)
+  tested = formed-tested (read-well-formed L b readable)
 
   ready : Ready (slice (start b 1) (start b 2) b) (slice (start b 2) (start b 3) b) (slice (start b 3) (start b 4) b) (slice (start b 4) (trailer b) b)
   unfolding tableOf
   ready =
-      let s = sections-read b readable in
+      let s = sections-read L b readable in
       record {
         few = s .few;
         internals-sorted = record { ascends = tested .internals-ascend; names = section-within (s .few) (s .internals-whole) };
@@ -80,90 +82,76 @@ module _ (b : List ℕ) (readable : Readable standard b) where
         returns-sorted = record { ascends = tested .returns-ascend; names = section-within (s .few) (s .returns-whole) };
       }
 
-  whole : listBy (slice (start b 1) (start b 2) b) (slice (start b 2) (start b 3) b) (slice (start b 3) (start b 4) b) (slice (start b 4) (trailer b) b) (topWords standard (tableOf b)) ≡ clauseList standard (tableOf b)
+  whole : listBy (slice (start b 1) (start b 2) b) (slice (start b 2) (start b 3) b) (slice (start b 3) (start b 4) b) (slice (start b 4) (trailer b) b) (topWords (tableOf b)) ≡ clauseList (tableOf b)
   unfolding listBy clauseList lookClauses transitivity returnClauses returnClausesBy liveReturns tableOf
   whole = refl
 
   -- the answer
-  listed : (list : List ℕ) → listedBy (clauseList standard (tableOf b)) list ≡ clausesOf standard b list
+  pub listed : (list : List ℕ) → listedBy (clauseList (tableOf b)) list ≡ clausesOf L b list
   unfolding listedBy clausesOf clausesNumber clauseWords
-  listed list = go (leb (length (wordsOf (clauseList standard (tableOf b)))) (length list)) refl
+  listed list = go (leb (length (wordsOf (clauseList (tableOf b)))) (length list)) refl
     where
-      go : (t : Bool) → leb (length (wordsOf (clauseList standard (tableOf b)))) (length list) ≡ t → listedBy (clauseList standard (tableOf b)) list ≡ clausesOf standard b list
-      go true h = rw (h, listedBy, clausesOf, clausesNumber, eq-eqb (readNumber standard b) 0 readable, h)
+      go : (t : Bool) → leb (length (wordsOf (clauseList (tableOf b)))) (length list) ≡ t → listedBy (clauseList (tableOf b)) list ≡ clausesOf L b list
+      go true h = rw (h, listedBy, clausesOf, clausesNumber, eq-eqb (readNumber L b) 0 readable, h)
       go false h =
-          let n : clausesNumber standard b list ≡ 10 = rw (eq-eqb (readNumber standard b) 0 readable, clausesNumber, h) in
-          rw (h, listedBy) (refused b list n (omega arith))
+          let n : clausesNumber L b list ≡ 10 = rw (eq-eqb (readNumber L b) 0 readable, clausesNumber, h) in
+          rw (h, listedBy) (refused L b list n (omega arith))
 
 -- the parts handed on
-module _ (b : List ℕ) {s : Starts} (readable : Readable standard b) (starts : s ≡ startsOf b) {states internals calls returns : List ℕ}
+module _ {b : List ℕ} {s : Starts} {tops : List ℕ} (k : Known b s tops) {states internals calls returns : List ℕ}
     (e1 : states ≡ partOf b s States) (e2 : internals ≡ partOf b s Internals) (e3 : calls ≡ partOf b s Calls) (e4 : returns ≡ partOf b s Returns) where
-  pub parts-ready : Ready states internals calls returns
-  parts-ready = rw (e1 ∙ states-at b starts, e2 ∙ internals-at b starts, e3 ∙ calls-at b starts, e4 ∙ returns-at b starts) (ready b readable)
+  starts : s ≡ startsOf b
+  starts = k .read .starts
 
-  pub parts-listed : (list : List ℕ) {tops : List ℕ} {d : ClausesDone} → tops ≡ topWords standard (tableOf b) → d ≡ listedBy (listBy states internals calls returns tops) list → d ≡ clausesOf standard b list
-  parts-listed list e f =
+  pub parts-ready : Ready states internals calls returns
+  parts-ready = rw (e1 ∙ states-at b starts, e2 ∙ internals-at b starts, e3 ∙ calls-at b starts, e4 ∙ returns-at b starts) (ready (k .limits) b (k .read .readable))
+
+  pub parts-listed : (list : List ℕ) {d : ClausesDone} → d ≡ listedBy (listBy states internals calls returns tops) list → d ≡ listedBy (clauseList (tableOf b)) list
+  parts-listed list f =
       f
-      ∙ (λ i. listedBy (listBy ((e1 ∙ states-at b starts) i) ((e2 ∙ internals-at b starts) i) ((e3 ∙ calls-at b starts) i) ((e4 ∙ returns-at b starts) i) (e i)) list)
-      ∙ ap (λ cs. listedBy cs list) (whole b readable)
-      ∙ listed b readable list
+      ∙ (λ i. listedBy (listBy ((e1 ∙ states-at b starts) i) ((e2 ∙ internals-at b starts) i) ((e3 ∙ calls-at b starts) i) ((e4 ∙ returns-at b starts) i) (k .words i)) list)
+      ∙ ap (λ cs. listedBy cs list) (whole (k .limits) b (k .read .readable))
 
 -- ---- reading first
 
-module _ (b : List ℕ) {x : Examined} (e : x ≡ examinedOf standard b) where
-  pub record Read : Type 0 where
-    pub readable : Readable standard b
-    pub starts : x .starts ≡ startsOf b
-    pub words : x .words ≡ topWords standard (tableOf b)
-
-  pub read : x .number ≡ 0 → Read
-  unfolding examinedOf
-  read h = go (eqb (readNumber standard b) 0) refl e
-    where
-      go : (t : Bool) → eqb (readNumber standard b) 0 ≡ t → x ≡ elim t [
-        | true ↦ record { number = 0; starts = startsOf b; words = topWords standard (tableOf b); found = topCount standard (tableOf b) }
-        | false ↦ record { number = readNumber standard b; starts = record { symbols = 0; states = 0; internals = 0; calls = 0; returns = 0 }; words = replicate 24 0; found = 0 }
-      ] → Read
-      go true p f = record { readable = eqb-true _ _ p; starts = ap (λ (y : Examined). y .starts) f; words = ap (λ (y : Examined). y .words) f }
-      go false p f = absurd (eqb-false _ _ p (sym (ap (λ (y : Examined). y .number) f) ∙ h))
-
-  pub unread : (list : List ℕ) → x .number ≢ 0 → record { answer = Refused (x .number); list = list } ≡ clausesOf standard b list
+module _ (L : Limits) (b : List ℕ) {x : Examined} (e : x ≡ examinedOf L b) where
+  pub unread : (list : List ℕ) → x .number ≢ 0 → record { answer = Refused (x .number); list = list } ≡ clausesOf L b list
   unfolding examinedOf clausesOf clausesNumber
-  unread list h = go (eqb (readNumber standard b) 0) refl e
+  unread list h = go (eqb (readNumber L b) 0) refl e
     where
-      go : (t : Bool) → eqb (readNumber standard b) 0 ≡ t → x ≡ elim t [
-        | true ↦ record { number = 0; starts = startsOf b; words = topWords standard (tableOf b); found = topCount standard (tableOf b) }
-        | false ↦ record { number = readNumber standard b; starts = record { symbols = 0; states = 0; internals = 0; calls = 0; returns = 0 }; words = replicate 24 0; found = 0 }
-      ] → record { answer = Refused (x .number); list = list } ≡ clausesOf standard b list
+      go : (t : Bool) → eqb (readNumber L b) 0 ≡ t → x ≡ elim t [
+        | true ↦ record { number = 0; starts = startsOf b; words = topWords (tableOf b); found = topCount (tableOf b) }
+        | false ↦ record { number = readNumber L b; starts = record { symbols = 0; states = 0; internals = 0; calls = 0; returns = 0 }; words = replicate stateMost 0; found = 0 }
+      ] → record { answer = Refused (x .number); list = list } ≡ clausesOf L b list
       go true p f = absurd (h (ap (λ (y : Examined). y .number) f))
       go false p f =
-          let n : clausesNumber standard b list ≡ readNumber standard b = rw (p, clausesNumber) in
-          refused b list (n ∙ sym (ap (λ (y : Examined). y .number) f)) h
+          let n : clausesNumber L b list ≡ readNumber L b = rw (p, clausesNumber) in
+          refused L b list (n ∙ sym (ap (λ (y : Examined). y .number) f)) h
 
 -- ---- demand 3
 
 -- where the answer is a list, the bytes were read and the words fit
-fit : (b list : List ℕ) → clausesNumber standard b list ≡ 0 → Readable standard b
+fit : (L : Limits) (b list : List ℕ) → clausesNumber L b list ≡ 0 → Readable L b
 unfolding clausesNumber
-fit b list e = go (eqb (readNumber standard b) 0) refl e
+fit L b list e = go (eqb (readNumber L b) 0) refl e
   where
-    go : (t : Bool) → eqb (readNumber standard b) 0 ≡ t → _≡_ {A = ℕ} (elim t [ true ↦ elim (leb (length (clauseWords standard (tableOf b))) (length list)) [ true ↦ 0 | false ↦ 10 ] | false ↦ readNumber standard b ]) 0 → Readable standard b
+    go : (t : Bool) → eqb (readNumber L b) 0 ≡ t → _≡_ {A = ℕ} (elim t [ true ↦ elim (leb (length (clauseWords (tableOf b))) (length list)) [ true ↦ 0 | false ↦ 10 ] | false ↦ readNumber L b ]) 0 → Readable L b
     go true p f = eqb-true _ _ p
     go false p f = f
 
-sound : (b list : List ℕ) → ListSound standard b (clausesOf standard b list .list) (clausesOf standard b list .answer)
+sound : (L : Limits) (b list : List ℕ) → ListSound L b (clausesOf L b list .list) (clausesOf L b list .answer)
 unfolding clausesOf clauseWords over
-sound b list = go (eqb (clausesNumber standard b list) 0) refl
+sound L b list = go (eqb (clausesNumber L b list) 0) refl
   where
     cs : List (List ℕ)
-    cs = clauseList standard (tableOf b)
+    cs = clauseList (tableOf b)
 
     there : clausesIn (take (length (wordsOf cs)) (wordsOf cs ++ drop (length (wordsOf cs)) list)) ≡ cs
     there = ap clausesIn (take-append-seam (wordsOf cs) (drop (length (wordsOf cs)) list)) ∙ clauses-words cs
 
-    go : (t : Bool) → eqb (clausesNumber standard b list) 0 ≡ t → ListSound standard b (clausesOf standard b list .list) (clausesOf standard b list .answer)
-    go true p = rw (p, clausesOf) (λ v m. model-accepted standard b (fit b list (eqb-true _ _ p)) v (subst (λ (ds : List (List ℕ)). Model ds (pairs (count (tableOf b))) v) there m))
+    go : (t : Bool) → eqb (clausesNumber L b list) 0 ≡ t → ListSound L b (clausesOf L b list .list) (clausesOf L b list .answer)
+    go true p = rw (p, clausesOf) (λ v m. model-accepted L b (fit L b list (eqb-true _ _ p)) v (subst (λ (ds : List (List ℕ)). Model ds (pairs (count (tableOf b))) v) there m))
     go false p = rw (p, clausesOf) tt
 
-pub sound-of : (b list : List ℕ) {r : Listed} {list' : List ℕ} → record { answer = r; list = list' } ≡ clausesOf standard b list → ListSound standard b list' r
-sound-of b list {r} {list'} e = subst (λ (d : ClausesDone). ListSound standard b (d .list) (d .answer)) (sym e) (sound b list)
+pub sound-of : (L : Limits) (b list : List ℕ) {r : Listed} {list' : List ℕ} → record { answer = r; list = list' } ≡ clausesOf L b list → ListSound L b list' r
+sound-of L b list {r} {list'} e = subst (λ (d : ClausesDone). ListSound L b (d .list) (d .answer)) (sym e) (sound L b list)

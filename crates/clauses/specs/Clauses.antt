@@ -7,7 +7,7 @@ use lib.Dec.{eqb, ltb, leb}
 use Rattle.lists.specs.Lists.{any, keep, gather, upto, mem, over}
 use Rattle.lists.specs.Bits.{has}
 use Rattle.cnf.specs.Clauses.{positive, negative, wordsOf}
-use Rattle.table.specs.Limits.{Limits}
+use Rattle.limits.specs.declared.Limits.{Limits}
 use Rattle.table.specs.File.{Table, tableOf}
 use Rattle.table.specs.Reading.{readNumber}
 use Rattle.table.specs.Language.{count, byteOf, look, targets}
@@ -81,23 +81,23 @@ unfoldable pub topStates : List ℕ → ℕ → ℕ → List ℕ
 topStates f n q = keep (has f q) (upto n)
 
 -- 5. "For each live return (p, r, s, p') in order, each q ascending, each state u in tops(q) ascending"
-unfoldable pub returnClauses : Limits → Table → List (List ℕ)
-returnClauses L t =
+unfoldable pub returnClauses : Table → List (List ℕ)
+returnClauses t =
     gather (λ r. gather (λ q. gather (λ u.
     returnClause (t .returns) (getD r 0 0) (getD r 1 0) (getD r 2 0) (getD r 3 0) q u)
-    (topStates (topWords L t) (count t) q)) (upto (count t))) (liveReturns L t)
+    (topStates (topWords t) (count t) q)) (upto (count t))) (liveReturns t)
 
 -- "The list, in this order"
-unfoldable pub clauseList : Limits → Table → List (List ℕ)
-clauseList L t = lookClauses t ++ transitivity t ++ moveClauses (t .internals) (count t) ++ moveClauses (t .calls) (count t) ++ returnClauses L t
+unfoldable pub clauseList : Table → List (List ℕ)
+clauseList t = lookClauses t ++ transitivity t ++ moveClauses (t .internals) (count t) ++ moveClauses (t .calls) (count t) ++ returnClauses t
 
-unfoldable pub clauseWords : Limits → Table → List ℕ
-clauseWords L t = wordsOf (clauseList L t)
+unfoldable pub clauseWords : Table → List ℕ
+clauseWords t = wordsOf (clauseList t)
 
--- 1 to 8, then 10: "list longer than the buffer"; or 0
+-- 39, 1 to 8, then 10: "list longer than the buffer"; or 0
 unfoldable pub clausesNumber : Limits → List ℕ → List ℕ → ℕ
 clausesNumber L b list = elim (eqb (readNumber L b) 0) [
-  | true ↦ elim (leb (length (clauseWords L (tableOf b))) (length list)) [ true ↦ 0 | false ↦ 10 ]
+  | true ↦ elim (leb (length (clauseWords (tableOf b))) (length list)) [ true ↦ 0 | false ↦ 10 ]
   | false ↦ readNumber L b
 ]
 
@@ -109,7 +109,7 @@ pub record ClausesDone : Type 0 where
 -- the operation: "The answer is the clause count and the word count; later words keep their content."
 unfoldable pub clausesOf : Limits → List ℕ → List ℕ → ClausesDone
 clausesOf L b list = elim (eqb (clausesNumber L b list) 0) [
-  | true ↦ record { answer = Words (length (clauseList L (tableOf b))) (length (clauseWords L (tableOf b))); list = over (clauseWords L (tableOf b)) list }
+  | true ↦ record { answer = Words (length (clauseList (tableOf b))) (length (clauseWords (tableOf b))); list = over (clauseWords (tableOf b)) list }
   | false ↦ record { answer = Refused (clausesNumber L b list); list = list }
 ]
 

@@ -4,11 +4,11 @@ use mathlib.Core.List.{List}
 use Prim.Native.Nat.{ℕ}
 use lib.ListN.{take}
 use Rattle.cnf.specs.Clauses.{Model, clausesIn}
-use Rattle.table.specs.Limits.{Limits}
+use Rattle.limits.specs.declared.Limits.{Limits}
 use Rattle.table.specs.File.{tableOf}
 use Rattle.table.specs.Language.{count}
 use Rattle.maps.specs.Check.{checkNumber}
-use Rattle.clauses.specs.Pairs.{pairs}
+use Rattle.limits.specs.Pairs.{pairs}
 use Rattle.clauses.specs.Maps.{mapOf}
 use Rattle.clauses.specs.declared.Listed.{Listed}
 use Rattle.clauses.specs.declared.Listed.the-variants.{List as Words, Refused}

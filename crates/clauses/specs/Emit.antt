@@ -8,6 +8,7 @@ use lib.ListN.{length, getD, take, drop}
 use lib.Dec.{ltb, leb, eqb}
 use Rattle.lists.specs.Lists.{mem, over, gather, keep, upto}
 use Rattle.lists.specs.Bits.{has}
+use Rattle.limits.specs.Limits.{stateMost}
 use Rattle.table.specs.File.{Table, records}
 use Rattle.table.specs.Reading.{ascend}
 use Rattle.table.specs.Language.{byteOf, look}
@@ -104,7 +105,7 @@ lastBytes w s = map (λ r. getD r (w - 1) 0) (records w s)
 -- a section of records of w bytes that ascend and that name states
 pub record Sorted (w : ℕ) (s : List ℕ) : Type 0 where
   pub ascends : ascend (records w s) ≡ true
-  pub names : Section w 24 s
+  pub names : Section w stateMost s
 
 -- group 5: the clause of a return, a state and a top
 abbrev pub returnOf : List (List ℕ) → Return → ℕ → ℕ → List (List ℕ)
@@ -126,9 +127,9 @@ returnClausesBy f rs n =
 
 -- ---- the whole list
 
--- at most 24 states, and sections that ascend and name states
+-- at most 40 states, and sections that ascend and name states
 pub record Ready (states internals calls returns : List ℕ) : Type 0 where
-  pub few : length states ≤ 24
+  pub few : length states ≤ stateMost
   pub internals-sorted : Sorted 3 internals
   pub calls-sorted : Sorted 3 calls
   pub returns-sorted : Sorted 4 returns

@@ -1,11 +1,8 @@
 -- Pairs of states as variables (document 01, "Pairs and clauses"). Assumes nothing.
 use mathlib.Core.Bool.{true, false}
-use Prim.Native.Nat.{ℕ, zero, suc, _+_, _-_, _*_, _/_}
+use Prim.Native.Nat.{ℕ, zero, suc, _+_, _-_}
 use lib.Dec.{ltb}
-
--- how many pairs n states have: the variables of n states
-unfoldable pub pairs : ℕ → ℕ
-pairs n = n * (n - 1) / 2
+use Rattle.limits.specs.Pairs.{pairs}
 
 -- "States p < q have variable q(q-1)/2 + p": of two different states in any order
 unfoldable pub variableOf : ℕ → ℕ → ℕ

@@ -16,7 +16,7 @@ pub struct Tally {
 
 // A clause's words, "its literal count, then the literals", at the front of the remaining buffer.
 fn store(clause: Literals, rest: &mut [u16])
-    requires { ⌜ (clause .n ≤ 32) × (clause .n < length (now rest)) ⌝ }
+    requires { ⌜ (clause .n ≤ 42) × (clause .n < length (now rest)) ⌝ }
     ensures { λ _. ⌜ now (rest .exit) ≡ over (clause .n ∷ literalsOf clause) (now (rest .entry)) ⌝ }
 {
     let n = clause.n;
@@ -30,7 +30,7 @@ fn store(clause: Literals, rest: &mut [u16])
 
 // One clause: it is counted, and written where it is to be and where it fits. Nothing changes once there are more words than the list has.
 pub(crate) fn put(clause: Literals, tally: Tally, list: &mut [u16]) -> Tally
-    requires { ⌜ (clause .n ≤ 32) × Ordered tally ⌝ }
+    requires { ⌜ (clause .n ≤ 42) × Ordered tally ⌝ }
     ensures { λ r. ⌜ state r (now (list .exit)) ≡ emit (literalsOf clause ∷ []) (state tally (now (list .entry))) ⌝ }
 {
     let at = tally.words;

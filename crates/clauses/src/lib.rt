@@ -1,13 +1,13 @@
 // The clauses of a table.
 ghost use mathlib.Core.Path.{_≡_};
-ghost use Rattle.table.specs.Limits.{standard};
+ghost use Rattle.limits.specs.Limits.{standard};
 ghost use Rattle.table.specs.File.{tableOf};
-ghost use Rattle.table.specs.Reading.{Readable, startsOf};
-ghost use Rattle.tops.specs.Tops.{topWords};
-ghost use Rattle.clauses.specs.Clauses.{clausesOf};
+ghost use Rattle.maps.specs.Sections.{Known};
+ghost use Rattle.clauses.specs.Clauses.{clauseList, clausesOf};
 ghost use Rattle.clauses.specs.Emit.{state, Ordered, emit, Ready, listBy, listedBy};
 ghost use Rattle.clauses.specs.Demands.{ListSound};
 use emit::Tally;
+use limits::Limits;
 use moves::moves;
 use returns::live_returns;
 use states::looks_apart;
@@ -30,7 +30,7 @@ pub use variables::pairs_of;
 // What writing the clause list answers.
 pub enum Listed {
     List { clauses: usize, words: usize },
-    // 1 to 8, 10
+    // 39, 1 to 8, 10
     Refused(u8),
 }
 
@@ -40,7 +40,7 @@ fn all_groups(
     internals: &[u8],
     calls: &[u8],
     returns: &[u8],
-    tops: &[u32; 24],
+    tops: &[u64; 40],
     tally: Tally,
     list: &mut [u16],
 ) -> Tally
@@ -61,7 +61,7 @@ fn list_sections(
     internals: &[u8],
     calls: &[u8],
     returns: &[u8],
-    tops: &[u32; 24],
+    tops: &[u64; 40],
     list: &mut [u16],
 ) -> Listed
     requires { ⌜ Ready (now states) (now internals) (now calls) (now returns) ⌝ }
@@ -89,9 +89,9 @@ fn list_sections(
 }
 
 // The list of a table that was read: its sections are handed on as parts of the file.
-fn list_read(table: &[u8], starts: Starts, tops: &[u32; 24], list: &mut [u16]) -> Listed
-    requires { ⌜ Readable standard (now table) × (starts ≡ startsOf (now table)) × (now tops ≡ topWords standard (tableOf (now table))) ⌝ }
-    ensures { λ r. ⌜ record { answer = r; list = now (list .exit) } ≡ clausesOf standard (now (table .entry)) (now (list .entry)) ⌝ }
+fn list_read(table: &[u8], starts: Starts, tops: &[u64; 40], list: &mut [u16]) -> Listed
+    requires { ⌜ Known (now table) starts (now tops) ⌝ }
+    ensures { λ r. ⌜ record { answer = r; list = now (list .exit) } ≡ listedBy (clauseList (tableOf (now (table .entry)))) (now (list .entry)) ⌝ }
 {
     list_sections(
         table::part(table, starts, Section::States),
@@ -103,16 +103,24 @@ fn list_read(table: &[u8], starts: Starts, tops: &[u32; 24], list: &mut [u16]) -
     )
 }
 
-// The clause list of a table.
-pub fn clauses(table: &[u8], list: &mut [u16]) -> Listed
-    ensures { λ r. ⌜ record { answer = r; list = now (list .exit) } ≡ clausesOf standard (now (table .entry)) (now (list .entry)) ⌝ }
-    ensures sound { λ r. ⌜ ListSound standard (now (table .entry)) (now (list .exit)) r ⌝ }
+// The clause list of a table that is read at limits.
+pub fn clauses_within(limits: Limits, table: &[u8], list: &mut [u16]) -> Listed
+    ensures { λ r. ⌜ record { answer = r; list = now (list .exit) } ≡ clausesOf limits (now (table .entry)) (now (list .entry)) ⌝ }
+    ensures sound { λ r. ⌜ ListSound limits (now (table .entry)) (now (list .exit)) r ⌝ }
 {
-    let e = tops::examine(table);
+    let e = tops::examine(limits, table);
     if e.number != 0 {
         return Listed::Refused(e.number);
     }
     let words = e.words;
     let starts = e.starts;
     list_read(table, starts, &words, list)
+}
+
+// The clause list of a table, at the limits of a caller that gives none.
+pub fn clauses(table: &[u8], list: &mut [u16]) -> Listed
+    ensures { λ r. ⌜ record { answer = r; list = now (list .exit) } ≡ clausesOf standard (now (table .entry)) (now (list .entry)) ⌝ }
+    ensures sound { λ r. ⌜ ListSound standard (now (table .entry)) (now (list .exit)) r ⌝ }
+{
+    clauses_within(limits::standard(), table, list)
 }

@@ -8,9 +8,9 @@ ghost use Rattle.clauses.specs.Clauses.{together, apart, opposite};
 ghost use Rattle.clauses.specs.Emit.{literalsOf, withLiteral, Holds};
 use super::variables::variable_of;
 
-// The first n words; a clause has at most 26 literals.
+// The first n words; a clause has at most 42 literals: two premises, and a target for each state.
 pub struct Literals {
-    pub words: [u16; 32],
+    pub words: [u16; 42],
     pub n: usize,
 }
 
@@ -39,14 +39,14 @@ pub fn no_literals() -> Literals
     ensures { λ r. ⌜ Holds r [] ⌝ }
 {
     Literals {
-        words: [0u16; 32],
+        words: [0u16; 42],
         n: 0,
     }
 }
 
 // Whether a literal is among the first n words.
-pub(crate) fn contains(words: &[u16; 32], n: usize, l: u16) -> bool
-    requires { ⌜ (n ≤ 32) × (length (now words) ≡ 32) ⌝ }
+pub(crate) fn contains(words: &[u16; 42], n: usize, l: u16) -> bool
+    requires { ⌜ (n ≤ 42) × (length (now words) ≡ 42) ⌝ }
     ensures { λ r. ⌜ r ≡ mem l (take n (now (words .entry))) ⌝ }
 {
     let mut i: usize = 0;
@@ -60,9 +60,9 @@ pub(crate) fn contains(words: &[u16; 32], n: usize, l: u16) -> bool
 }
 
 // "A repeated literal is written once, at its first place": one literal more behind the first n words, and how many there are then.
-pub(crate) fn add_literal(words: &mut [u16; 32], n: usize, l: u16) -> usize
-    requires { ⌜ (n < 32) × (length (now words) ≡ 32) ⌝ }
-    ensures { λ r. ⌜ Holds (record { words = now (words .exit); n = r }) (withLiteral (take n (now (words .entry))) l) × (length (now (words .exit)) ≡ 32) ⌝ }
+pub(crate) fn add_literal(words: &mut [u16; 42], n: usize, l: u16) -> usize
+    requires { ⌜ (n < 42) × (length (now words) ≡ 42) ⌝ }
+    ensures { λ r. ⌜ Holds (record { words = now (words .exit); n = r }) (withLiteral (take n (now (words .entry))) l) × (length (now (words .exit)) ≡ 42) ⌝ }
 {
     if contains(words, n, l) {
         return n;
@@ -73,7 +73,7 @@ pub(crate) fn add_literal(words: &mut [u16; 32], n: usize, l: u16) -> usize
 
 // The same of a clause.
 pub(crate) fn with_literal(c: Literals, l: u16) -> Literals
-    requires { ⌜ c .n < 32 ⌝ }
+    requires { ⌜ c .n < 42 ⌝ }
     ensures { λ r. ⌜ Holds r (withLiteral (literalsOf c) l) ⌝ }
 {
     let mut words = c.words;

@@ -17,7 +17,7 @@ use super::literals::with_literal;
 
 // "{p,q} false unless p = q"
 pub(crate) fn with_premise(c: Literals, p: u8, q: u8) -> Literals
-    requires { ⌜ c .n < 32 ⌝ }
+    requires { ⌜ c .n < 42 ⌝ }
     ensures { λ r. ⌜ Holds r (withAll (literalsOf c) (premise p q)) ⌝ }
 {
     if p == q {
@@ -35,7 +35,7 @@ pub(crate) fn matched(
     tally: Tally,
     list: &mut [u16],
 ) -> Tally
-    requires { ⌜ (0 < width) × (premises .n + length (records width (now found)) ≤ 32) × Ordered tally ⌝ }
+    requires { ⌜ (0 < width) × (premises .n + length (records width (now found)) ≤ 42) × Ordered tally ⌝ }
     ensures { λ r. ⌜ state r (now (list .exit)) ≡ emit (matchingFrom (literalsOf premises) target (lastBytes width (now (found .entry)))) (state tally (now (list .entry))) ⌝ }
 {
     let mut words = premises.words;

@@ -59,7 +59,7 @@ fn return_tops(
     section: &[u8],
     x: Return,
     q: u8,
-    word: u32,
+    word: u64,
     count: u8,
     tally: Tally,
     list: &mut [u16],
@@ -83,13 +83,13 @@ fn return_tops(
 // "each q ascending"
 fn return_record(
     section: &[u8],
-    tops: &[u32; 24],
+    tops: &[u64; 40],
     x: Return,
     count: u8,
     tally: Tally,
     list: &mut [u16],
 ) -> Tally
-    requires { ⌜ Sorted 4 (now section) × (count ≤ 24) × Ordered tally ⌝ }
+    requires { ⌜ Sorted 4 (now section) × (count ≤ 40) × Ordered tally ⌝ }
     ensures { λ r. ⌜ state r (now (list .exit)) ≡ emit (gather (λ q. gather (λ u. returnOf (records 4 (now (section .entry))) x q u) (topStates (now (tops .entry)) count q)) (upto count)) (state tally (now (list .entry))) ⌝ }
 {
     let mut at = tally;
@@ -103,8 +103,8 @@ fn return_record(
 }
 
 // "A return record is live when its stack state is in tops of its state".
-fn is_live(tops: &[u32; 24], x: Return) -> bool
-    requires { ⌜ (x .from < 24) × (x .under < 32) ⌝ }
+fn is_live(tops: &[u64; 40], x: Return) -> bool
+    requires { ⌜ (x .from < 40) × (x .under < 64) ⌝ }
     ensures { λ r. ⌜ r ≡ has (now (tops .entry)) (x .from) (x .under) ⌝ }
 {
     (tops[wide(x.from)] >> wide(x.under)) % 2 == 1
@@ -113,13 +113,13 @@ fn is_live(tops: &[u32; 24], x: Return) -> bool
 // A live return has clauses, a dead one none.
 fn live_record(
     section: &[u8],
-    tops: &[u32; 24],
+    tops: &[u64; 40],
     x: Return,
     count: u8,
     tally: Tally,
     list: &mut [u16],
 ) -> Tally
-    requires { ⌜ Sorted 4 (now section) × (x .from < 24) × (x .under < 32) × (count ≤ 24) × Ordered tally ⌝ }
+    requires { ⌜ Sorted 4 (now section) × (x .from < 40) × (x .under < 64) × (count ≤ 40) × Ordered tally ⌝ }
     ensures { λ r. ⌜ state r (now (list .exit)) ≡ emit (liveRecord (records 4 (now (section .entry))) (now (tops .entry)) count x) (state tally (now (list .entry))) ⌝ }
 {
     if !is_live(tops, x) {
@@ -131,12 +131,12 @@ fn live_record(
 // 5. "For each live return (p, r, s, p') in order". No further once the list is too short.
 pub(crate) fn live_returns(
     section: &[u8],
-    tops: &[u32; 24],
+    tops: &[u64; 40],
     count: u8,
     tally: Tally,
     list: &mut [u16],
 ) -> Tally
-    requires { ⌜ Sorted 4 (now section) × (count ≤ 24) × Ordered tally ⌝ }
+    requires { ⌜ Sorted 4 (now section) × (count ≤ 40) × Ordered tally ⌝ }
     ensures { λ r. ⌜ state r (now (list .exit)) ≡ emit (returnClausesBy (now (tops .entry)) (records 4 (now (section .entry))) count) (state tally (now (list .entry))) ⌝ }
 {
     let mut so_far = tally;

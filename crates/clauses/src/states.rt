@@ -4,7 +4,8 @@ ghost use mathlib.Core.List.{[], _∷_};
 ghost use Prim.Native.Nat.{_<_, _≤_};
 ghost use lib.ListN.{length};
 ghost use Rattle.lists.specs.Lists.{gather};
-ghost use Rattle.clauses.specs.Pairs.{pairs, pairOf};
+ghost use Rattle.limits.specs.Pairs.{pairs};
+ghost use Rattle.clauses.specs.Pairs.{pairOf};
 ghost use Rattle.clauses.specs.Clauses.{lookClauses, triangle, past, transitivity};
 ghost use Rattle.clauses.specs.Emit.{Holds, state, Ordered, emit, statesOnly, lookClause};
 use super::emit::Tally;
@@ -55,7 +56,7 @@ pub(crate) fn looks_apart(states: &[u8], tally: Tally, list: &mut [u16]) -> Tall
 fn three(a: u16, b: u16, c: u16) -> Literals
     ensures { λ r. ⌜ Holds r (a ∷ b ∷ c ∷ []) ⌝ }
 {
-    let mut words = [0u16; 32];
+    let mut words = [0u16; 42];
     words[0] = a;
     words[1] = b;
     words[2] = c;

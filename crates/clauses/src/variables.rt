@@ -1,6 +1,7 @@
 // Pairs of states as variables (document 01, "Pairs and clauses"): the formula and the way back.
 ghost use mathlib.Core.Path.{_≡_};
-ghost use Rattle.clauses.specs.Pairs.{pairs, variableOf, pairOf};
+ghost use Rattle.limits.specs.Pairs.{pairs};
+ghost use Rattle.clauses.specs.Pairs.{variableOf, pairOf};
 ghost use Rattle.clauses.specs.Emit.{pairFound};
 
 // Two states, low below high.

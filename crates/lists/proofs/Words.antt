@@ -131,6 +131,16 @@ over-append k [] ys = omega arith
 over-append k (x ∷ xs) ys = omega (arith, over-append k xs ys)
 
 -- words of k bits have no more ones among more bits
+zero-ones : (k : ℕ) → onesIn k 0 ≡ 0
+unfolding onesIn
+zero-ones zero = refl
+zero-ones (suc k) = let e : 0 / 2 ≡ 0 = omega arith in omega (arith, ap (onesIn k) e, zero-ones k)
+
+pub over-zeros : (k n : ℕ) → onesOver k (replicate n 0) ≡ 0
+unfolding onesOver
+over-zeros k zero = refl
+over-zeros k (suc n) = omega (arith, zero-ones k, over-zeros k n)
+
 pub over-more : (k n : ℕ) (ws : List ℕ) → k ≤ n → ((q : ℕ) → getD ws q 0 < 2 ^ k) → onesOver n ws ≡ onesOver k ws
 unfolding onesOver
 over-more k n [] h l = refl

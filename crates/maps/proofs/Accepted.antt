@@ -10,7 +10,7 @@ use borrow.Author.Tests.{eqb-true, eqb-false, eq-eqb}
 use Rattle.lists.specs.Lists.{firstFailed}
 use Rattle.lists.proofs.Refusals.{passed, passes, no-test}
 use Rattle.vpa.proofs.Relations.{matched-of, joined-raq}
-use Rattle.table.specs.Limits.{Limits}
+use Rattle.limits.specs.declared.Limits.{Limits}
 use Rattle.table.specs.File.{Table, tableOf}
 use Rattle.table.specs.Reading.{readNumber, Readable, WellFormed}
 use Rattle.table.specs.Language.{automaton}
@@ -21,7 +21,7 @@ use Rattle.maps.specs.Check.{mapTests, checkNumber}
 use Rattle.maps.proofs.Conditions.{passed-matched, matched-passed}
 
 module _ (L : Limits) (t : Table) (wf : WellFormed L t) (m : List ℕ) where
-  tests-raq : firstFailed (mapTests L t m) ≡ 0 → Proper t m × RaqMap t m
+  tests-raq : firstFailed (mapTests t m) ≡ 0 → Proper t m × RaqMap t m
   unfolding mapTests
   tests-raq e =
       let a = passed 15 _ _ (omega arith) e in
@@ -34,7 +34,7 @@ module _ (L : Limits) (t : Table) (wf : WellFormed L t) (m : List ℕ) where
         joined-raq (automaton t) (classOf m) (λ q s lq ls. reachable? wf q s) .0 (passed-matched L t wf m (record { looks = c .0; internals = d .0; calls = f .0; returns = g .0 })),
       )
 
-  raq-tests : Proper t m → RaqMap t m → firstFailed (mapTests L t m) ≡ 0
+  raq-tests : Proper t m → RaqMap t m → firstFailed (mapTests t m) ≡ 0
   unfolding mapTests
   raq-tests p raq =
       let h = matched-passed L t wf m (λ p q j. raq .accepting j) (matched-of (automaton t) (JoinedBy t m) raq) in
@@ -51,7 +51,7 @@ module _ (L : Limits) (b m : List ℕ) where
   unfolding checkNumber
   accepted e = go (eqb (readNumber L b) 0) refl e
     where
-      go : (t : Bool) → eqb (readNumber L b) 0 ≡ t → _≡_ {A = ℕ} (elim t [ true ↦ firstFailed (mapTests L (tableOf b) m) | false ↦ readNumber L b ]) 0 → Accepted L b m
+      go : (t : Bool) → eqb (readNumber L b) 0 ≡ t → _≡_ {A = ℕ} (elim t [ true ↦ firstFailed (mapTests (tableOf b) m) | false ↦ readNumber L b ]) 0 → Accepted L b m
       go true r f =
           let h = eqb-true (readNumber L b) 0 r in
           let k = tests-raq L (tableOf b) (read-well-formed L b h) m f in

@@ -10,16 +10,16 @@ use lib.Dec.{eqb}
 use borrow.Author.Tests.{eqb-true, eqb-false, eq-eqb, ne-eqb}
 use Rattle.lists.specs.Lists.{firstFailed}
 use Rattle.lists.proofs.Refusals.{passes, fails, no-test}
-use Rattle.table.specs.Limits.{standard}
+use Rattle.limits.specs.declared.Limits.{Limits}
 use Rattle.table.specs.File.{records, tableOf}
-use Rattle.table.specs.Reading.{readNumber, ascend}
+use Rattle.table.specs.Reading.{readNumber, Readable, ascend}
 use Rattle.table.specs.Maps.{classes, numbered, Proper, RaqMap}
 use Rattle.table.specs.Sections.{partOf}
 use Rattle.table.specs.declared.Starts.{Starts}
 use Rattle.table.specs.declared.view.Section.the-variants.{States, Internals, Calls, Returns}
 use Rattle.table.proofs.Passed.{formed-tested}
 use Rattle.table.proofs.Bytes.{read-well-formed}
-use Rattle.table.proofs.Facts.{few-states}
+use Rattle.table.proofs.Facts.{most-states}
 use Rattle.table.proofs.Parts.{states-read, internals-read, calls-read, returns-read}
 use Rattle.tops.specs.declared.Examined.{Examined}
 use Rattle.tops.specs.Demands.{examinedOf}
@@ -79,8 +79,8 @@ module _ {b f : List ℕ} {s : Starts} (k : Known b s f) {states internals calls
     (e1 : states ≡ partOf b s States) (e2 : internals ≡ partOf b s Internals) (e3 : calls ≡ partOf b s Calls) (e4 : returns ≡ partOf b s Returns) where
   pub known-parts : Parted states internals calls returns
   known-parts =
-      let wf = read-well-formed standard b (k .read .readable) in
-      let few : length states ≤ 256 = omega (arith, ap length (states-read (k .read) e1), few-states wf) in
+      let wf = read-well-formed (k .limits) b (k .read .readable) in
+      let few : length states ≤ 256 = omega (arith, ap length (states-read (k .read) e1), most-states wf) in
       record {
         internals-lent = record { moves = omega arith; returns = omega arith; in-order = ap ascend (internals-read (k .read) e2) ∙ formed-tested wf .internals-ascend; few = few };
         calls-lent = record { moves = omega arith; returns = omega arith; in-order = ap ascend (calls-read (k .read) e3) ∙ formed-tested wf .calls-ascend; few = few };
@@ -88,7 +88,7 @@ module _ {b f : List ℕ} {s : Starts} (k : Known b s f) {states internals calls
       }
 
   -- of records of 3 and 4 bytes the conditions over the width are (ii) to (iv)
-  pub parts-tests : (m : List ℕ) → firstFailed (partTests states internals calls returns f m) ≡ firstFailed (mapTests standard (tableOf b) m)
+  pub parts-tests : (m : List ℕ) → firstFailed (partTests states internals calls returns f m) ≡ firstFailed (mapTests (tableOf b) m)
   unfolding partTests mapTests looksAgree recordMatched movesMatched returnsMatched
   parts-tests m =
       let n = states-read (k .read) e1 in
@@ -103,63 +103,66 @@ module _ {b f : List ℕ} {s : Starts} (k : Known b s f) {states internals calls
 
 -- ---- the answer
 
-module _ (b : List ℕ) where
+module _ (L : Limits) (b : List ℕ) where
   -- what a readable table is passed on with
-  known : {s : Starts} {f : List ℕ} → readNumber standard b ≡ 0 → s ≡ examinedOf standard b .starts → f ≡ examinedOf standard b .words → Known b s f
+  known : {s : Starts} {f : List ℕ} → readNumber L b ≡ 0 → s ≡ examinedOf L b .starts → f ≡ examinedOf L b .words → Known b s f
   unfolding examinedOf
-  known p d e = record { read = record { readable = p; starts = d ∙ rw (eq-eqb _ _ p, examinedOf) }; words = e ∙ rw (eq-eqb _ _ p, examinedOf) }
+  known p d e = record { limits = L; read = record { readable = p; starts = d ∙ rw (eq-eqb _ _ p, examinedOf) }; words = e ∙ rw (eq-eqb _ _ p, examinedOf) }
 
-  module _ {x : Examined} (e : x ≡ examinedOf standard b) where
-    examined-number : x .number ≡ readNumber standard b
+  module _ {x : Examined} (e : x ≡ examinedOf L b) where
+    examined-number : x .number ≡ readNumber L b
     unfolding examinedOf
-    examined-number = ap (λ (y : Examined). y .number) e ∙ go (eqb (readNumber standard b) 0) refl
+    examined-number = ap (λ (y : Examined). y .number) e ∙ go (eqb (readNumber L b) 0) refl
       where
-        go : (t : Bool) → eqb (readNumber standard b) 0 ≡ t → examinedOf standard b .number ≡ readNumber standard b
+        go : (t : Bool) → eqb (readNumber L b) 0 ≡ t → examinedOf L b .number ≡ readNumber L b
         go true p = rw (p, examinedOf) (sym (eqb-true _ _ p))
         go false p = rw (p, examinedOf)
+
+    pub read-readable : x .number ≡ 0 → Readable L b
+    read-readable n = sym examined-number ∙ n
 
     pub read-known : x .number ≡ 0 → Known b (x .starts) (x .words)
     read-known n = known (sym examined-number ∙ n) (ap (λ (y : Examined). y .starts) e) (ap (λ (y : Examined). y .words) e)
 
-module _ (b m : List ℕ) where
-  module _ {x : Examined} (e : x ≡ examinedOf standard b) where
-    with-number : {k : ℕ} → k ≡ checkNumber standard b m → record { number = k; starts = x .starts; words = x .words; found = x .found } ≡ examinedFor standard b m
+module _ (L : Limits) (b m : List ℕ) where
+  module _ {x : Examined} (e : x ≡ examinedOf L b) where
+    with-number : {k : ℕ} → k ≡ checkNumber L b m → record { number = k; starts = x .starts; words = x .words; found = x .found } ≡ examinedFor L b m
     unfolding examinedFor
     with-number g = λ i. record { number = g i; starts = e i .starts; words = e i .words; found = e i .found }
 
-    pub unread : (x .number ≡ 0 → ⊥) → x ≡ examinedFor standard b m
+    pub unread : (x .number ≡ 0 → ⊥) → x ≡ examinedFor L b m
     unfolding checkNumber
-    unread n = let p = examined-number b e in with-number (p ∙ rw (ne-eqb (readNumber standard b) 0 (λ q. n (p ∙ q)), checkNumber))
+    unread n = let p = examined-number L b e in with-number (p ∙ rw (ne-eqb (readNumber L b) 0 (λ q. n (p ∙ q)), checkNumber))
 
-    pub tested : {k : ℕ} → x .number ≡ 0 → k ≡ firstFailed (mapTests standard (tableOf b) m) → record { number = k; starts = x .starts; words = x .words; found = x .found } ≡ examinedFor standard b m
+    pub tested : {k : ℕ} → x .number ≡ 0 → k ≡ firstFailed (mapTests (tableOf b) m) → record { number = k; starts = x .starts; words = x .words; found = x .found } ≡ examinedFor L b m
     unfolding checkNumber
-    tested n f = with-number (f ∙ sym (rw (eq-eqb (readNumber standard b) 0 (sym (examined-number b e) ∙ n), checkNumber) refl))
+    tested n f = with-number (f ∙ sym (rw (eq-eqb (readNumber L b) 0 (sym (examined-number L b e) ∙ n), checkNumber) refl))
 
-  module _ {y : Examined} (e : y ≡ examinedFor standard b m) where
-    pub checked-number : checkNumber standard b m ≡ y .number
+  module _ {y : Examined} (e : y ≡ examinedFor L b m) where
+    pub checked-number : checkNumber L b m ≡ y .number
     unfolding examinedFor
     checked-number = ap (λ (z : Examined). z .number) (sym e)
 
     pub checked-known : y .number ≡ 0 → Known b (y .starts) (y .words)
     unfolding examinedFor
-    checked-known n = known b (accepted standard b m (checked-number ∙ n) .readable) (ap (λ (z : Examined). z .starts) e) (ap (λ (z : Examined). z .words) e)
+    checked-known n = known L b (accepted L b m (checked-number ∙ n) .readable) (ap (λ (z : Examined). z .starts) e) (ap (λ (z : Examined). z .words) e)
 
-  pub check-refused : {k : ℕ} → checkNumber standard b m ≡ k → (k ≡ 0 → ⊥) → Refused k ≡ checkOf standard b m
+  pub check-refused : {k : ℕ} → checkNumber L b m ≡ k → (k ≡ 0 → ⊥) → Refused k ≡ checkOf L b m
   unfolding checkOf
-  check-refused e n = sym (rw (ne-eqb (checkNumber standard b m) 0 (λ q. n (sym e ∙ q)), checkOf) (ap (λ k. Refused k) e))
+  check-refused e n = sym (rw (ne-eqb (checkNumber L b m) 0 (λ q. n (sym e ∙ q)), checkOf) (ap (λ k. Refused k) e))
 
-  pub check-accepted : {k n : ℕ} → checkNumber standard b m ≡ k → k ≡ 0 → n ≡ classes m → Accepted n ≡ checkOf standard b m
+  pub check-accepted : {k n : ℕ} → checkNumber L b m ≡ k → k ≡ 0 → n ≡ classes m → Accepted n ≡ checkOf L b m
   unfolding checkOf
-  check-accepted e z l = sym (rw (eq-eqb (checkNumber standard b m) 0 (e ∙ z), checkOf) (ap (λ n. Accepted n) (sym l)))
+  check-accepted e z l = sym (rw (eq-eqb (checkNumber L b m) 0 (e ∙ z), checkOf) (ap (λ n. Accepted n) (sym l)))
 
   -- demand 2
-  exactly : AcceptsExactly standard b m (checkOf standard b m)
+  exactly : AcceptsExactly L b m (checkOf L b m)
   unfolding checkOf
-  exactly readable = go (eqb (checkNumber standard b m) 0) refl
+  exactly readable = go (eqb (checkNumber L b m) 0) refl
     where
-      go : (t : Bool) → eqb (checkNumber standard b m) 0 ≡ t → IsAccepted (elim t as (λ _. Checked) [ true ↦ Accepted (classes m) | false ↦ Refused (checkNumber standard b m) ]) ↔ (Proper (tableOf b) m × RaqMap (tableOf b) m)
-      go true p = (λ z. let a = accepted standard b m (eqb-true _ _ p) in (a .proper, a .raq), λ z. tt)
-      go false p = (λ z. absurd z, λ z. eqb-false (checkNumber standard b m) 0 p (accepts standard b m (record { readable = readable; proper = z .0; raq = z .1 })))
+      go : (t : Bool) → eqb (checkNumber L b m) 0 ≡ t → IsAccepted (elim t as (λ _. Checked) [ true ↦ Accepted (classes m) | false ↦ Refused (checkNumber L b m) ]) ↔ (Proper (tableOf b) m × RaqMap (tableOf b) m)
+      go true p = (λ z. let a = accepted L b m (eqb-true _ _ p) in (a .proper, a .raq), λ z. tt)
+      go false p = (λ z. absurd z, λ z. eqb-false (checkNumber L b m) 0 p (accepts L b m (record { readable = readable; proper = z .0; raq = z .1 })))
 
-  pub checked : {r : Checked} → r ≡ checkOf standard b m → (r ≡ checkOf standard b m) × AcceptsExactly standard b m r
-  checked {r} e = (e, subst (λ (y : Checked). AcceptsExactly standard b m y) (sym e) exactly)
+  pub checked : {r : Checked} → r ≡ checkOf L b m → (r ≡ checkOf L b m) × AcceptsExactly L b m r
+  checked {r} e = (e, subst (λ (y : Checked). AcceptsExactly L b m y) (sym e) exactly)

@@ -11,7 +11,7 @@ use Rattle.lists.specs.Lists.{any, upto}
 use Rattle.lists.specs.Bits.{has}
 use Rattle.lists.proofs.Members.{and-true, and-of, gives, gives-of, any-true, any-of, all-true, all-of, upto-mem, upto-of}
 use Rattle.vpa.proofs.Relations.{Matched}
-use Rattle.table.specs.Limits.{Limits}
+use Rattle.limits.specs.declared.Limits.{Limits}
 use Rattle.table.specs.File.{Table}
 use Rattle.table.specs.Reading.{WellFormed}
 use Rattle.table.specs.Language.{count, byteOf, look, targets, automaton}
@@ -110,25 +110,25 @@ module _ (t : Table) (m : List ℕ) where
             any-reaches rs (q ∷ a ∷ u ∷ []) p' (fit .wide) (r .0, r .1, r .2 .classes)
 
 -- the four tests together
-pub record Passed (L : Limits) (t : Table) (m : List ℕ) : Type 0 where
+pub record Passed (t : Table) (m : List ℕ) : Type 0 where
   pub looks : looksAgree t m ≡ true
   pub internals : movesMatched (t .internals) (count t) m ≡ true
   pub calls : movesMatched (t .calls) (count t) m ≡ true
-  pub returns : returnsMatched (topWords L t) (t .returns) (count t) m ≡ true
+  pub returns : returnsMatched (topWords t) (t .returns) (count t) m ≡ true
 
 module _ (L : Limits) (t : Table) (wf : WellFormed L t) (m : List ℕ) where
-  pub passed-matched : Passed L t m → Matched (automaton t) (JoinedBy t m)
+  pub passed-matched : Passed t m → Matched (automaton t) (JoinedBy t m)
   passed-matched h = record {
     accepting = λ {p} {q} j. look-accepting wf p q (looks-true t m (h .looks) p q j);
     internals = λ {p} {q} {p'} {a} j k. moves-true t m 0 (t .internals) (internals-fit wf) (h .internals) p q p' a j k;
     calls = λ {p} {q} {p'} {a} j k. moves-true t m 1 (t .calls) (calls-fit wf) (h .calls) p q p' a j k;
-    returns = λ {p} {q} {s} {u} {p'} {a} j i tp tq k. returns-true t m (topWords L t) (t .returns) (returns-fit wf) (h .returns) p q s u p' a j i (told wf p s (i .left) .1 tp) (told wf q u (i .right) .1 tq) k;
+    returns = λ {p} {q} {s} {u} {p'} {a} j i tp tq k. returns-true t m (topWords t) (t .returns) (returns-fit wf) (h .returns) p q s u p' a j i (told wf p s (i .left) .1 tp) (told wf q u (i .right) .1 tq) k;
   }
 
-  pub matched-passed : ((p q : ℕ) → JoinedBy t m p q → automaton t .accepting p ↔ automaton t .accepting q) → Matched (automaton t) (JoinedBy t m) → Passed L t m
+  pub matched-passed : ((p q : ℕ) → JoinedBy t m p q → automaton t .accepting p ↔ automaton t .accepting q) → Matched (automaton t) (JoinedBy t m) → Passed t m
   matched-passed agree h = record {
     looks = looks-test t m (λ p q j. accepting-look wf p q (agree p q j));
     internals = moves-test t m 0 (t .internals) (internals-fit wf) (λ p q p' a j k. h .internals j k);
     calls = moves-test t m 1 (t .calls) (calls-fit wf) (λ p q p' a j k. h .calls j k);
-    returns = returns-test t m (topWords L t) (t .returns) (returns-fit wf) (λ p q s u p' a j i hp hq k. h .returns j i (told wf p s (i .left) .0 hp) (told wf q u (i .right) .0 hq) k);
+    returns = returns-test t m (topWords t) (t .returns) (returns-fit wf) (λ p q s u p' a j i hp hq k. h .returns j i (told wf p s (i .left) .0 hp) (told wf q u (i .right) .0 hq) k);
   }

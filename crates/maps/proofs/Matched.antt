@@ -22,12 +22,12 @@ use Rattle.tops.specs.Tops.{live}
 use Rattle.maps.specs.Check.{moveMatched, returnMatched}
 use Rattle.maps.specs.Sections.{kept, returnMet, recordMatched, recordMet, Lent}
 
--- ---- no word past the end, no bit past 31
+-- ---- no word past the end, no bit past 63
 
 pub past-words : (f : List ℕ) (q x : ℕ) → length f ≤ q → false ≡ has f q x
 past-words f q x h = sym (has-no f q x (λ b. no-bit x (subst (λ (w : ℕ). Bit w x) (List·getD-eq-default f 0 h) b)))
 
-pub past-bits : (f : List ℕ) (q x : ℕ) → getD f q 0 < 2 ^ 32 → 31 < x → false ≡ has f q x
+pub past-bits : (f : List ℕ) (q x : ℕ) → getD f q 0 < 2 ^ 64 → 63 < x → false ≡ has f q x
 past-bits f q x h l = sym (has-no f q x (λ b. omega (arith, b, div-eq-of-lt (lt-of-lt-of-le h (pow-mono l)))))
 
 -- ---- which records are kept

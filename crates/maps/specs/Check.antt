@@ -6,7 +6,7 @@ use lib.ListN.{length, getD}
 use lib.Dec.{eqb}
 use Rattle.lists.specs.Lists.{any, all, upto, firstFailed}
 use Rattle.lists.specs.Bits.{has}
-use Rattle.table.specs.Limits.{Limits}
+use Rattle.limits.specs.declared.Limits.{Limits}
 use Rattle.table.specs.File.{Table, tableOf}
 use Rattle.table.specs.Reading.{readNumber}
 use Rattle.table.specs.Language.{count, byteOf, look, targets}
@@ -36,20 +36,20 @@ unfoldable pub returnsMatched : List ℕ → List (List ℕ) → ℕ → List �
 returnsMatched f rs n m = all (λ r. all (λ q. all (λ u. returnMatched f rs m (getD r 0 0) (getD r 1 0) (getD r 2 0) (getD r 3 0) q u) (upto n)) (upto n)) rs
 
 -- 15 "length"; 16 "numbering"; "17 to 20 the first of (i) to (iv) that is broken"
-unfoldable pub mapTests : Limits → Table → List ℕ → List (ℕ × Bool)
-mapTests L t m =
+unfoldable pub mapTests : Table → List ℕ → List (ℕ × Bool)
+mapTests t m =
     (15, eqb (length m) (count t))
     ∷ (16, numbered m)
     ∷ (17, looksAgree t m)
     ∷ (18, movesMatched (t .internals) (count t) m)
     ∷ (19, movesMatched (t .calls) (count t) m)
-    ∷ (20, returnsMatched (topWords L t) (t .returns) (count t) m)
+    ∷ (20, returnsMatched (topWords t) (t .returns) (count t) m)
     ∷ []
 
--- 1 to 8, then 15 to 20; or 0
+-- 39, 1 to 8, then 15 to 20; or 0
 unfoldable pub checkNumber : Limits → List ℕ → List ℕ → ℕ
 checkNumber L b m = elim (eqb (readNumber L b) 0) [
-  | true ↦ firstFailed (mapTests L (tableOf b) m)
+  | true ↦ firstFailed (mapTests (tableOf b) m)
   | false ↦ readNumber L b
 ]
 

@@ -6,7 +6,7 @@ use Prim.Native.Nat.{ℕ, _≤_}
 use lib.ListN.{length, getD}
 use lib.Dec.{eqb, ltb}
 use Rattle.lists.specs.Lists.{all, upto}
-use Rattle.table.specs.Limits.{standard}
+use Rattle.limits.specs.declared.Limits.{Limits}
 use Rattle.table.specs.File.{Table, records, tableOf}
 use Rattle.table.specs.Reading.{ascend}
 use Rattle.table.specs.Language.{look}
@@ -55,10 +55,11 @@ pub record Lent (w : ℕ) (section : List ℕ) (n : ℕ) : Type 0 where
 
 -- ---- a table that was read, by its parts
 
--- "the lent bytes together with its five section starts", and the table's top words
+-- "the lent bytes together with its five section starts", at whatever limits they were read, and the table's top words
 pub record Known (b : List ℕ) (s : Starts) (f : List ℕ) : Type 0 where
-  pub read : ReadAs standard b s
-  pub words : f ≡ topWords standard (tableOf b)
+  pub limits : Limits
+  pub read : ReadAs limits b s
+  pub words : f ≡ topWords (tableOf b)
 
 -- what its parts are
 pub record Parted (states internals calls returns : List ℕ) : Type 0 where

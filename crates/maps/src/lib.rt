@@ -1,11 +1,12 @@
 // Checking a state map.
 ghost use mathlib.Core.Path.{_≡_};
 ghost use Rattle.lists.specs.Lists.{firstFailed};
-ghost use Rattle.table.specs.Limits.{standard};
+ghost use Rattle.limits.specs.Limits.{standard};
 ghost use Rattle.table.specs.File.{tableOf};
 ghost use Rattle.maps.specs.Check.{mapTests, checkOf};
 ghost use Rattle.maps.specs.Accepting.{examinedFor, AcceptsExactly};
 ghost use Rattle.maps.specs.Sections.{Known, Parted, partTests};
+use limits::Limits;
 
 mod matching;
 mod numbering;
@@ -24,7 +25,7 @@ use tops::Examined;
 pub enum Checked {
     // accepted: the class count
     Accepted(usize),
-    // 1 to 8, 15 to 20
+    // 39, 1 to 8, 15 to 20
     Refused(u8),
 }
 
@@ -34,7 +35,7 @@ fn tests_number(
     internals: &[u8],
     calls: &[u8],
     returns: &[u8],
-    words: &[u32],
+    words: &[u64],
     map: &[u8],
 ) -> u8
     requires { ⌜ Parted (now states) (now internals) (now calls) (now returns) ⌝ }
@@ -62,9 +63,9 @@ fn tests_number(
 }
 
 // The first of 15 to 20 that applies to a read table: its sections are handed on as parts of the file.
-fn map_number(table: &[u8], starts: Starts, words: &[u32], map: &[u8]) -> u8
+fn map_number(table: &[u8], starts: Starts, words: &[u64], map: &[u8]) -> u8
     requires { ⌜ Known (now table) starts (now words) ⌝ }
-    ensures { λ r. ⌜ r ≡ firstFailed (mapTests standard (tableOf (now (table .entry))) (now (map .entry))) ⌝ }
+    ensures { λ r. ⌜ r ≡ firstFailed (mapTests (tableOf (now (table .entry))) (now (map .entry))) ⌝ }
 {
     tests_number(
         table::part(table, starts, Section::States),
@@ -76,11 +77,11 @@ fn map_number(table: &[u8], starts: Starts, words: &[u32], map: &[u8]) -> u8
     )
 }
 
-// Reads a table, works out its tops and checks a map: the examined table, its number that of the check.
-pub fn examine(table: &[u8], map: &[u8]) -> Examined
-    ensures { λ r. ⌜ r ≡ examinedFor standard (now (table .entry)) (now (map .entry)) ⌝ }
+// Reads a table at limits, works out its tops and checks a map: the examined table, its number that of the check.
+pub fn examine(limits: Limits, table: &[u8], map: &[u8]) -> Examined
+    ensures { λ r. ⌜ r ≡ examinedFor limits (now (table .entry)) (now (map .entry)) ⌝ }
 {
-    let examined = tops::examine(table);
+    let examined = tops::examine(limits, table);
     if examined.number != 0 {
         return examined;
     }
@@ -95,14 +96,22 @@ pub fn examine(table: &[u8], map: &[u8]) -> Examined
     }
 }
 
-// Checks a map: the class count, or the first refusal that applies.
-pub fn check(table: &[u8], map: &[u8]) -> Checked
-    ensures { λ r. ⌜ r ≡ checkOf standard (now (table .entry)) (now (map .entry)) ⌝ }
-    ensures exact { λ r. ⌜ AcceptsExactly standard (now (table .entry)) (now (map .entry)) r ⌝ }
+// Checks a map of a table that is read at limits: the class count, or the first refusal that applies.
+pub fn check_within(limits: Limits, table: &[u8], map: &[u8]) -> Checked
+    ensures { λ r. ⌜ r ≡ checkOf limits (now (table .entry)) (now (map .entry)) ⌝ }
+    ensures exact { λ r. ⌜ AcceptsExactly limits (now (table .entry)) (now (map .entry)) r ⌝ }
 {
-    let examined = examine(table, map);
+    let examined = examine(limits, table, map);
     if examined.number != 0 {
         return Checked::Refused(examined.number);
     }
     Checked::Accepted(class_count(map))
+}
+
+// Checks a map, at the limits of a caller that gives none.
+pub fn check(table: &[u8], map: &[u8]) -> Checked
+    ensures { λ r. ⌜ r ≡ checkOf standard (now (table .entry)) (now (map .entry)) ⌝ }
+    ensures exact { λ r. ⌜ AcceptsExactly standard (now (table .entry)) (now (map .entry)) r ⌝ }
+{
+    check_within(limits::standard(), table, map)
 }

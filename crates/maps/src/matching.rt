@@ -18,21 +18,21 @@ use super::numbering::class_of;
 use super::numbering::wide;
 
 // Top x is in word q.
-fn has_top(words: &[u32], q: usize, x: usize) -> bool
+fn has_top(words: &[u64], q: usize, x: usize) -> bool
     ensures { λ r. ⌜ r ≡ has (now (words .entry)) q x ⌝ }
 {
     if words.len() <= q {
         return false;
     }
     let word = words[q];
-    if 31 < x {
+    if 63 < x {
         return false;
     }
     (word >> x) % 2 == 1
 }
 
 // A move, or a return that is live.
-pub fn keeps(words: &[u32], fields: &[u8]) -> bool
+pub fn keeps(words: &[u64], fields: &[u8]) -> bool
     ensures { λ r. ⌜ r ≡ kept (now (words .entry)) (now (fields .entry)) ⌝ }
 {
     if fields.len() < 4 {
@@ -106,7 +106,7 @@ fn reaches(section: &[u8], width: usize, wanted: u32, map: &[u8], target: usize)
 // (iv) for a live record (p, r, s, p'), a state q that is joined to p, and a stack state u, by the class of s.
 fn return_matched(
     section: &[u8],
-    words: &[u32],
+    words: &[u64],
     map: &[u8],
     fields: &[u8],
     under: u8,
@@ -128,7 +128,7 @@ fn return_matched(
 }
 
 // .. and every stack state.
-fn return_met(section: &[u8], words: &[u32], map: &[u8], fields: &[u8], q: usize) -> bool
+fn return_met(section: &[u8], words: &[u64], map: &[u8], fields: &[u8], q: usize) -> bool
     requires { ⌜ Lent 4 (now section) (length (now map)) × (length (now fields) ≡ 4) × (q < 256) ⌝ }
     requires { ⌜ (has (now words) (getD (now fields) 0 0) (getD (now fields) 2 0) ≡ true) × (joins (now map) (getD (now fields) 0 0) q ≡ true) ⌝ }
     ensures { λ r. ⌜ r ≡ returnMet (now (words .entry)) (records 4 (now (section .entry))) (length (now (map .entry))) (now (map .entry)) (now (fields .entry)) q ⌝ }
@@ -148,7 +148,7 @@ fn return_met(section: &[u8], words: &[u32], map: &[u8], fields: &[u8], q: usize
 fn record_matched(
     section: &[u8],
     width: usize,
-    words: &[u32],
+    words: &[u64],
     map: &[u8],
     fields: &[u8],
     q: usize,
@@ -165,7 +165,7 @@ fn record_matched(
 }
 
 // .. and every state: a dead return asks nothing, and nothing is asked of a state of another class.
-fn record_met(section: &[u8], width: usize, words: &[u32], map: &[u8], fields: &[u8]) -> bool
+fn record_met(section: &[u8], width: usize, words: &[u64], map: &[u8], fields: &[u8]) -> bool
     requires { ⌜ Lent width (now section) (length (now map)) × (length (now fields) ≡ width) ⌝ }
     ensures { λ r. ⌜ r ≡ recordMet width (now (words .entry)) (records width (now (section .entry))) (length (now (map .entry))) (now (map .entry)) (now (fields .entry)) ⌝ }
 {
@@ -186,7 +186,7 @@ fn record_met(section: &[u8], width: usize, words: &[u32], map: &[u8], fields: &
 }
 
 // (ii) to (iv) "each internal or call move of one is matched by the other to a joined target", and "the same for returns": every record.
-pub(crate) fn records_matched(section: &[u8], width: usize, words: &[u32], map: &[u8]) -> bool
+pub(crate) fn records_matched(section: &[u8], width: usize, words: &[u64], map: &[u8]) -> bool
     requires { ⌜ Lent width (now section) (length (now map)) ⌝ }
     ensures { λ r. ⌜ r ≡ recordsMatched width (now (words .entry)) (records width (now (section .entry))) (length (now (map .entry))) (now (map .entry)) ⌝ }
 {

@@ -12,7 +12,6 @@ use lib.ListN.{length, getD, List·getD-eq-default}
 use Rattle.lists.proofs.Members.{keep-mem, keep-of}
 use Rattle.vpa.specs.Automata.{Tops}
 use Rattle.vpa.specs.Quotients.{quotient}
-use Rattle.table.specs.Limits.{Limits}
 use Rattle.table.specs.File.{Table}
 use Rattle.table.specs.Language.{count, byteOf, automaton}
 use Rattle.table.specs.Maps.{classOf, classes, numbered}
@@ -25,8 +24,8 @@ use Rattle.quotient.proofs.Classes.{class-member}
 use Rattle.quotient.proofs.States.{Has, count-classes, class-initial, class-accepting}
 
 -- "A return record is live when its stack state is in tops of its state", by runs
-abbrev pub LiveExact : Limits → Table → Type 0
-LiveExact L t = (r : List ℕ) → List·Memᴰ r (t .returns) → live (topWords L t) r ≡ true ↔ Tops (automaton t) (getD r 0 0) (some (getD r 2 0))
+abbrev pub LiveExact : Table → Type 0
+LiveExact t = (r : List ℕ) → List·Memᴰ r (t .returns) → live (topWords t) r ≡ true ↔ Tops (automaton t) (getD r 0 0) (some (getD r 2 0))
 
 -- ---- the record of an image
 
@@ -56,32 +55,32 @@ there t q h = go (decLt q (count t))
     go (no l) = let past : count t ≤ q = omega arith in absurd (h (List·getD-eq-default (t .states) 0 past))
 
 -- a bit of a class's byte: the classes that a member gives
-has-bit : (L : Limits) (t : Table) (m : List ℕ) → length m ≡ count t → (bit : ℕ → ℕ) → bit 0 ≡ 0
-    → ((c : ℕ) → c < classes m → bit (byteOf (quotientTable L t m) c) ≡ 1 ↔ Has (λ b. bit b ≡ 1) t m c)
-    → (c : ℕ) → bit (byteOf (quotientTable L t m) c) ≡ 1 ↔ ((p : ℕ) × (classOf m p ≡ c) × (bit (byteOf t p) ≡ 1))
-has-bit L t m n bit z has c = (
-  λ e. let l = there (quotientTable L t m) c (set _ e) in let s = has c (omega (arith, count-classes L t m)) .0 e in (s .state, s .class, s .holds),
+has-bit : (t : Table) (m : List ℕ) → length m ≡ count t → (bit : ℕ → ℕ) → bit 0 ≡ 0
+    → ((c : ℕ) → c < classes m → bit (byteOf (quotientTable t m) c) ≡ 1 ↔ Has (λ b. bit b ≡ 1) t m c)
+    → (c : ℕ) → bit (byteOf (quotientTable t m) c) ≡ 1 ↔ ((p : ℕ) × (classOf m p ≡ c) × (bit (byteOf t p) ≡ 1))
+has-bit t m n bit z has c = (
+  λ e. let l = there (quotientTable t m) c (set _ e) in let s = has c (omega (arith, count-classes t m)) .0 e in (s .state, s .class, s .holds),
   λ s. let l = there t (s .0) (set _ (s .2)) in has c (rw (s .1) at (class-below m (s .0) (omega arith))) .1 (record { state = s .0; within = l; class = s .1; holds = s .2 }),
 )
   where
     set : (b : ℕ) → bit b ≡ 1 → b ≡ 0 → ⊥
     set b e h = absurd (omega (arith, ap bit h))
 
-module _ (L : Limits) (t : Table) (m : List ℕ) (w : Wide t) (n : length m ≡ count t) (k : numbered m ≡ true) where
-  pub quotient-state : (c : ℕ) → automaton (quotientTable L t m) .state c ↔ quotient (automaton t) (classOf m) .state c
+module _ (t : Table) (m : List ℕ) (w : Wide t) (n : length m ≡ count t) (k : numbered m ≡ true) where
+  pub quotient-state : (c : ℕ) → automaton (quotientTable t m) .state c ↔ quotient (automaton t) (classOf m) .state c
   unfolding quotient
   quotient-state c = (
-    λ h. let s = class-member m k c (omega (arith, count-classes L t m)) in (s .state, s .class, omega (arith, s .within)),
-    λ s. omega (arith, count-classes L t m, s .1, class-below m (s .0) (omega (arith, s .2))),
+    λ h. let s = class-member m k c (omega (arith, count-classes t m)) in (s .state, s .class, omega (arith, s .within)),
+    λ s. omega (arith, count-classes t m, s .1, class-below m (s .0) (omega (arith, s .2))),
   )
 
-  pub quotient-initial : (c : ℕ) → automaton (quotientTable L t m) .initial c ↔ quotient (automaton t) (classOf m) .initial c
+  pub quotient-initial : (c : ℕ) → automaton (quotientTable t m) .initial c ↔ quotient (automaton t) (classOf m) .initial c
   unfolding quotient
-  quotient-initial = has-bit L t m n (λ b. b % 2) refl (class-initial L t m)
+  quotient-initial = has-bit t m n (λ b. b % 2) refl (class-initial t m)
 
-  pub quotient-accepting : (c : ℕ) → automaton (quotientTable L t m) .accepting c ↔ quotient (automaton t) (classOf m) .accepting c
+  pub quotient-accepting : (c : ℕ) → automaton (quotientTable t m) .accepting c ↔ quotient (automaton t) (classOf m) .accepting c
   unfolding quotient
-  quotient-accepting = has-bit L t m n (λ b. b / 2 % 2) refl (class-accepting L t m)
+  quotient-accepting = has-bit t m n (λ b. b / 2 % 2) refl (class-accepting t m)
 
   -- a section of moves
   moves : (rs : List (List ℕ)) → ((r : List ℕ) → List·Memᴰ r rs → length r ≡ 3) → (P a Q : ℕ)
@@ -91,26 +90,26 @@ module _ (L : Limits) (t : Table) (m : List ℕ) (w : Wide t) (n : length m ≡ 
       forth : (s : List ℕ) × List·Memᴰ s rs × (image m s ≡ P ∷ a ∷ Q ∷ []) → (p q : ℕ) × (classOf m p ≡ P) × (classOf m q ≡ Q) × List·Memᴰ (p ∷ a ∷ q ∷ []) rs
       forth (s, i, e) = let o = move-of m s P a Q (h s i) e in (o .0, o .1, o .2, o .3, Memᴰ·cast (o .4) i)
 
-  pub quotient-internal : (P a Q : ℕ) → automaton (quotientTable L t m) .internal P a Q ↔ quotient (automaton t) (classOf m) .internal P a Q
+  pub quotient-internal : (P a Q : ℕ) → automaton (quotientTable t m) .internal P a Q ↔ quotient (automaton t) (classOf m) .internal P a Q
   unfolding quotient quotientTable
   quotient-internal = moves (t .internals) (w .internals)
 
-  pub quotient-call : (P a Q : ℕ) → automaton (quotientTable L t m) .call P a Q ↔ quotient (automaton t) (classOf m) .call P a Q
+  pub quotient-call : (P a Q : ℕ) → automaton (quotientTable t m) .call P a Q ↔ quotient (automaton t) (classOf m) .call P a Q
   unfolding quotient quotientTable
   quotient-call = moves (t .calls) (w .calls)
 
-  pub quotient-return : LiveExact L t → (P a U Q : ℕ) → automaton (quotientTable L t m) .return P a U Q ↔ quotient (automaton t) (classOf m) .return P a U Q
+  pub quotient-return : LiveExact t → (P a U Q : ℕ) → automaton (quotientTable t m) .return P a U Q ↔ quotient (automaton t) (classOf m) .return P a U Q
   unfolding quotient quotientTable liveReturns
-  quotient-return exact P a U Q = (λ i. forth (images-mem m (liveReturns L t) (P ∷ a ∷ U ∷ Q ∷ []) .0 i), back)
+  quotient-return exact P a U Q = (λ i. forth (images-mem m (liveReturns t) (P ∷ a ∷ U ∷ Q ∷ []) .0 i), back)
     where
-      forth : (r : List ℕ) × List·Memᴰ r (liveReturns L t) × (image m r ≡ P ∷ a ∷ U ∷ Q ∷ []) → quotient (automaton t) (classOf m) .return P a U Q
+      forth : (r : List ℕ) × List·Memᴰ r (liveReturns t) × (image m r ≡ P ∷ a ∷ U ∷ Q ∷ []) → quotient (automaton t) (classOf m) .return P a U Q
       forth (r, i, e) =
-          let j = keep-mem (live (topWords L t)) (t .returns) r i in
+          let j = keep-mem (live (topWords t)) (t .returns) r i in
           let o = return-of m r P a U Q (w .returns r (j .0)) e in
           let l = Memᴰ·cast (o .6) (j .0) in
-          (o .0, o .1, o .2, o .3, o .4, o .5, l, exact (o .0 ∷ a ∷ o .1 ∷ o .2 ∷ []) l .0 (ap (live (topWords L t)) (o .6) ∙ j .1))
+          (o .0, o .1, o .2, o .3, o .4, o .5, l, exact (o .0 ∷ a ∷ o .1 ∷ o .2 ∷ []) l .0 (ap (live (topWords t)) (o .6) ∙ j .1))
 
-      back : quotient (automaton t) (classOf m) .return P a U Q → List·Memᴰ (P ∷ a ∷ U ∷ Q ∷ []) (images m (liveReturns L t))
+      back : quotient (automaton t) (classOf m) .return P a U Q → List·Memᴰ (P ∷ a ∷ U ∷ Q ∷ []) (images m (liveReturns t))
       back (p, s, q, e, f, g, i, top) =
-          images-mem m (liveReturns L t) (P ∷ a ∷ U ∷ Q ∷ []) .1
-          (p ∷ a ∷ s ∷ q ∷ [], keep-of (live (topWords L t)) (t .returns) (p ∷ a ∷ s ∷ q ∷ []) i (exact (p ∷ a ∷ s ∷ q ∷ []) i .1 top), image-return m p a s q ∙ (λ i. e i ∷ a ∷ f i ∷ g i ∷ []))
+          images-mem m (liveReturns t) (P ∷ a ∷ U ∷ Q ∷ []) .1
+          (p ∷ a ∷ s ∷ q ∷ [], keep-of (live (topWords t)) (t .returns) (p ∷ a ∷ s ∷ q ∷ []) i (exact (p ∷ a ∷ s ∷ q ∷ []) i .1 top), image-return m p a s q ∙ (λ i. e i ∷ a ∷ f i ∷ g i ∷ []))

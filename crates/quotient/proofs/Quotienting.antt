@@ -3,7 +3,7 @@ use mathlib.Core.Path.{_≡_, refl, sym, ap, _∙_, subst}
 use mathlib.Core.Logic.{_⊎_, inl, inr}
 use mathlib.Core.Bool.{Bool, true, false}
 use mathlib.Core.List.{List, [], _∷_, map, List·Memᴰ, List·Memᴰ·head, List·Memᴰ·tail, List·Memᴰ·not-nil as not-nil, List·Memᴰ·cases-cons as cases-cons}
-use Prim.Native.Nat.{ℕ, zero, suc, _+_, _-_, _*_, _/_, _<_, _≤_}
+use Prim.Native.Nat.{ℕ, zero, suc, _+_, _*_, _/_, _<_, _≤_}
 use native.Mathlib.Omega.{arith}
 use lib.ListN.{length, take, drop, length-map}
 use lib.Seq.{getD-drop}
@@ -12,7 +12,9 @@ use borrow.Author.Tests.{le-leb, lt-leb, eq-eqb, ne-eqb}
 use Rattle.lists.specs.Lists.{keep, upto, parts, over}
 use Rattle.lists.proofs.Members.{keep-mem}
 use Rattle.lists.proofs.Counts.{keep-le}
-use Rattle.table.specs.Limits.{standard}
+use Rattle.limits.specs.declared.Limits.{Limits}
+use Rattle.limits.specs.Limits.{symbolMost}
+use Rattle.limits.proofs.Within.{limits-within}
 use Rattle.table.specs.File.{Table, trailer, records, tableOf, bytesOf}
 use Rattle.table.specs.Maps.{classes}
 use Rattle.table.specs.Sections.{partOf}
@@ -20,7 +22,7 @@ use Rattle.table.specs.declared.Starts.{Starts}
 use Rattle.table.specs.declared.view.Section.{Section}
 use Rattle.table.specs.declared.view.Section.the-variants.{Symbols, States, Internals, Calls, Returns}
 use Rattle.table.proofs.Passed.{formed-tested}
-use Rattle.table.proofs.Bytes.{Bytes, Small, records-wide, read-well-formed}
+use Rattle.table.proofs.Bytes.{Bytes, records-wide, read-well-formed}
 use Rattle.table.proofs.Parts.{symbols-read, states-read, internals-read, calls-read, returns-read}
 use Rattle.tops.specs.Tops.{live, liveReturns}
 use Rattle.maps.specs.Check.{checkNumber}
@@ -60,7 +62,7 @@ holds-long h = h .count ∙ ap length (sym (h .same))
 
 -- how many symbols, classes and images there are
 pub record Few (y : List ℕ) (k a b d : ℕ) : Type 0 where
-  pub symbols : length y ≤ 32
+  pub symbols : length y ≤ symbolMost
   pub classes : k ≤ 256
   pub internals : a ≤ 1024
   pub calls : b ≤ 1024
@@ -173,9 +175,10 @@ module _ {b f : List ℕ} {s : Starts} (k : Known b s f) {symbols states interna
     (e0 : symbols ≡ partOf b s Symbols) (e1 : states ≡ partOf b s States) (e2 : internals ≡ partOf b s Internals) (e3 : calls ≡ partOf b s Calls) (e4 : returns ≡ partOf b s Returns) where
   pub known-sized : Sized symbols internals calls returns
   known-sized =
-      let t = formed-tested (read-well-formed standard b (k .read .readable)) in
+      let w = limits-within (read-well-formed (k .limits) b (k .read .readable) .limits) in
+      let t = formed-tested (read-well-formed (k .limits) b (k .read .readable)) in
       record {
-        symbols-few = omega (arith, ap length (symbols-read (k .read) e0), t .symbols-few);
+        symbols-few = omega (arith, ap length (symbols-read (k .read) e0), t .symbols-few, w .symbols);
         internals-few = omega (arith, ap length (internals-read (k .read) e2), t .internals-few);
         calls-few = omega (arith, ap length (calls-read (k .read) e3), t .calls-few);
         returns-few = omega (arith, ap length (returns-read (k .read) e4), t .returns-few);
@@ -188,7 +191,7 @@ module _ {b f : List ℕ} {s : Starts} (k : Known b s f) {symbols states interna
     moves-again : (x : List ℕ) → Bytes x → map (lastBytes 3) (imageKeys 3 x f m) ≡ images m (records 3 x)
     moves-again x h = images-back 3 (omega arith) x f m h bm ∙ ap (images m) (moves-kept x f)
 
-    returns-again : map (lastBytes 4) (imageKeys 4 returns f m) ≡ images m (liveReturns standard (tableOf b))
+    returns-again : map (lastBytes 4) (imageKeys 4 returns f m) ≡ images m (liveReturns (tableOf b))
     unfolding liveReturns
     returns-again =
         images-back 4 (omega arith) returns f m (bytes Returns e4) bm
@@ -198,7 +201,7 @@ module _ {b f : List ℕ} {s : Starts} (k : Known b s f) {symbols states interna
     unfolding classByte memberHas
     states-again = ap (λ x. classBytes (ofStates x) m (classes m)) (states-read (k .read) e1)
 
-    pub parted-quotient : partedQuotient symbols states internals calls returns f m ≡ quotientTable standard (tableOf b) m
+    pub parted-quotient : partedQuotient symbols states internals calls returns f m ≡ quotientTable (tableOf b) m
     unfolding quotientTable
     parted-quotient = λ j. record {
       symbols = symbols-read (k .read) e0 j;
@@ -208,42 +211,39 @@ module _ {b f : List ℕ} {s : Starts} (k : Known b s f) {symbols states interna
       returns = returns-again j;
     }
 
-    pub written-read : (out : List ℕ) → writtenFor (bytesOf (partedQuotient symbols states internals calls returns f m)) out ≡ writtenFor (quotientBytes standard b m) out
+    pub written-read : (out : List ℕ) → writtenFor (bytesOf (partedQuotient symbols states internals calls returns f m)) out ≡ writtenFor (quotientBytes b m) out
     unfolding quotientBytes
     written-read out = ap (λ (t : Table). writtenFor (bytesOf t) out) parted-quotient
 
 -- ---- the answer
 
-pub small : Small standard
-small = record { states = omega arith; symbols = omega arith }
-
-module _ (b m out : List ℕ) where
-  pub quotient-refused : {k : ℕ} → checkNumber standard b m ≡ k → (k ≡ 0 → ⊥) → record { answer = Refused k; out = out } ≡ quotientOf standard b m out
+module _ (L : Limits) (b m out : List ℕ) where
+  pub quotient-refused : {k : ℕ} → checkNumber L b m ≡ k → (k ≡ 0 → ⊥) → record { answer = Refused k; out = out } ≡ quotientOf L b m out
   unfolding quotientOf quotientNumber
   quotient-refused {k} e n =
-      let c : eqb (checkNumber standard b m) 0 ≡ false = ne-eqb (checkNumber standard b m) 0 (λ q. n (sym e ∙ q)) in
-      let p : quotientNumber standard b m out ≡ k = rw (c, quotientNumber) e in
-      sym (rw (ne-eqb (quotientNumber standard b m out) 0 (λ q. n (sym p ∙ q)), quotientOf) (λ j. record { answer = Refused (p j); out = out }))
+      let c : eqb (checkNumber L b m) 0 ≡ false = ne-eqb (checkNumber L b m) 0 (λ q. n (sym e ∙ q)) in
+      let p : quotientNumber L b m out ≡ k = rw (c, quotientNumber) e in
+      sym (rw (ne-eqb (quotientNumber L b m out) 0 (λ q. n (sym p ∙ q)), quotientOf) (λ j. record { answer = Refused (p j); out = out }))
 
-  pub quotient-written : checkNumber standard b m ≡ 0 → writtenFor (quotientBytes standard b m) out ≡ quotientOf standard b m out
+  pub quotient-written : checkNumber L b m ≡ 0 → writtenFor (quotientBytes b m) out ≡ quotientOf L b m out
   unfolding quotientOf quotientNumber writtenFor
-  quotient-written e = go (leb (length (quotientBytes standard b m)) (length out)) refl
+  quotient-written e = go (leb (length (quotientBytes b m)) (length out)) refl
     where
-      go : (t : Bool) → leb (length (quotientBytes standard b m)) (length out) ≡ t → writtenFor (quotientBytes standard b m) out ≡ quotientOf standard b m out
+      go : (t : Bool) → leb (length (quotientBytes b m)) (length out) ≡ t → writtenFor (quotientBytes b m) out ≡ quotientOf L b m out
       go true p =
-          let n : quotientNumber standard b m out ≡ 0 = rw (eq-eqb _ _ e, quotientNumber) (rw p) in
-          rw (p, writtenFor) (sym (rw (eq-eqb (quotientNumber standard b m out) 0 n, quotientOf)))
+          let n : quotientNumber L b m out ≡ 0 = rw (eq-eqb _ _ e, quotientNumber) (rw p) in
+          rw (p, writtenFor) (sym (rw (eq-eqb (quotientNumber L b m out) 0 n, quotientOf)))
       go false p =
-          let n : quotientNumber standard b m out ≡ 21 = rw (eq-eqb _ _ e, quotientNumber) (rw p) in
-          rw (p, writtenFor) (sym (rw (ne-eqb (quotientNumber standard b m out) 0 (λ q. omega (arith, n, q)), quotientOf) (λ j. record { answer = Refused (n j); out = out })))
+          let n : quotientNumber L b m out ≡ 21 = rw (eq-eqb _ _ e, quotientNumber) (rw p) in
+          rw (p, writtenFor) (sym (rw (ne-eqb (quotientNumber L b m out) 0 (λ q. omega (arith, n, q)), quotientOf) (λ j. record { answer = Refused (n j); out = out })))
 
   -- demands 2 and 3
-  pub quotiented : {r : Written} {now : List ℕ} → record { answer = r; out = now } ≡ quotientOf standard b m out
-      → (record { answer = r; out = now } ≡ quotientOf standard b m out) × (WritesQuotient standard r b m now × WritesSameWords r b now)
+  pub quotiented : {r : Written} {now : List ℕ} → record { answer = r; out = now } ≡ quotientOf L b m out
+      → (record { answer = r; out = now } ≡ quotientOf L b m out) × (WritesQuotient L r b m now × WritesSameWords r b now)
   quotiented e = (
     e,
     (
-      subst (λ (d : QuotientDone). WritesQuotient standard (d .answer) b m (d .out)) (sym e) (writes-quotient standard small b m out),
-      subst (λ (d : QuotientDone). WritesSameWords (d .answer) b (d .out)) (sym e) (writes-same-words standard small b m out),
+      subst (λ (d : QuotientDone). WritesQuotient L (d .answer) b m (d .out)) (sym e) (writes-quotient L b m out),
+      subst (λ (d : QuotientDone). WritesSameWords (d .answer) b (d .out)) (sym e) (writes-same-words L b m out),
     ),
   )

@@ -10,7 +10,6 @@ use lib.Dec.{eqb}
 use borrow.Author.Tests.{eqb-true, eq-eqb}
 use Rattle.lists.specs.Lists.{any, upto}
 use Rattle.lists.proofs.Members.{and-true, and-of, getD-map, any-true, any-of, upto-mem, upto-of, length-upto, getD-upto}
-use Rattle.table.specs.Limits.{Limits}
 use Rattle.table.specs.File.{Table}
 use Rattle.table.specs.Reading.{isInitial, isAccepting}
 use Rattle.table.specs.Language.{count, byteOf}
@@ -62,27 +61,27 @@ pub byte-small : (t : Table) (m : List ℕ) (c : ℕ) → classByte t m c ≤ 3
 unfolding classByte
 byte-small t m c = bits-small _ _
 
-module _ (L : Limits) (t : Table) (m : List ℕ) where
-  class-byte : (c : ℕ) → c < classes m → byteOf (quotientTable L t m) c ≡ classByte t m c
+module _ (t : Table) (m : List ℕ) where
+  class-byte : (c : ℕ) → c < classes m → byteOf (quotientTable t m) c ≡ classByte t m c
   unfolding quotientTable
   class-byte c h = getD-map (classByte t m) (upto (classes m)) c 0 0 (rw length-upto h) ∙ ap (classByte t m) (getD-upto (classes m) c 0 h)
 
-  pub count-classes : count (quotientTable L t m) ≡ classes m
+  pub count-classes : count (quotientTable t m) ≡ classes m
   unfolding quotientTable
   count-classes = length-map (upto (classes m)) (classByte t m) ∙ length-upto (classes m)
 
   -- "initial or accepting if a member is": a bit of the byte, and the test for it
   class-has : (bit : ℕ → ℕ) (test : ℕ → Bool) → ((x : ℕ) → test x ≡ true ↔ bit x ≡ 1) → ((c : ℕ) → bit (classByte t m c) ≡ 1 ↔ memberHas test t m c ≡ true)
-      → (c : ℕ) → c < classes m → bit (byteOf (quotientTable L t m) c) ≡ 1 ↔ Has (λ b. bit b ≡ 1) t m c
+      → (c : ℕ) → c < classes m → bit (byteOf (quotientTable t m) c) ≡ 1 ↔ Has (λ b. bit b ≡ 1) t m c
   class-has bit test one byte c h = (
     λ e. let s = has-of test t m c .0 (byte c .0 (ap bit (sym (class-byte c h)) ∙ e)) in record { state = s .state; within = s .within; class = s .class; holds = one _ .0 (s .holds) },
     λ s. ap bit (class-byte c h) ∙ byte c .1 (has-of test t m c .1 (record { state = s .state; within = s .within; class = s .class; holds = one _ .1 (s .holds) })),
   )
 
-  pub class-initial : (c : ℕ) → c < classes m → byteOf (quotientTable L t m) c % 2 ≡ 1 ↔ Has (λ b. b % 2 ≡ 1) t m c
+  pub class-initial : (c : ℕ) → c < classes m → byteOf (quotientTable t m) c % 2 ≡ 1 ↔ Has (λ b. b % 2 ≡ 1) t m c
   unfolding classByte isInitial
   class-initial = class-has (λ b. b % 2) isInitial (λ x. (eqb-true _ _, eq-eqb _ _)) (λ c. low-bit _ _)
 
-  pub class-accepting : (c : ℕ) → c < classes m → byteOf (quotientTable L t m) c / 2 % 2 ≡ 1 ↔ Has (λ b. b / 2 % 2 ≡ 1) t m c
+  pub class-accepting : (c : ℕ) → c < classes m → byteOf (quotientTable t m) c / 2 % 2 ≡ 1 ↔ Has (λ b. b / 2 % 2 ≡ 1) t m c
   unfolding classByte isAccepting
   class-accepting = class-has (λ b. b / 2 % 2) isAccepting (λ x. (eqb-true _ _, eq-eqb _ _)) (λ c. high-bit _ _)

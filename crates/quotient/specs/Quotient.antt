@@ -5,7 +5,7 @@ use Prim.Native.Nat.{ℕ, _+_, _*_}
 use lib.ListN.{length}
 use lib.Dec.{eqb, leb}
 use Rattle.lists.specs.Lists.{any, upto, over}
-use Rattle.table.specs.Limits.{Limits}
+use Rattle.limits.specs.declared.Limits.{Limits}
 use Rattle.table.specs.File.{Table, tableOf, bytesOf}
 use Rattle.table.specs.Reading.{before, isInitial, isAccepting}
 use Rattle.table.specs.Language.{count, byteOf}
@@ -47,23 +47,23 @@ unfoldable pub classByte : Table → List ℕ → ℕ → ℕ
 classByte t m c = bitOf (memberHas isInitial t m c) + 2 * bitOf (memberHas isAccepting t m c)
 
 -- "The quotient has one state a class"; "Its records are the images of internals, calls and live returns"
-unfoldable pub quotientTable : Limits → Table → List ℕ → Table
-quotientTable L t m =
+unfoldable pub quotientTable : Table → List ℕ → Table
+quotientTable t m =
     record {
       symbols = t .symbols;
       states = map (classByte t m) (upto (classes m));
       internals = images m (t .internals);
       calls = images m (t .calls);
-      returns = images m (liveReturns L t);
+      returns = images m (liveReturns t);
     }
 
-unfoldable pub quotientBytes : Limits → List ℕ → List ℕ → List ℕ
-quotientBytes L b m = bytesOf (quotientTable L (tableOf b) m)
+unfoldable pub quotientBytes : List ℕ → List ℕ → List ℕ
+quotientBytes b m = bytesOf (quotientTable (tableOf b) m)
 
 -- "those of the check; 21 output short"; or 0
 unfoldable pub quotientNumber : Limits → List ℕ → List ℕ → List ℕ → ℕ
 quotientNumber L b m out = elim (eqb (checkNumber L b m) 0) [
-  | true ↦ elim (leb (length (quotientBytes L b m)) (length out)) [ true ↦ 0 | false ↦ 21 ]
+  | true ↦ elim (leb (length (quotientBytes b m)) (length out)) [ true ↦ 0 | false ↦ 21 ]
   | false ↦ checkNumber L b m
 ]
 
@@ -75,7 +75,7 @@ pub record QuotientDone : Type 0 where
 -- the operation: "The answer is the length; later bytes keep their content."
 unfoldable pub quotientOf : Limits → List ℕ → List ℕ → List ℕ → QuotientDone
 quotientOf L b m out = elim (eqb (quotientNumber L b m out) 0) [
-  | true ↦ record { answer = Length (length (quotientBytes L b m)); out = over (quotientBytes L b m) out }
+  | true ↦ record { answer = Length (length (quotientBytes b m)); out = over (quotientBytes b m) out }
   | false ↦ record { answer = Refused (quotientNumber L b m out); out = out }
 ]
 

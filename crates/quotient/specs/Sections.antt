@@ -5,6 +5,7 @@ use Prim.Native.Nat.{ℕ, _+_, _*_, _/_, _%_, _≤_}
 use lib.ListN.{length}
 use lib.Dec.{eqb, leb}
 use Rattle.lists.specs.Lists.{keep, gather, upto, over}
+use Rattle.limits.specs.Limits.{symbolMost}
 use Rattle.table.specs.File.{Table, records, bytes16}
 use Rattle.table.specs.Maps.{classes}
 use Rattle.maps.specs.Sections.{ofStates, kept}
@@ -39,7 +40,7 @@ trailerFrom y s i c r = gather bytes16 ((y + (s + (3 * i + (3 * c + 4 * r)))) �
 
 -- parts no longer than the limits
 pub record Sized (symbols internals calls returns : List ℕ) : Type 0 where
-  pub symbols-few : length symbols ≤ 32
+  pub symbols-few : length symbols ≤ symbolMost
   pub internals-few : length (records 3 internals) ≤ 1024
   pub calls-few : length (records 3 calls) ≤ 1024
   pub returns-few : length (records 4 returns) ≤ 4096

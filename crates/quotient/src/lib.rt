@@ -1,6 +1,6 @@
 // Writing the quotient of a table under a map.
 ghost use mathlib.Core.Path.{_≡_};
-ghost use Rattle.table.specs.Limits.{standard};
+ghost use Rattle.limits.specs.Limits.{standard};
 ghost use Rattle.table.specs.File.{bytesOf};
 ghost use Rattle.maps.specs.Sections.{Known};
 ghost use Rattle.quotient.specs.Quotient.{quotientBytes, quotientOf};
@@ -11,6 +11,7 @@ mod images;
 mod write;
 
 use images::collect;
+use limits::Limits;
 use maps::class_count;
 use table::Section;
 use table::Starts;
@@ -20,7 +21,7 @@ use write::put_table;
 pub enum Written {
     // the quotient's length
     Length(usize),
-    // 1 to 8, 15 to 21
+    // 39, 1 to 8, 15 to 21
     Refused(u8),
 }
 
@@ -31,7 +32,7 @@ fn write_parts(
     internals: &[u8],
     calls: &[u8],
     returns: &[u8],
-    words: &[u32],
+    words: &[u64],
     map: &[u8],
     out: &mut [u8],
 ) -> Written
@@ -63,9 +64,9 @@ fn write_parts(
 }
 
 // The quotient of a read table under a properly numbered map.
-fn write_read(table: &[u8], starts: Starts, words: &[u32], map: &[u8], out: &mut [u8]) -> Written
+fn write_read(table: &[u8], starts: Starts, words: &[u64], map: &[u8], out: &mut [u8]) -> Written
     requires { ⌜ Known (now table) starts (now words) ⌝ }
-    ensures { λ r. ⌜ record { answer = r; out = now (out .exit) } ≡ writtenFor (quotientBytes standard (now (table .entry)) (now (map .entry))) (now (out .entry)) ⌝ }
+    ensures { λ r. ⌜ record { answer = r; out = now (out .exit) } ≡ writtenFor (quotientBytes (now (table .entry)) (now (map .entry))) (now (out .entry)) ⌝ }
 {
     write_parts(
         table::part(table, starts, Section::Symbols),
@@ -79,17 +80,26 @@ fn write_read(table: &[u8], starts: Starts, words: &[u32], map: &[u8], out: &mut
     )
 }
 
-// Writes the quotient of a table under a map: its length, or the first refusal that applies, the output then unchanged.
-pub fn quotient(table: &[u8], map: &[u8], out: &mut [u8]) -> Written
-    ensures { λ r. ⌜ record { answer = r; out = now (out .exit) } ≡ quotientOf standard (now (table .entry)) (now (map .entry)) (now (out .entry)) ⌝ }
-    ensures exact { λ r. ⌜ WritesQuotient standard r (now (table .entry)) (now (map .entry)) (now (out .exit)) ⌝ }
+// Writes the quotient of a table that is read at limits under a map: its length, or the first refusal that applies, the output then unchanged.
+pub fn quotient_within(limits: Limits, table: &[u8], map: &[u8], out: &mut [u8]) -> Written
+    ensures { λ r. ⌜ record { answer = r; out = now (out .exit) } ≡ quotientOf limits (now (table .entry)) (now (map .entry)) (now (out .entry)) ⌝ }
+    ensures exact { λ r. ⌜ WritesQuotient limits r (now (table .entry)) (now (map .entry)) (now (out .exit)) ⌝ }
     ensures words { λ r. ⌜ WritesSameWords r (now (table .entry)) (now (out .exit)) ⌝ }
 {
-    let examined = maps::examine(table, map);
+    let examined = maps::examine(limits, table, map);
     if examined.number != 0 {
         return Written::Refused(examined.number);
     }
     let starts = examined.starts;
     let words = examined.words;
     write_read(table, starts, &words, map, out)
+}
+
+// Writes the quotient, at the limits of a caller that gives none.
+pub fn quotient(table: &[u8], map: &[u8], out: &mut [u8]) -> Written
+    ensures { λ r. ⌜ record { answer = r; out = now (out .exit) } ≡ quotientOf standard (now (table .entry)) (now (map .entry)) (now (out .entry)) ⌝ }
+    ensures exact { λ r. ⌜ WritesQuotient standard r (now (table .entry)) (now (map .entry)) (now (out .exit)) ⌝ }
+    ensures words { λ r. ⌜ WritesSameWords r (now (table .entry)) (now (out .exit)) ⌝ }
+{
+    quotient_within(limits::standard(), table, map, out)
 }

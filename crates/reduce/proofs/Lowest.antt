@@ -11,7 +11,9 @@ use lib.Seq.{getD-set-same, getD-set-other}
 use Rattle.lists.specs.Lists.{upto}
 use Rattle.lists.proofs.Members.{getD-any, getD-upto}
 use Rattle.cnf.specs.Clauses.{valueOf}
-use Rattle.clauses.specs.Pairs.{pairs, variableOf, Pair, pairOf}
+use Rattle.limits.specs.Limits.{stateMost}
+use Rattle.limits.specs.Pairs.{pairs}
+use Rattle.clauses.specs.Pairs.{variableOf, Pair, pairOf}
 use Rattle.clauses.proofs.Pairs.{variable-lt, variable-pair, pair-variable, pair-ordered, pair-below}
 use Rattle.reduce.specs.Lowest.{Lowest, LowestJoined}
 
@@ -21,9 +23,9 @@ use Rattle.reduce.specs.Lowest.{Lowest, LowestJoined}
 own : (v : List ℕ) (q : ℕ) → Lowest v 0 q q
 own v q = record { within = omega arith; earlier = λ n. absurd (n refl); joined = λ n. absurd (n refl); least = λ p l h. absurd (omega arith) }
 
-pub all-own : (v : List ℕ) → LowestJoined v 0 (0 ∷ 1 ∷ 2 ∷ 3 ∷ 4 ∷ 5 ∷ 6 ∷ 7 ∷ 8 ∷ 9 ∷ 10 ∷ 11 ∷ 12 ∷ 13 ∷ 14 ∷ 15 ∷ 16 ∷ 17 ∷ 18 ∷ 19 ∷ 20 ∷ 21 ∷ 22 ∷ 23 ∷ [])
+pub all-own : (v : List ℕ) → LowestJoined v 0 (0 ∷ 1 ∷ 2 ∷ 3 ∷ 4 ∷ 5 ∷ 6 ∷ 7 ∷ 8 ∷ 9 ∷ 10 ∷ 11 ∷ 12 ∷ 13 ∷ 14 ∷ 15 ∷ 16 ∷ 17 ∷ 18 ∷ 19 ∷ 20 ∷ 21 ∷ 22 ∷ 23 ∷ 24 ∷ 25 ∷ 26 ∷ 27 ∷ 28 ∷ 29 ∷ 30 ∷ 31 ∷ 32 ∷ 33 ∷ 34 ∷ 35 ∷ 36 ∷ 37 ∷ 38 ∷ 39 ∷ [])
 unfolding upto
-all-own v = record { long = refl; each = λ q h. subst (λ (l : ℕ). Lowest v 0 q l) (sym (getD-upto 24 q 0 h)) (own v q) }
+all-own v = record { long = refl; each = λ q h. subst (λ (l : ℕ). Lowest v 0 q l) (sym (getD-upto stateMost q 0 h)) (own v q) }
 
 -- a later pair of one state
 later : (p l q x : ℕ) → p < l → l ≤ q → variableOf p q < suc x → (variableOf p q < x) ⊎ (variableOf p q ≡ x)
@@ -51,14 +53,14 @@ module _ {v : List ℕ} {x : ℕ} {low : List ℕ} (h : LowestJoined v x low) wh
   pub passed-false : valueOf v x ≢ 1 → LowestJoined v (suc x) low
   passed-false n = record { long = h .long; each = λ q l. unchanged v x q (getD low q 0) (λ p a e. n) (h .each q l) }
 
-  other-state : (q : ℕ) → q < 24 → q ≢ pairOf x .high → Lowest v (suc x) q (getD low q 0)
+  other-state : (q : ℕ) → q < stateMost → q ≢ pairOf x .high → Lowest v (suc x) q (getD low q 0)
   other-state q l d = unchanged v x q (getD low q 0) (λ p a e f. d (sym (pair-variable p q (omega (arith, h .each q l .within)) .1) ∙ ap (λ (y : ℕ). pairOf y .high) e)) (h .each q l)
 
   -- a true variable of a state that has a lower one
   pub passed-later : getD low (pairOf x .high) 0 ≢ pairOf x .high → LowestJoined v (suc x) low
   passed-later n = record { long = h .long; each = λ q l. go q l (ℕ-discrete q (pairOf x .high)) }
     where
-      go : (q : ℕ) → q < 24 → Dec (q ≡ pairOf x .high) → Lowest v (suc x) q (getD low q 0)
+      go : (q : ℕ) → q < stateMost → Dec (q ≡ pairOf x .high) → Lowest v (suc x) q (getD low q 0)
       go q l (no d) = other-state q l d
       go q l (yes e) =
           let n' : getD low q 0 ≢ q = λ z. n (ap (λ (y : ℕ). getD low y 0) (sym e) ∙ z ∙ e) in
@@ -66,7 +68,7 @@ module _ {v : List ℕ} {x : ℕ} {low : List ℕ} (h : LowestJoined v x low) wh
           unchanged v x q (getD low q 0) (λ p a f g. omega (arith, k .earlier n', k .within, variable-lt p q (omega (arith, k .within)), variable-lt (getD low q 0) q (omega (arith, k .within)))) k
 
   -- the first true variable of a state
-  pub lower : pairOf x .high < 24 → getD low (pairOf x .high) 0 ≡ pairOf x .high → valueOf v x ≡ 1 → LowestJoined v (suc x) (set low (pairOf x .high) (pairOf x .low))
+  pub lower : pairOf x .high < stateMost → getD low (pairOf x .high) 0 ≡ pairOf x .high → valueOf v x ≡ 1 → LowestJoined v (suc x) (set low (pairOf x .high) (pairOf x .low))
   lower b own is = record { long = length-set low _ _ ∙ h .long; each = λ q l. go q l (ℕ-discrete q (pairOf x .high)) }
     where
       first : Lowest v (suc x) (pairOf x .high) (pairOf x .low)
@@ -77,7 +79,7 @@ module _ {v : List ℕ} {x : ℕ} {low : List ℕ} (h : LowestJoined v x low) wh
         least = λ p a c. h .each (pairOf x .high) b .least p (omega (arith, own, pair-ordered x)) (omega (arith, variable-pair x, variable-lt p (pairOf x .high) (omega (arith, pair-ordered x)), variable-lt (pairOf x .low) (pairOf x .high) (pair-ordered x)));
       }
 
-      go : (q : ℕ) → q < 24 → Dec (q ≡ pairOf x .high) → Lowest v (suc x) q (getD (set low (pairOf x .high) (pairOf x .low)) q 0)
+      go : (q : ℕ) → q < stateMost → Dec (q ≡ pairOf x .high) → Lowest v (suc x) q (getD (set low (pairOf x .high) (pairOf x .low)) q 0)
       go q l (no d) = subst (λ (y : ℕ). Lowest v (suc x) q y) (sym (getD-set-other low (pairOf x .high) q (pairOf x .low) 0 d)) (other-state q l d)
       go q l (yes e) =
           subst (λ (y : ℕ). Lowest v (suc x) y (getD (set low (pairOf x .high) (pairOf x .low)) y 0)) (sym e)
@@ -91,7 +93,7 @@ pub record Seen (v : List ℕ) (n x : ℕ) (low : List ℕ) : Type 0 where
   pub lowest : LowestJoined v x low
 
 -- the states of a variable that was looked up
-module _ {v low : List ℕ} {n x : ℕ} (fits : (n ≤ 24) × (pairs n ≤ length v)) (h : Seen v n x low) (l : x < pairs n) where
+module _ {v low : List ℕ} {n x : ℕ} (fits : (n ≤ stateMost) × (pairs n ≤ length v)) (h : Seen v n x low) (l : x < pairs n) where
   one-on : {s : List ℕ} → LowestJoined v (suc x) s → Seen v n (x + 1) s
   one-on k = record { inside = omega arith; lowest = rw add-one k }
 
@@ -105,10 +107,10 @@ module _ {v low : List ℕ} {n x : ℕ} (fits : (n ≤ 24) × (pairs n ≤ lengt
     low-is : a ≡ pairOf x .low
     low-is = ap (λ (p : Pair). p .low) found
 
-    pub high-below : b < 24
+    pub high-below : b < stateMost
     high-below = omega (arith, high-is, pair-below n x l)
 
-    pub low-below : a < 24
+    pub low-below : a < stateMost
     low-below = omega (arith, low-is, high-is, high-below, pair-ordered x)
 
     pub seen-later : getD low b 0 ≢ b → Seen v n (x + 1) low

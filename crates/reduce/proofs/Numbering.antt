@@ -15,7 +15,9 @@ use Rattle.lists.proofs.Counts.{keep-append}
 use Rattle.cnf.specs.Clauses.{valueOf}
 use Rattle.table.specs.Maps.{classes}
 use Rattle.maps.proofs.Numbered.{class-below}
-use Rattle.clauses.specs.Pairs.{pairs, variableOf}
+use Rattle.limits.specs.Limits.{stateMost}
+use Rattle.limits.specs.Pairs.{pairs}
+use Rattle.clauses.specs.Pairs.{variableOf}
 use Rattle.clauses.specs.Maps.{joinedBy, nextClass, mapOf}
 use Rattle.clauses.proofs.Pairs.{variable-below}
 use Rattle.reduce.specs.Lowest.{Lowest, LowestJoined, MapOf}
@@ -57,16 +59,16 @@ joined-false v p q e = ne-eqb _ _ e
 -- the first q states are numbered
 pub record Numbered (v : List ℕ) (n : ℕ) (map : List ℕ) (next q : ℕ) : Type 0 where
   pub inside : q ≤ n
-  pub long : length map ≡ 24
+  pub long : length map ≡ stateMost
   pub so-far : take q map ≡ mapOf v q
   pub count : next ≡ classes (mapOf v q)
   pub few : next ≤ q
 
-pub none-numbered : (v : List ℕ) (n : ℕ) → Numbered v n (replicate 24 0) 0 0
+pub none-numbered : (v : List ℕ) (n : ℕ) → Numbered v n (replicate stateMost 0) 0 0
 unfolding mapOf classes
 none-numbered v n = record { inside = omega arith; long = refl; so-far = refl; count = refl; few = omega arith }
 
-module _ {v : List ℕ} {n next q : ℕ} {low map : List ℕ} (fits : n ≤ 24) (lowest : LowestJoined v (pairs n) low) (h : Numbered v n map next q) (l : q < n) where
+module _ {v : List ℕ} {n next q : ℕ} {low map : List ℕ} (fits : n ≤ stateMost) (lowest : LowestJoined v (pairs n) low) (h : Numbered v n map next q) (l : q < n) where
   at-q : Lowest v (pairs n) q (getD low q 0)
   at-q = lowest .each q (omega arith)
 

@@ -3,7 +3,7 @@
 use mathlib.Core.Path.{_≡_, refl, sym, ap, _∙_, subst}
 use mathlib.Core.Bool.{Bool, true, false}
 use mathlib.Core.List.{List, _++_}
-use Prim.Native.Nat.{ℕ, _+_, _-_, _≤_, _<_}
+use Prim.Native.Nat.{ℕ, _+_, _≤_, _<_}
 use native.Mathlib.Omega.{arith}
 use lib.ListN.{length, take, drop, length-append}
 use lib.Seq.{length-take-le, take-at}
@@ -15,7 +15,8 @@ use Rattle.cnf.specs.Clauses.{clauseFits}
 use Rattle.cnf.specs.Search.{Outcome, solved, none-exists, spent, unfinished}
 use Rattle.cnf.proofs.Words.{fit-formed, clauses-words, whole-words}
 use Rattle.cnf.proofs.Theorems.{satisfies}
-use Rattle.table.specs.Limits.{Limits, standard}
+use Rattle.limits.specs.declared.Limits.{Limits}
+use Rattle.limits.specs.Limits.{stateMost}
 use Rattle.table.specs.File.{tableOf}
 use Rattle.table.specs.Reading.{readNumber, Readable, readOf}
 use Rattle.table.specs.Sections.{ReadAs, partOf}
@@ -25,17 +26,17 @@ use Rattle.table.specs.declared.Starts.{Starts}
 use Rattle.table.specs.declared.view.Section.the-variants.{States}
 use Rattle.table.specs.declared.Reading.the-variants.{Refused as NotRead}
 use Rattle.table.proofs.Bytes.{read-well-formed}
-use Rattle.table.proofs.Facts.{few-states}
+use Rattle.table.proofs.Facts.{few-states, most-states}
 use Rattle.table.proofs.Handed.{read-refused}
 use Rattle.table.proofs.Parts.{states-read}
-use Rattle.clauses.specs.Pairs.{pairs}
+use Rattle.limits.specs.Pairs.{pairs}
 use Rattle.clauses.specs.Clauses.{clauseList, clauseWords, clausesNumber, ClausesDone, clausesOf}
 use Rattle.clauses.specs.Maps.{mapOf}
 use Rattle.clauses.specs.declared.Listed.{Listed}
 use Rattle.clauses.specs.declared.Listed.the-variants.{List as Words, Refused as NotListed}
 use Rattle.clauses.proofs.Formed.{list-fits}
-use Rattle.clauses.proofs.Pairs.{pairs-mono}
-use Rattle.search.specs.Answers.{listFits, searchNumber, Searched, searched, searchOf}
+use Rattle.limits.proofs.Pairs.{pairs-mono, most-pairs}
+use Rattle.search.specs.Answers.{listFits, searchNumber, Searched, searched, searchAt, searchOf}
 use Rattle.search.specs.declared.Solution.{Solution}
 use Rattle.search.specs.declared.Solution.the-variants.{Solved, Refused as NotSolved}
 use Rattle.quotient.specs.Quotient.{quotientNumber, QuotientDone, quotientOf}
@@ -49,15 +50,15 @@ use Rattle.reduce.specs.declared.Reduction.the-variants.{Delivered, Refu
 
 -- ---- map and quotient
 
--- the first n of 24
-pub prefix-long : (m : List ℕ) (n : ℕ) → length m ≡ 24 → n ≤ 24 → length (take n m) ≡ n
+-- the first n of 40
+pub prefix-long : (m : List ℕ) (n : ℕ) → length m ≡ stateMost → n ≤ stateMost → length (take n m) ≡ n
 prefix-long m n e h = length-take-le n m (omega (arith, e))
 
 module _ (L : Limits) (b list map out m : List ℕ) (g : ℕ) where
   -- what reduce makes of the quotient's answer
   onWritten : Written → List ℕ → Reduced
-  onWritten (Length l) o = record { answer = Delivered (classes m) g (length (clauseWords L (tableOf b))) l; list = over (clauseWords L (tableOf b)) list; map = over m map; out = o }
-  onWritten (NotWritten k) o = record { answer = Refused k; list = over (clauseWords L (tableOf b)) list; map = map; out = o }
+  onWritten (Length l) o = record { answer = Delivered (classes m) g (length (clauseWords (tableOf b))) l; list = over (clauseWords (tableOf b)) list; map = over m map; out = o }
+  onWritten (NotWritten k) o = record { answer = Refused k; list = over (clauseWords (tableOf b)) list; map = map; out = o }
 
   on-written : onWritten (quotientOf L b m out .answer) (quotientOf L b m out .out) ≡ deliver L b list map out m g
   unfolding onWritten quotientOf deliver
@@ -71,11 +72,11 @@ module _ (L : Limits) (b list map out m : List ℕ) (g : ℕ) where
     on-answer : {x : Written} → r ≡ x → onWritten x o ≡ deliver L b list map out m g
     on-answer {x} f = ap (λ (y : Written). onWritten y o) (sym f) ∙ ap (λ (d : QuotientDone). onWritten (d .answer) (d .out)) e ∙ on-written
 
-    pub deliver-refused : {k : ℕ} → r ≡ NotWritten k → record { answer = Refused k; list = over (clauseWords L (tableOf b)) list; map = map; out = o } ≡ deliver L b list map out m g
+    pub deliver-refused : {k : ℕ} → r ≡ NotWritten k → record { answer = Refused k; list = over (clauseWords (tableOf b)) list; map = map; out = o } ≡ deliver L b list map out m g
     unfolding onWritten
     deliver-refused f = on-answer f
 
-    pub deliver-written : {l : ℕ} → r ≡ Length l → record { answer = Delivered (classes m) g (length (clauseWords L (tableOf b))) l; list = over (clauseWords L (tableOf b)) list; map = over m map; out = o } ≡ deliver L b list map out m g
+    pub deliver-written : {l : ℕ} → r ≡ Length l → record { answer = Delivered (classes m) g (length (clauseWords (tableOf b))) l; list = over (clauseWords (tableOf b)) list; map = over m map; out = o } ≡ deliver L b list map out m g
     unfolding onWritten
     deliver-written f = on-answer f
 
@@ -84,53 +85,55 @@ module _ (L : Limits) (b list map out v : List ℕ) (n g : ℕ) {found : Classes
   e' : record { answer = r; out = o } ≡ quotientOf L b (mapOf v n) out
   e' = e ∙ ap (λ (m : List ℕ). quotientOf L b m out) (h .map)
 
-  pub not-delivered : {k : ℕ} → r ≡ NotWritten k → record { answer = Refused k; list = over (clauseWords L (tableOf b)) list; map = map; out = o } ≡ deliver L b list map out (mapOf v n) g
+  pub not-delivered : {k : ℕ} → r ≡ NotWritten k → record { answer = Refused k; list = over (clauseWords (tableOf b)) list; map = map; out = o } ≡ deliver L b list map out (mapOf v n) g
   not-delivered f = deliver-refused L b list map out (mapOf v n) g e' f
 
-  pub delivered : {l w : ℕ} {m : List ℕ} → r ≡ Length l → w ≡ length (clauseWords L (tableOf b)) → m ≡ take (length (take n (found .map))) (take n (found .map)) ++ drop (length (take n (found .map))) map
-      → record { answer = Delivered (found .count) g w l; list = over (clauseWords L (tableOf b)) list; map = m; out = o } ≡ deliver L b list map out (mapOf v n) g
+  pub delivered : {l w : ℕ} {m : List ℕ} → r ≡ Length l → w ≡ length (clauseWords (tableOf b)) → m ≡ take (length (take n (found .map))) (take n (found .map)) ++ drop (length (take n (found .map))) map
+      → record { answer = Delivered (found .count) g w l; list = over (clauseWords (tableOf b)) list; map = m; out = o } ≡ deliver L b list map out (mapOf v n) g
   unfolding over
   delivered {l} {w} {m} f p q =
       let written : m ≡ over (mapOf v n) map = copied (take n (found .map)) map q ∙ ap (λ (x : List ℕ). over x map) (h .map) in
-      (λ i. record { answer = Delivered (h .count i) g (p i) l; list = over (clauseWords L (tableOf b)) list; map = written i; out = o }) ∙ deliver-written L b list map out (mapOf v n) g e' f
+      (λ i. record { answer = Delivered (h .count i) g (p i) l; list = over (clauseWords (tableOf b)) list; map = written i; out = o }) ∙ deliver-written L b list map out (mapOf v n) g e' f
 
 -- ---- search
 
-pub states-few : (b : List ℕ) → Readable standard b → count (tableOf b) ≤ 24
-states-few b readable = few-states (read-well-formed standard b readable)
+pub states-few : (L : Limits) (b : List ℕ) → Readable L b → count (tableOf b) ≤ stateMost
+states-few L b readable = most-states (read-well-formed L b readable)
 
-pub pairs-few : (n : ℕ) → n ≤ 24 → pairs n ≤ 276
-unfolding pairs
-pairs-few n few = pairs-mono n 24 few
-
-module _ (L : Limits) (b : List ℕ) (readable : Readable L b) (budget : ℕ) (few : count (tableOf b) ≤ 24) where
+module _ (L : Limits) (b : List ℕ) (readable : Readable L b) (budget : ℕ) where
   abbrev n : ℕ
   n = count (tableOf b)
 
   abbrev cs : List (List ℕ)
-  cs = clauseList L (tableOf b)
+  cs = clauseList (tableOf b)
 
   fits : all (clauseFits (pairs n)) cs ≡ true
   fits = list-fits (tableOf b) (read-well-formed L b readable)
 
+  -- the variables are no more than the limits permit
+  variables-few : pairs n ≤ pairs (L .states)
+  variables-few = pairs-mono n (L .states) (few-states (read-well-formed L b readable))
+
   -- nothing is refused before the search
-  none-refused : (a : List ℕ) → length a ≡ 276 → searchNumber 276 (clauseWords L (tableOf b)) (pairs n) a ≡ 0
+  none-refused : (a : List ℕ) → length a ≡ 780 → searchNumber (pairs (L .states)) (clauseWords (tableOf b)) (pairs n) a ≡ 0
   unfolding searchNumber listFits clauseWords firstFailed
   none-refused a long =
-      rw (le-leb (pairs n) 276 (pairs-few n few), whole-words cs, clauses-words cs, fits, long, le-leb (pairs n) 276 (pairs-few n few), searchNumber, listFits, clauseWords, firstFailed) refl
+      rw (le-leb (pairs n) (pairs (L .states)) variables-few, whole-words cs, clauses-words cs, fits, long, le-leb (pairs n) 780 (most-pairs n (states-few L b readable)), searchNumber, listFits, clauseWords, firstFailed) refl
 
   -- the search that reduce is defined with is the one over the list's words
-  same-search : (a : List ℕ) → length a ≡ 276 → searchOf 276 (clauseWords L (tableOf b)) (pairs n) budget a ≡ searched a (searchOfTable L b budget)
-  unfolding searchOf searchOfTable clauseWords
-  same-search a long = rw (eq-eqb (searchNumber 276 (clauseWords L (tableOf b)) (pairs n) a) 0 (none-refused a long), searchOf) (rw (clauses-words cs, searchOfTable, clauseWords) refl)
+  same-search : (a : List ℕ) → length a ≡ 780 → searchOf L (clauseWords (tableOf b)) (pairs n) budget a ≡ searched a (searchOfTable b budget)
+  unfolding searchOf searchAt searchOfTable clauseWords
+  same-search a long =
+      rw (read-well-formed L b readable .limits, searchOf)
+      (rw (eq-eqb (searchNumber (pairs (L .states)) (clauseWords (tableOf b)) (pairs n) a) 0 (none-refused a long), searchAt) (rw (clauses-words cs, searchOfTable, clauseWords) refl))
 
   module _ (before map out : List ℕ) where
     -- what reduce makes of the search's answer
     onSolution : Solution → List ℕ → Reduced
     onSolution (Solved k) a = deliver L b before map out (mapOf (take (pairs n) a) n) k
-    onSolution (NotSolved k) a = record { answer = Refused k; list = over (clauseWords L (tableOf b)) before; map = map; out = out }
+    onSolution (NotSolved k) a = record { answer = Refused k; list = over (clauseWords (tableOf b)) before; map = map; out = out }
 
-    on-outcome : (a : List ℕ) (o : Outcome) → o ≡ searchOfTable L b budget → onSolution (searched a o .solution) (searched a o .answer) ≡ afterSearch L b before map out o
+    on-outcome : (a : List ℕ) (o : Outcome) → o ≡ searchOfTable b budget → onSolution (searched a o .solution) (searched a o .answer) ≡ afterSearch L b before map out o
     unfolding onSolution searched afterSearch over searchOfTable
     on-outcome a (solved v k) e =
         let s = satisfies cs (pairs n) budget (fit-formed (pairs n) cs fits) v k (sym e) in
@@ -139,58 +142,58 @@ module _ (L : Limits) (b : List ℕ) (readable : Readable L b) (budget : ℕ) (f
     on-outcome a (spent k) e = refl
     on-outcome a unfinished e = refl
 
-    module _ {ws : List ℕ} (a : List ℕ) {o : List ℕ} {v : ℕ} {r : Solution} (w : ws ≡ clauseWords L (tableOf b)) (p : v ≡ pairs n) (long : length a ≡ 276) (e : record { solution = r; answer = o } ≡ searchOf 276 ws v budget a) where
-      on-found : {x : Solution} → r ≡ x → onSolution x o ≡ afterSearch L b before map out (searchOfTable L b budget)
+    module _ {ws : List ℕ} (a : List ℕ) {o : List ℕ} {v : ℕ} {r : Solution} (w : ws ≡ clauseWords (tableOf b)) (p : v ≡ pairs n) (long : length a ≡ 780) (e : record { solution = r; answer = o } ≡ searchOf L ws v budget a) where
+      on-found : {x : Solution} → r ≡ x → onSolution x o ≡ afterSearch L b before map out (searchOfTable b budget)
       on-found {x} f =
-          let known : record { solution = r; answer = o } ≡ searched a (searchOfTable L b budget) = e ∙ ap (λ (u : List ℕ). searchOf 276 u v budget a) w ∙ ap (λ (u : ℕ). searchOf 276 (clauseWords L (tableOf b)) u budget a) p ∙ same-search a long in
-          ap (λ (y : Solution). onSolution y o) (sym f) ∙ ap (λ (d : Searched). onSolution (d .solution) (d .answer)) known ∙ on-outcome a (searchOfTable L b budget) refl
+          let known : record { solution = r; answer = o } ≡ searched a (searchOfTable b budget) = e ∙ ap (λ (u : List ℕ). searchOf L u v budget a) w ∙ ap (λ (u : ℕ). searchOf L (clauseWords (tableOf b)) u budget a) p ∙ same-search a long in
+          ap (λ (y : Solution). onSolution y o) (sym f) ∙ ap (λ (d : Searched). onSolution (d .solution) (d .answer)) known ∙ on-outcome a (searchOfTable b budget) refl
 
-      pub solve-refused : {k : ℕ} → r ≡ NotSolved k → record { answer = Refused k; list = over (clauseWords L (tableOf b)) before; map = map; out = out } ≡ afterSearch L b before map out (searchOfTable L b budget)
+      pub solve-refused : {k : ℕ} → r ≡ NotSolved k → record { answer = Refused k; list = over (clauseWords (tableOf b)) before; map = map; out = out } ≡ afterSearch L b before map out (searchOfTable b budget)
       unfolding onSolution
       solve-refused f = on-found f
 
-      pub solve-found : {k : ℕ} → r ≡ Solved k → deliver L b before map out (mapOf (take v o) n) k ≡ afterSearch L b before map out (searchOfTable L b budget)
+      pub solve-found : {k : ℕ} → r ≡ Solved k → deliver L b before map out (mapOf (take v o) n) k ≡ afterSearch L b before map out (searchOfTable b budget)
       unfolding onSolution
       solve-found {k} f = ap (λ (u : ℕ). deliver L b before map out (mapOf (take u o) n) k) p ∙ on-found f
 
--- the same as the code finds it: n states, v variables, room for 276 values
-module _ (b : List ℕ) (readable : Readable standard b) {n v : ℕ} (counted : n ≡ count (tableOf b)) (numbered : v ≡ pairs n) where
+-- the same as the code finds it: n states, v variables, room for 780 values
+module _ (L : Limits) (b : List ℕ) (readable : Readable L b) {n v : ℕ} (counted : n ≡ count (tableOf b)) (numbered : v ≡ pairs n) where
   variables-are : v ≡ pairs (count (tableOf b))
   variables-are = numbered ∙ ap pairs counted
 
-  pub values-room : {k : ℕ} → k ≡ 276 → v ≤ k
-  values-room e = omega (arith, variables-are, pairs-few (count (tableOf b)) (states-few b readable))
+  pub values-room : {k : ℕ} → k ≡ 780 → v ≤ k
+  values-room e = omega (arith, variables-are, most-pairs (count (tableOf b)) (states-few L b readable))
 
-  pub values-part : (a : List ℕ) → length a ≡ 276 → length (take v a) ≡ v
+  pub values-part : (a : List ℕ) → length a ≡ 780 → length (take v a) ≡ v
   values-part a e = length-take-le v a (values-room e)
 
-  module _ {ws : List ℕ} (budget : ℕ) (a : List ℕ) {o : List ℕ} {r : Solution} (w : ws ≡ clauseWords standard (tableOf b)) (long : length a ≡ 276) (e : record { solution = r; answer = o } ≡ searchOf 276 ws v budget a) (before map out : List ℕ) where
-    pub not-solved : {k : ℕ} → r ≡ NotSolved k → record { answer = Refused k; list = over (clauseWords standard (tableOf b)) before; map = map; out = out } ≡ afterSearch standard b before map out (searchOfTable standard b budget)
-    not-solved f = solve-refused standard b readable budget (states-few b readable) before map out a w variables-are long e f
+  module _ {ws : List ℕ} (budget : ℕ) (a : List ℕ) {o : List ℕ} {r : Solution} (w : ws ≡ clauseWords (tableOf b)) (long : length a ≡ 780) (e : record { solution = r; answer = o } ≡ searchOf L ws v budget a) (before map out : List ℕ) where
+    pub not-solved : {k : ℕ} → r ≡ NotSolved k → record { answer = Refused k; list = over (clauseWords (tableOf b)) before; map = map; out = out } ≡ afterSearch L b before map out (searchOfTable b budget)
+    not-solved f = solve-refused L b readable budget before map out a w variables-are long e f
 
-    pub is-solved : {k : ℕ} → r ≡ Solved k → deliver standard b before map out (mapOf (take v o) n) k ≡ afterSearch standard b before map out (searchOfTable standard b budget)
+    pub is-solved : {k : ℕ} → r ≡ Solved k → deliver L b before map out (mapOf (take v o) n) k ≡ afterSearch L b before map out (searchOfTable b budget)
     is-solved {k} f =
-        ap (λ (c : ℕ). deliver standard b before map out (mapOf (take v o) c) k) counted
-        ∙ solve-found standard b readable budget (states-few b readable) before map out a w variables-are long e f
+        ap (λ (c : ℕ). deliver L b before map out (mapOf (take v o) c) k) counted
+        ∙ solve-found L b readable budget before map out a w variables-are long e f
 
 -- ---- clauses
 
 module _ (L : Limits) (b list : List ℕ) where
   -- what an answer of the clauses says of the buffer
   ListedAs : Listed → List ℕ → Type 0
-  ListedAs (Words c w) l = (w ≡ length (clauseWords L (tableOf b))) × (l ≡ over (clauseWords L (tableOf b)) list) × (w ≤ length list)
+  ListedAs (Words c w) l = (w ≡ length (clauseWords (tableOf b))) × (l ≡ over (clauseWords (tableOf b)) list) × (w ≤ length list)
   ListedAs (NotListed k) l = l ≡ list
 
-  fits-list : clausesNumber L b list ≡ 0 → length (clauseWords L (tableOf b)) ≤ length list
+  fits-list : clausesNumber L b list ≡ 0 → length (clauseWords (tableOf b)) ≤ length list
   unfolding clausesNumber
   fits-list e = one (eqb (readNumber L b) 0) refl e
     where
-      two : (t : Bool) → leb (length (clauseWords L (tableOf b))) (length list) ≡ t → _≡_ {A = ℕ} (elim t [ true ↦ 0 | false ↦ 10 ]) 0 → length (clauseWords L (tableOf b)) ≤ length list
+      two : (t : Bool) → leb (length (clauseWords (tableOf b))) (length list) ≡ t → _≡_ {A = ℕ} (elim t [ true ↦ 0 | false ↦ 10 ]) 0 → length (clauseWords (tableOf b)) ≤ length list
       two true p f = leb-true _ _ p
       two false p f = absurd (omega arith)
 
-      one : (t : Bool) → eqb (readNumber L b) 0 ≡ t → _≡_ {A = ℕ} (elim t [ true ↦ elim (leb (length (clauseWords L (tableOf b))) (length list)) [ true ↦ 0 | false ↦ 10 ] | false ↦ readNumber L b ]) 0 → length (clauseWords L (tableOf b)) ≤ length list
-      one true p f = two (leb (length (clauseWords L (tableOf b))) (length list)) refl f
+      one : (t : Bool) → eqb (readNumber L b) 0 ≡ t → _≡_ {A = ℕ} (elim t [ true ↦ elim (leb (length (clauseWords (tableOf b))) (length list)) [ true ↦ 0 | false ↦ 10 ] | false ↦ readNumber L b ]) 0 → length (clauseWords (tableOf b)) ≤ length list
+      one true p f = two (leb (length (clauseWords (tableOf b))) (length list)) refl f
       one false p f = absurd (eqb-false (readNumber L b) 0 p f)
 
   listed-as : ListedAs (clausesOf L b list .answer) (clausesOf L b list .list)
@@ -206,21 +209,21 @@ module _ (L : Limits) (b list : List ℕ) where
     told {x} f = subst (λ (y : Listed). ListedAs y l) f (subst (λ (d : ClausesDone). ListedAs (d .answer) (d .list)) (sym e) listed-as)
 
     -- the list stands at the front of the buffer
-    pub list-there : {c w : ℕ} → r ≡ Words c w → take w l ≡ clauseWords L (tableOf b)
+    pub list-there : {c w : ℕ} → r ≡ Words c w → take w l ≡ clauseWords (tableOf b)
     unfolding ListedAs over
     list-there {c} {w} f =
         let t = told f in
-        ap (take w) (t .1) ∙ take-at (clauseWords L (tableOf b)) (drop (length (clauseWords L (tableOf b))) list) w (sym (t .0))
+        ap (take w) (t .1) ∙ take-at (clauseWords (tableOf b)) (drop (length (clauseWords (tableOf b))) list) w (sym (t .0))
 
     pub list-room : {c w : ℕ} → r ≡ Words c w → w ≤ length l
     unfolding ListedAs over
     list-room {c} {w} f =
         let t = told f in
-        omega (arith, ap length (t .1) ∙ length-append (clauseWords L (tableOf b)) (drop (length (clauseWords L (tableOf b))) list), t .0)
+        omega (arith, ap length (t .1) ∙ length-append (clauseWords (tableOf b)) (drop (length (clauseWords (tableOf b))) list), t .0)
 
     module _ (budget : ℕ) (map out : List ℕ) (readable : Readable L b) (room : count (tableOf b) ≤ length map) where
       onListed : Listed → List ℕ → Reduced
-      onListed (Words c w) k = afterSearch L b list map out (searchOfTable L b budget)
+      onListed (Words c w) k = afterSearch L b list map out (searchOfTable b budget)
       onListed (NotListed k) i = record { answer = Refused k; list = i; map = map; out = out }
 
       same-number : beforeSearch L b list map ≡ clausesNumber L b list
@@ -243,7 +246,7 @@ module _ (L : Limits) (b list : List ℕ) where
       list-refused f = on-list f
 
       -- the list was written, and the rest of reduce gave its answer
-      pub list-solved : {c w : ℕ} {s : Reduction} {m o : List ℕ} → r ≡ Words c w → ((before : List ℕ) → record { answer = s; list = over (clauseWords L (tableOf b)) before; map = m; out = o } ≡ afterSearch L b before map out (searchOfTable L b budget)) → record { answer = s; list = l; map = m; out = o } ≡ reduceOf L b budget list map out
+      pub list-solved : {c w : ℕ} {s : Reduction} {m o : List ℕ} → r ≡ Words c w → ((before : List ℕ) → record { answer = s; list = over (clauseWords (tableOf b)) before; map = m; out = o } ≡ afterSearch L b before map out (searchOfTable b budget)) → record { answer = s; list = l; map = m; out = o } ≡ reduceOf L b budget list map out
       unfolding onListed ListedAs
       list-solved {c} {w} {s} {m} {o} f h =
           (λ i. record { answer = s; list = told f .1 i; map = m; out = o }) ∙ h list ∙ on-list f

@@ -2,7 +2,7 @@
 use mathlib.Core.Path.{_≡_, refl, sym, subst}
 use mathlib.Core.Logic.{_≢_}
 use mathlib.Core.List.{List}
-use Prim.Native.Nat.{ℕ, _-_, _≤_}
+use Prim.Native.Nat.{ℕ, _≤_}
 use native.Mathlib.Omega.{arith}
 use lib.ListN.{length, drop}
 use lib.Seq.{take-at, take-append-seam}
@@ -12,14 +12,14 @@ use Rattle.cnf.specs.Search.{Outcome, searchFrom}
 use Rattle.cnf.proofs.Words.{fit-formed}
 use Rattle.cnf.proofs.Horn.{madeOf}
 use Rattle.cnf.proofs.Theorems.{horn}
-use Rattle.table.specs.Limits.{Limits, standard}
+use Rattle.limits.specs.declared.Limits.{Limits}
 use Rattle.table.specs.File.{tableOf}
 use Rattle.table.specs.Language.{count, SameWords}
 use Rattle.table.specs.Maps.{classes, NoneCoarser}
-use Rattle.table.proofs.Bytes.{Small, read-well-formed}
+use Rattle.table.proofs.Bytes.{read-well-formed}
 use Rattle.maps.specs.Check.{checkNumber, checkOf}
 use Rattle.maps.specs.declared.Checked.the-variants.{Accepted}
-use Rattle.clauses.specs.Pairs.{pairs}
+use Rattle.limits.specs.Pairs.{pairs}
 use Rattle.clauses.specs.Clauses.{clauseList}
 use Rattle.clauses.specs.Maps.{mapOf}
 use Rattle.clauses.proofs.Formed.{list-fits, list-horn}
@@ -27,12 +27,11 @@ use Rattle.clauses.proofs.Theorems.{map-proper, none-coarser}
 use Rattle.quotient.specs.Quotient.{quotientBytes}
 use Rattle.quotient.specs.Demands.{IsQuotient}
 use Rattle.quotient.proofs.Theorems.{is-quotient, keeps-words}
-use Rattle.quotient.proofs.Quotienting.{small}
 use Rattle.reduce.specs.Reduce.{Reduced, searchOfTable, reduceOf, reductionNumber}
 use Rattle.reduce.specs.Demands.{OnDelivery, KeepsWords, DeliversQuotient, DeliversChecked, DeliversMaximal, FewGuesses, mapWritten}
 use Rattle.reduce.specs.declared.Reduction.{Reduction}
 use Rattle.reduce.specs.declared.Reduction.the-variants.{Delivered}
-use Rattle.reduce.proofs.Ways.{FirstNumber, of-reading, map-short, list-long, first-number, Solved, Ways, refused-first, refused-spent, refused-short, delivers, reduce-ways}
+use Rattle.reduce.proofs.Ways.{FirstNumber, of-limits, of-reading, map-short, list-long, first-number, Solved, Ways, refused-first, refused-spent, refused-short, delivers, reduce-ways}
 
 module _ (L : Limits) (b : List ℕ) (budget : ℕ) (list map out : List ℕ) where
   -- the map that was written is the one that was found
@@ -84,7 +83,7 @@ module _ (L : Limits) (b : List ℕ) (budget : ℕ) (list map out : List ℕ) wh
   guesses-ways (delivers v g s l) = λ one.
       let wf = read-well-formed L b (s .begun .readable) in
       let n = pairs (count (tableOf b)) in
-      let cs = clauseList L (tableOf b) in
+      let cs = clauseList (tableOf b) in
       let few : madeOf (searchFrom cs n budget) ≤ n = horn cs n budget (fit-formed n cs (list-fits (tableOf b) wf)) (list-horn (tableOf b) wf one) in
       subst (λ (o : Outcome). madeOf o ≤ n) (s .outcome) few
 
@@ -92,37 +91,36 @@ module _ (L : Limits) (b : List ℕ) (budget : ℕ) (list map out : List ℕ) wh
   pub few-guesses : FewGuesses (reduceOf L b budget list map out .answer) b
   few-guesses = guesses-ways (reduce-ways L b budget list map out)
 
-  module _ (small : Small L) where
-    words-ways : {r : Reduced} → Ways L b budget list map out r → KeepsWords (r .answer) b (r .out)
-    unfolding over
-    words-ways (refused-first k e n) = tt
-    words-ways (refused-spent g h e) = tt
-    words-ways (refused-short v g s l) = tt
-    words-ways (delivers v g s l) =
-        let c = quotientBytes L b (mapOf v (count (tableOf b))) in
-        subst (λ (d : List ℕ). SameWords b d) (sym (take-append-seam c (drop (length c) out))) (keeps-words L small b (mapOf v (count (tableOf b))) (s .accepted))
+  words-ways : {r : Reduced} → Ways L b budget list map out r → KeepsWords (r .answer) b (r .out)
+  unfolding over
+  words-ways (refused-first k e n) = tt
+  words-ways (refused-spent g h e) = tt
+  words-ways (refused-short v g s l) = tt
+  words-ways (delivers v g s l) =
+      let c = quotientBytes b (mapOf v (count (tableOf b))) in
+      subst (λ (d : List ℕ). SameWords b d) (sym (take-append-seam c (drop (length c) out))) (keeps-words L b (mapOf v (count (tableOf b))) (s .accepted))
 
-    -- "for every word of any length, the written quotient accepts the word exactly when the input does"
-    pub delivers-words : KeepsWords (reduceOf L b budget list map out .answer) b (reduceOf L b budget list map out .out)
-    delivers-words = words-ways (reduce-ways L b budget list map out)
+  -- "for every word of any length, the written quotient accepts the word exactly when the input does"
+  pub delivers-words : KeepsWords (reduceOf L b budget list map out .answer) b (reduceOf L b budget list map out .out)
+  delivers-words = words-ways (reduce-ways L b budget list map out)
 
-    quotient-ways : {r : Reduced} → Ways L b budget list map out r → DeliversQuotient L (r .answer) b (r .map) (r .out)
-    unfolding over
-    quotient-ways (refused-first k e n) = tt
-    quotient-ways (refused-spent g h e) = tt
-    quotient-ways (refused-short v g s l) = tt
-    quotient-ways (delivers v g s l) =
-        let m = mapOf v (count (tableOf b)) in
-        let c = quotientBytes L b m in
-        let wf = read-well-formed L b (s .begun .readable) in
-        subst (λ (d : List ℕ). IsQuotient L b (mapWritten b (over m map)) d) (sym (take-append-seam c (drop (length c) out)))
-        (subst (λ (k : List ℕ). IsQuotient L b k c) (sym (map-written v g s)) (is-quotient L small b m (s .begun .readable) (map-proper L (tableOf b) wf v (s .model))))
+  quotient-ways : {r : Reduced} → Ways L b budget list map out r → DeliversQuotient L (r .answer) b (r .map) (r .out)
+  unfolding over
+  quotient-ways (refused-first k e n) = tt
+  quotient-ways (refused-spent g h e) = tt
+  quotient-ways (refused-short v g s l) = tt
+  quotient-ways (delivers v g s l) =
+      let m = mapOf v (count (tableOf b)) in
+      let c = quotientBytes b m in
+      let wf = read-well-formed L b (s .begun .readable) in
+      subst (λ (d : List ℕ). IsQuotient L b (mapWritten b (over m map)) d) (sym (take-append-seam c (drop (length c) out)))
+      (subst (λ (k : List ℕ). IsQuotient L b k c) (sym (map-written v g s)) (is-quotient L b m (s .begun .readable) (map-proper L (tableOf b) wf v (s .model))))
 
-    -- the written table is the paper's quotient under the delivered map
-    pub delivers-quotient : DeliversQuotient L (reduceOf L b budget list map out .answer) b (reduceOf L b budget list map out .map) (reduceOf L b budget list map out .out)
-    delivers-quotient = quotient-ways (reduce-ways L b budget list map out)
+  -- the written table is the paper's quotient under the delivered map
+  pub delivers-quotient : DeliversQuotient L (reduceOf L b budget list map out .answer) b (reduceOf L b budget list map out .map) (reduceOf L b budget list map out .out)
+  delivers-quotient = quotient-ways (reduce-ways L b budget list map out)
 
-  -- the numbers that reduce refuses by: "1 to 8; 22 ..; 10; 13; 21". None other comes out, 12 and those of the check among them
+  -- the numbers that reduce refuses by: 39, "1 to 8; 22 ..; 10; 13; 21". None other comes out, 12 and those of the check among them
   pub data Number (k : ℕ) : Type 0 where
     first : FirstNumber k → Number k
     spent-all : k ≡ 13 → Number k
@@ -144,6 +142,7 @@ module _ (L : Limits) (b : List ℕ) (budget : ℕ) (list map out : List ℕ) wh
   never-none e = go numbers
     where
       early : FirstNumber (reductionNumber (reduceOf L b budget list map out .answer)) → ⊥
+      early (of-limits h) = omega arith
       early (of-reading h) = omega arith
       early (map-short h) = omega arith
       early (list-long h) = omega arith
@@ -155,26 +154,26 @@ module _ (L : Limits) (b : List ℕ) (budget : ℕ) (list map out : List ℕ) wh
       go (delivered h) = omega arith
 
 -- what the contract of reduce says, of the answer and the buffers that the definition gives
-module _ (b : List ℕ) (budget : ℕ) (list map out : List ℕ) {r : Reduction} {list' map' out' : List ℕ} (e : record { answer = r; list = list'; map = map'; out = out' } ≡ reduceOf standard b budget list map out) where
-  pub promised : (_≡_ {A = Reduced} (record { answer = r; list = list'; map = map'; out = out' }) (reduceOf standard b budget list map out)) × (KeepsWords r b out' × (DeliversQuotient standard r b map' out' × (DeliversChecked standard r b map' × (DeliversMaximal r b map' × FewGuesses r b))))
+module _ (L : Limits) (b : List ℕ) (budget : ℕ) (list map out : List ℕ) {r : Reduction} {list' map' out' : List ℕ} (e : record { answer = r; list = list'; map = map'; out = out' } ≡ reduceOf L b budget list map out) where
+  pub promised : (_≡_ {A = Reduced} (record { answer = r; list = list'; map = map'; out = out' }) (reduceOf L b budget list map out)) × (KeepsWords r b out' × (DeliversQuotient L r b map' out' × (DeliversChecked L r b map' × (DeliversMaximal r b map' × FewGuesses r b))))
   promised = (e, (kept, (quotient, (checked, (maximal, few)))))
     where
       kept : KeepsWords r b out'
-      kept = subst (λ (d : Reduced). KeepsWords (d .answer) b (d .out)) (sym e) (delivers-words standard b budget list map out small)
+      kept = subst (λ (d : Reduced). KeepsWords (d .answer) b (d .out)) (sym e) (delivers-words L b budget list map out)
 
-      quotient : DeliversQuotient standard r b map' out'
-      quotient = subst (λ (d : Reduced). DeliversQuotient standard (d .answer) b (d .map) (d .out)) (sym e) (delivers-quotient standard b budget list map out small)
+      quotient : DeliversQuotient L r b map' out'
+      quotient = subst (λ (d : Reduced). DeliversQuotient L (d .answer) b (d .map) (d .out)) (sym e) (delivers-quotient L b budget list map out)
 
-      checked : DeliversChecked standard r b map'
-      checked = subst (λ (d : Reduced). DeliversChecked standard (d .answer) b (d .map)) (sym e) (delivers-checked standard b budget list map out)
+      checked : DeliversChecked L r b map'
+      checked = subst (λ (d : Reduced). DeliversChecked L (d .answer) b (d .map)) (sym e) (delivers-checked L b budget list map out)
 
       maximal : DeliversMaximal r b map'
-      maximal = subst (λ (d : Reduced). DeliversMaximal (d .answer) b (d .map)) (sym e) (delivers-maximal standard b budget list map out)
+      maximal = subst (λ (d : Reduced). DeliversMaximal (d .answer) b (d .map)) (sym e) (delivers-maximal L b budget list map out)
 
       few : FewGuesses r b
-      few = subst (λ (d : Reduced). FewGuesses (d .answer) b) (sym e) (few-guesses standard b budget list map out)
+      few = subst (λ (d : Reduced). FewGuesses (d .answer) b) (sym e) (few-guesses L b budget list map out)
 
   pub delivered-fits : {c g w l : ℕ} → r ≡ Delivered c g w l → l ≤ length out
   delivered-fits f =
       subst (λ (x : Reduction). OnDelivery x (λ c g w l. l ≤ length out)) f
-      (subst (λ (d : Reduced). OnDelivery (d .answer) (λ c g w l. l ≤ length out)) (sym e) (delivers-fitting standard b budget list map out))
+      (subst (λ (d : Reduced). OnDelivery (d .answer) (λ c g w l. l ≤ length out)) (sym e) (delivers-fitting L b budget list map out))

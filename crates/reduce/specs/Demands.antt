@@ -3,7 +3,7 @@ use mathlib.Core.Path.{_≡_}
 use mathlib.Core.List.{List}
 use Prim.Native.Nat.{ℕ, _-_, _*_, _/_, _≤_}
 use lib.ListN.{take}
-use Rattle.table.specs.Limits.{Limits}
+use Rattle.limits.specs.declared.Limits.{Limits}
 use Rattle.table.specs.File.{tableOf}
 use Rattle.table.specs.Language.{count, SameWords, OneTarget}
 use Rattle.table.specs.Maps.{NoneCoarser}

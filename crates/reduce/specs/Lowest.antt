@@ -5,6 +5,7 @@ use mathlib.Core.List.{List}
 use Prim.Native.Nat.{ℕ, _≤_, _<_}
 use lib.ListN.{length, getD, take}
 use Rattle.cnf.specs.Clauses.{valueOf}
+use Rattle.limits.specs.Limits.{stateMost}
 use Rattle.table.specs.Maps.{classes}
 use Rattle.clauses.specs.Pairs.{variableOf}
 use Rattle.clauses.specs.Maps.{mapOf}
@@ -19,11 +20,11 @@ pub record Lowest (v : List ℕ) (x q l : ℕ) : Type 0 where
 
 -- the same of every state
 pub record LowestJoined (v : List ℕ) (x : ℕ) (low : List ℕ) : Type 0 where
-  pub long : length low ≡ 24
-  pub each : (q : ℕ) → q < 24 → Lowest v x q (getD low q 0)
+  pub long : length low ≡ stateMost
+  pub each : (q : ℕ) → q < stateMost → Lowest v x q (getD low q 0)
 
 -- "The map of an assignment", and its class count
 pub record MapOf (v : List ℕ) (n : ℕ) (r : Classes) : Type 0 where
-  pub long : length (r .map) ≡ 24
+  pub long : length (r .map) ≡ stateMost
   pub map : take n (r .map) ≡ mapOf v n
   pub count : r .count ≡ classes (mapOf v n)

@@ -7,12 +7,12 @@ use lib.ListN.{length}
 use lib.Dec.{eqb, leb}
 use Rattle.lists.specs.Lists.{over}
 use Rattle.cnf.specs.Search.{Outcome, solved, none-exists, spent, unfinished, searchFrom}
-use Rattle.table.specs.Limits.{Limits}
+use Rattle.limits.specs.declared.Limits.{Limits}
 use Rattle.table.specs.File.{tableOf}
 use Rattle.table.specs.Reading.{readNumber}
 use Rattle.table.specs.Language.{count}
 use Rattle.table.specs.Maps.{classes}
-use Rattle.clauses.specs.Pairs.{pairs}
+use Rattle.limits.specs.Pairs.{pairs}
 use Rattle.clauses.specs.Clauses.{clauseList, clauseWords}
 use Rattle.clauses.specs.Maps.{mapOf}
 use Rattle.quotient.specs.Quotient.{quotientBytes, quotientNumber}
@@ -26,24 +26,24 @@ pub record Reduced : Type 0 where
   pub map : List ℕ
   pub out : List ℕ
 
--- 1 to 8; then 22: "map buffer under one byte a state"; then 10: the list longer than the clause buffer; or 0
+-- 39, 1 to 8; then 22: "map buffer under one byte a state"; then 10: the list longer than the clause buffer; or 0
 unfoldable pub beforeSearch : Limits → List ℕ → List ℕ → List ℕ → ℕ
 beforeSearch L b list map = elim (eqb (readNumber L b) 0) [
   | true ↦ elim (leb (count (tableOf b)) (length map)) [
-    | true ↦ elim (leb (length (clauseWords L (tableOf b))) (length list)) [ true ↦ 0 | false ↦ 10 ]
+    | true ↦ elim (leb (length (clauseWords (tableOf b))) (length list)) [ true ↦ 0 | false ↦ 10 ]
     | false ↦ 22
   ]
   | false ↦ readNumber L b
 ]
 
 -- the search that reduce runs: over the table's list, with a variable for each pair of its states
-unfoldable pub searchOfTable : Limits → List ℕ → ℕ → Outcome
-searchOfTable L b budget = searchFrom (clauseList L (tableOf b)) (pairs (count (tableOf b))) budget
+unfoldable pub searchOfTable : List ℕ → ℕ → Outcome
+searchOfTable b budget = searchFrom (clauseList (tableOf b)) (pairs (count (tableOf b))) budget
 
 module _ (L : Limits) (b list map out : List ℕ) where
   -- "With 13, 21 or a delivery the clause buffer starts with the list, the rest unchanged."
   abbrev listed : List ℕ
-  listed = over (clauseWords L (tableOf b)) list
+  listed = over (clauseWords (tableOf b)) list
 
   -- a refusal once the list is written
   abbrev refusedLater : ℕ → Reduced
@@ -53,10 +53,10 @@ module _ (L : Limits) (b list map out : List ℕ) where
   unfoldable pub deliver : List ℕ → ℕ → Reduced
   deliver m k = elim (eqb (quotientNumber L b m out) 0) [
     | true ↦ record {
-      answer = Delivered (classes m) k (length (clauseWords L (tableOf b))) (length (quotientBytes L b m));
+      answer = Delivered (classes m) k (length (clauseWords (tableOf b))) (length (quotientBytes b m));
       list = listed;
       map = over m map;
-      out = over (quotientBytes L b m) out;
+      out = over (quotientBytes b m) out;
     }
     | false ↦ refusedLater (quotientNumber L b m out)
   ]
@@ -71,7 +71,7 @@ module _ (L : Limits) (b list map out : List ℕ) where
 -- the operation: "Reduce runs reading, clauses, search, map, check, quotient."
 unfoldable pub reduceOf : Limits → List ℕ → ℕ → List ℕ → List ℕ → List ℕ → Reduced
 reduceOf L b budget list map out = elim (eqb (beforeSearch L b list map) 0) [
-  | true ↦ afterSearch L b list map out (searchOfTable L b budget)
+  | true ↦ afterSearch L b list map out (searchOfTable b budget)
   | false ↦ record { answer = Refused (beforeSearch L b list map); list = list; map = map; out = out }
 ]
 

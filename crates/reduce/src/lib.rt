@@ -4,16 +4,17 @@ ghost use mathlib.Core.List.{List};
 ghost use Prim.Native.Nat.{ℕ, _≤_};
 ghost use lib.ListN.{length};
 ghost use Rattle.lists.specs.Lists.{over};
-ghost use Rattle.table.specs.Limits.{standard};
+ghost use Rattle.limits.specs.Limits.{standard};
 ghost use Rattle.table.specs.File.{tableOf};
 ghost use Rattle.table.specs.Reading.{Readable};
 ghost use Rattle.table.specs.Language.{count};
-ghost use Rattle.clauses.specs.Pairs.{pairs};
+ghost use Rattle.limits.specs.Pairs.{pairs};
 ghost use Rattle.clauses.specs.Clauses.{clauseWords};
 ghost use Rattle.clauses.specs.Maps.{mapOf};
 ghost use Rattle.reduce.specs.Reduce.{Reduced, searchOfTable, deliver, afterSearch, reduceOf};
 ghost use Rattle.reduce.specs.Demands.{KeepsWords, DeliversQuotient, DeliversChecked, DeliversMaximal, FewGuesses};
 use clauses::Listed;
+use limits::Limits;
 use map::map_of;
 use quotient::Written;
 use search::Solution;
@@ -30,12 +31,13 @@ pub enum Reduction {
         words: usize,
         length: usize,
     },
-    // 1 to 8, 22, 10, 13, 21
+    // 39, 1 to 8, 22, 10, 13, 21
     Refused(u8),
 }
 
 // Map, check and quotient of an assignment: the map is written only once the quotient is.
 fn deliver_found(
+    limits: Limits,
     table: &[u8],
     n: u8,
     values: &[u8],
@@ -44,13 +46,13 @@ fn deliver_found(
     map: &mut [u8],
     out: &mut [u8],
 ) -> Reduction
-    requires { ⌜ (n ≡ count (tableOf (now table))) × (n ≤ 24) × (n ≤ length (now map)) × (length (now values) ≡ pairs n) × (words ≡ length (clauseWords standard (tableOf (now table)))) ⌝ }
-    ensures { λ r. ⌜ ((list : List ℕ) → _≡_ {A = Reduced} (record { answer = r; list = over (clauseWords standard (tableOf (now (table .entry)))) list; map = now (map .exit); out = now (out .exit) }) (deliver standard (now (table .entry)) list (now (map .entry)) (now (out .entry)) (mapOf (now (values .entry)) n) guesses)) ⌝ }
+    requires { ⌜ (n ≡ count (tableOf (now table))) × (n ≤ 40) × (n ≤ length (now map)) × (length (now values) ≡ pairs n) × (words ≡ length (clauseWords (tableOf (now table)))) ⌝ }
+    ensures { λ r. ⌜ ((list : List ℕ) → _≡_ {A = Reduced} (record { answer = r; list = over (clauseWords (tableOf (now (table .entry)))) list; map = now (map .exit); out = now (out .exit) }) (deliver limits (now (table .entry)) list (now (map .entry)) (now (out .entry)) (mapOf (now (values .entry)) n) guesses)) ⌝ }
 {
     let classes = map_of(values, n);
     let found = classes.map;
     let count = n as usize;
-    let written = quotient::quotient(table, &found[..count], out);
+    let written = quotient::quotient_within(limits, table, &found[..count], out);
     match written {
         Written::Refused(number) => Reduction::Refused(number),
         Written::Length(length) => {
@@ -67,6 +69,7 @@ fn deliver_found(
 
 // The search over the list that was written, and what its end leads to.
 fn solve_listed(
+    limits: Limits,
     table: &[u8],
     n: u8,
     list: &[u16],
@@ -74,15 +77,16 @@ fn solve_listed(
     map: &mut [u8],
     out: &mut [u8],
 ) -> Reduction
-    requires { ⌜ Readable standard (now table) × (n ≡ count (tableOf (now table))) × (n ≤ length (now map)) × (now list ≡ clauseWords standard (tableOf (now table))) ⌝ }
-    ensures { λ r. ⌜ ((before : List ℕ) → _≡_ {A = Reduced} (record { answer = r; list = over (clauseWords standard (tableOf (now (table .entry)))) before; map = now (map .exit); out = now (out .exit) }) (afterSearch standard (now (table .entry)) before (now (map .entry)) (now (out .entry)) (searchOfTable standard (now (table .entry)) budget))) ⌝ }
+    requires { ⌜ Readable limits (now table) × (n ≡ count (tableOf (now table))) × (n ≤ length (now map)) × (now list ≡ clauseWords (tableOf (now table))) ⌝ }
+    ensures { λ r. ⌜ ((before : List ℕ) → _≡_ {A = Reduced} (record { answer = r; list = over (clauseWords (tableOf (now (table .entry)))) before; map = now (map .exit); out = now (out .exit) }) (afterSearch limits (now (table .entry)) before (now (map .entry)) (now (out .entry)) (searchOfTable (now (table .entry)) budget))) ⌝ }
 {
     let variables = clauses::pairs_of(n) as usize;
-    let mut values = [0u8; 276];
-    let solution = search::search(list, variables, budget, &mut values);
+    let mut values = [0u8; 780];
+    let solution = search::search_within(limits, list, variables, budget, &mut values);
     match solution {
         Solution::Refused(number) => Reduction::Refused(number),
         Solution::Solved(guesses) => deliver_found(
+            limits,
             table,
             n,
             &values[..variables],
@@ -96,6 +100,7 @@ fn solve_listed(
 
 // A table that was read, with room for its map: clauses, and what follows them.
 fn reduce_read(
+    limits: Limits,
     table: &[u8],
     n: u8,
     budget: u64,
@@ -103,19 +108,49 @@ fn reduce_read(
     map: &mut [u8],
     out: &mut [u8],
 ) -> Reduction
-    requires { ⌜ Readable standard (now table) × (n ≡ count (tableOf (now table))) × (n ≤ length (now map)) ⌝ }
-    ensures { λ r. ⌜ _≡_ {A = Reduced} (record { answer = r; list = now (list .exit); map = now (map .exit); out = now (out .exit) }) (reduceOf standard (now (table .entry)) budget (now (list .entry)) (now (map .entry)) (now (out .entry))) ⌝ }
+    requires { ⌜ Readable limits (now table) × (n ≡ count (tableOf (now table))) × (n ≤ length (now map)) ⌝ }
+    ensures { λ r. ⌜ _≡_ {A = Reduced} (record { answer = r; list = now (list .exit); map = now (map .exit); out = now (out .exit) }) (reduceOf limits (now (table .entry)) budget (now (list .entry)) (now (map .entry)) (now (out .entry))) ⌝ }
 {
-    let listed = clauses::clauses(table, list);
+    let listed = clauses::clauses_within(limits, table, list);
     match listed {
         Listed::Refused(number) => Reduction::Refused(number),
         Listed::List { clauses: _, words } => {
-            solve_listed(table, n, &list[..words], budget, map, out)
+            solve_listed(limits, table, n, &list[..words], budget, map, out)
         }
     }
 }
 
-// Reduces a table with at most `budget` guesses: the map to the map buffer, the quotient to the output.
+// Reduces a table that is read at limits, with at most `budget` guesses: the map to the map buffer, the quotient to the output.
+pub fn reduce_within(
+    limits: Limits,
+    table: &[u8],
+    budget: u64,
+    list: &mut [u16],
+    map: &mut [u8],
+    out: &mut [u8],
+) -> Reduction
+    ensures { λ r. ⌜ _≡_ {A = Reduced} (record { answer = r; list = now (list .exit); map = now (map .exit); out = now (out .exit) }) (reduceOf limits (now (table .entry)) budget (now (list .entry)) (now (map .entry)) (now (out .entry))) ⌝ }
+    ensures words { λ r. ⌜ KeepsWords r (now (table .entry)) (now (out .exit)) ⌝ }
+    ensures exact { λ r. ⌜ DeliversQuotient limits r (now (table .entry)) (now (map .exit)) (now (out .exit)) ⌝ }
+    ensures checked { λ r. ⌜ DeliversChecked limits r (now (table .entry)) (now (map .exit)) ⌝ }
+    ensures maximal { λ r. ⌜ DeliversMaximal r (now (table .entry)) (now (map .exit)) ⌝ }
+    ensures few { λ r. ⌜ FewGuesses r (now (table .entry)) ⌝ }
+{
+    let reading = table::read_within(limits, table);
+    match reading {
+        Reading::Refused(number) => Reduction::Refused(number),
+        Reading::Sections(starts) => {
+            let states = table::part(table, starts, Section::States);
+            let n = states.len();
+            if map.len() < n {
+                return Reduction::Refused(22);
+            }
+            reduce_read(limits, table, n as u8, budget, list, map, out)
+        }
+    }
+}
+
+// Reduces a table, at the limits of a caller that gives none.
 pub fn reduce(
     table: &[u8],
     budget: u64,
@@ -130,16 +165,5 @@ pub fn reduce(
     ensures maximal { λ r. ⌜ DeliversMaximal r (now (table .entry)) (now (map .exit)) ⌝ }
     ensures few { λ r. ⌜ FewGuesses r (now (table .entry)) ⌝ }
 {
-    let reading = table::read(table);
-    match reading {
-        Reading::Refused(number) => Reduction::Refused(number),
-        Reading::Sections(starts) => {
-            let states = table::part(table, starts, Section::States);
-            let n = states.len();
-            if map.len() < n {
-                return Reduction::Refused(22);
-            }
-            reduce_read(table, n as u8, budget, list, map, out)
-        }
-    }
+    reduce_within(limits::standard(), table, budget, list, map, out)
 }

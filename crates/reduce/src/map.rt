@@ -2,17 +2,17 @@
 ghost use mathlib.Core.Path.{_≡_};
 ghost use Prim.Native.Nat.{_≤_};
 ghost use lib.ListN.{length};
-ghost use Rattle.clauses.specs.Pairs.{pairs};
+ghost use Rattle.limits.specs.Pairs.{pairs};
 ghost use Rattle.reduce.specs.Lowest.{LowestJoined, MapOf};
 
 // A class for each of the first states, and how many classes there are.
 pub struct Classes {
-    pub map: [u8; 24],
+    pub map: [u8; 40],
     pub count: u8,
 }
 
 // Each state is joined to itself.
-const ITSELF: [u8; 24] = [
+const ITSELF: [u8; 40] = [
     0,
     1,
     2,
@@ -37,6 +37,22 @@ const ITSELF: [u8; 24] = [
     21,
     22,
     23,
+    24,
+    25,
+    26,
+    27,
+    28,
+    29,
+    30,
+    31,
+    32,
+    33,
+    34,
+    35,
+    36,
+    37,
+    38,
+    39,
 ];
 
 fn wide(x: u8) -> usize
@@ -46,8 +62,8 @@ fn wide(x: u8) -> usize
 }
 
 // For each state the lowest state that is joined to it, or itself: a true variable names a pair.
-fn lowest_joined(values: &[u8], n: u8) -> [u8; 24]
-    requires { ⌜ (n ≤ 24) × (pairs n ≤ length (now values)) ⌝ }
+fn lowest_joined(values: &[u8], n: u8) -> [u8; 40]
+    requires { ⌜ (n ≤ 40) × (pairs n ≤ length (now values)) ⌝ }
     ensures { λ r. ⌜ LowestJoined (now (values .entry)) (pairs n) r ⌝ }
 {
     let mut low = ITSELF;
@@ -71,11 +87,11 @@ fn lowest_joined(values: &[u8], n: u8) -> [u8; 24]
 
 // Numbers the classes by first member, from 0.
 pub(crate) fn map_of(values: &[u8], n: u8) -> Classes
-    requires { ⌜ (n ≤ 24) × (pairs n ≤ length (now values)) ⌝ }
+    requires { ⌜ (n ≤ 40) × (pairs n ≤ length (now values)) ⌝ }
     ensures { λ r. ⌜ MapOf (now (values .entry)) n r ⌝ }
 {
     let low = lowest_joined(values, n);
-    let mut map = [0u8; 24];
+    let mut map = [0u8; 40];
     let mut next: u8 = 0;
     let mut q: u8 = 0;
     'states: while q < n {

@@ -3,7 +3,8 @@ use mathlib.Core.Path.{_≡_, refl, sym, ap, _∙_}
 use mathlib.Core.Logic.{_≢_}
 use mathlib.Core.Bool.{Bool, true, false, _&&_}
 use mathlib.Core.List.{List, [], _∷_, _++_}
-use Prim.Native.Nat.{ℕ, zero, suc, _+_, _≤_, _<_}
+use Prim.Native.Nat.{ℕ, zero, suc, _+_, _-_, _*_, _≤_, _<_}
+use native.Mathlib.Nat.{mul-le-mul}
 use native.Mathlib.Omega.{arith}
 use lib.ListN.{length, take, drop, replicate, length-append, length-replicate}
 use lib.Seq.{take-at}
@@ -22,46 +23,50 @@ use Rattle.search.specs.declared.Solution.the-variants.{Solved, Refused}
 use Rattle.search.specs.declared.solve.Ending.{Ending}
 use Rattle.search.specs.declared.solve.Ending.the-variants.{Found, Absent, Spent}
 use Rattle.search.specs.Turns.{noneSet, Fresh, outcomeOf}
-use Rattle.search.specs.Answers.{listFits, searchNumber, Searched, searched, searchOf}
+use Rattle.search.specs.Answers.{listFits, searchNumber, Searched, searched, searchAt, searchOf}
+use Rattle.search.specs.Demands.{SearchSound}
+use Rattle.limits.specs.declared.Limits.{Limits}
+use Rattle.limits.specs.Limits.{limitsFit}
+use Rattle.limits.specs.Pairs.{pairs}
 
 -- ---- the refusals, in order
 
 module _ (most : ℕ) (ws : List ℕ) (n b : ℕ) (a : List ℕ) where
-  by-number : (k : ℕ) → searchNumber most ws n a ≡ k → k ≢ 0 → record { solution = Refused k; answer = a } ≡ searchOf most ws n b a
-  unfolding searchOf
-  by-number k e z = rw (e, ne-eqb k 0 z, searchOf) (λ j. record { solution = Refused (sym e j); answer = a })
+  by-number : (k : ℕ) → searchNumber most ws n a ≡ k → k ≢ 0 → record { solution = Refused k; answer = a } ≡ searchAt most ws n b a
+  unfolding searchAt
+  by-number k e z = rw (e, ne-eqb k 0 z, searchAt) (λ j. record { solution = Refused (sym e j); answer = a })
 
-  by-outcome : searchNumber most ws n a ≡ 0 → (o : Outcome) → o ≡ searchFrom (clausesIn ws) n b → searched a o ≡ searchOf most ws n b a
-  unfolding searchOf
-  by-outcome e o q = rw (e, searchOf) (ap (searched a) q)
+  by-outcome : searchNumber most ws n a ≡ 0 → (o : Outcome) → o ≡ searchFrom (clausesIn ws) n b → searched a o ≡ searchAt most ws n b a
+  unfolding searchAt
+  by-outcome e o q = rw (e, searchAt) (ap (searched a) q)
 
   -- 11
-  pub refuse-list : listFits most ws n ≡ false → record { solution = Refused 11; answer = a } ≡ searchOf most ws n b a
+  pub refuse-list : listFits most ws n ≡ false → record { solution = Refused 11; answer = a } ≡ searchAt most ws n b a
   unfolding searchNumber
   refuse-list e = by-number 11 (fails 11 ((14, leb n (length a)) ∷ []) e) (omega arith)
 
   -- 14
-  pub refuse-short : listFits most ws n ≡ true → length a < n → record { solution = Refused 14; answer = a } ≡ searchOf most ws n b a
+  pub refuse-short : listFits most ws n ≡ true → length a < n → record { solution = Refused 14; answer = a } ≡ searchAt most ws n b a
   unfolding searchNumber
   refuse-short e h = by-number 14 (passes 11 ((14, leb n (length a)) ∷ []) e ∙ fails 14 [] (lt-leb _ _ h)) (omega arith)
 
   -- the outcome
-  answer-outcome : listFits most ws n ≡ true → n ≤ length a → (o : Outcome) → o ≡ searchFrom (clausesIn ws) n b → searched a o ≡ searchOf most ws n b a
+  answer-outcome : listFits most ws n ≡ true → n ≤ length a → (o : Outcome) → o ≡ searchFrom (clausesIn ws) n b → searched a o ≡ searchAt most ws n b a
   unfolding searchNumber firstFailed
   answer-outcome e h = by-outcome (passes 11 ((14, leb n (length a)) ∷ []) e ∙ passes 14 [] (le-leb _ _ h))
 
 module _ (most : ℕ) (ws : List ℕ) (n b : ℕ) (a : List ℕ) (e : listFits most ws n ≡ true) (h : n ≤ length a) {k : ℕ} where
-  pub answer-found : {v out : List ℕ} → solved v k ≡ searchFrom (clausesIn ws) n b → out ≡ over v a → record { solution = Solved k; answer = out } ≡ searchOf most ws n b a
+  pub answer-found : {v out : List ℕ} → solved v k ≡ searchFrom (clausesIn ws) n b → out ≡ over v a → record { solution = Solved k; answer = out } ≡ searchAt most ws n b a
   unfolding searched
   answer-found {v} {out} q p = (λ j. record { solution = Solved k; answer = p j }) ∙ answer-outcome most ws n b a e h (solved v k) q
 
   -- 12
-  pub answer-absent : none-exists k ≡ searchFrom (clausesIn ws) n b → record { solution = Refused 12; answer = a } ≡ searchOf most ws n b a
+  pub answer-absent : none-exists k ≡ searchFrom (clausesIn ws) n b → record { solution = Refused 12; answer = a } ≡ searchAt most ws n b a
   unfolding searched
   answer-absent q = answer-outcome most ws n b a e h (none-exists k) q
 
   -- 13
-  pub answer-spent : spent k ≡ searchFrom (clausesIn ws) n b → record { solution = Refused 13; answer = a } ≡ searchOf most ws n b a
+  pub answer-spent : spent k ≡ searchFrom (clausesIn ws) n b → record { solution = Refused 13; answer = a } ≡ searchAt most ws n b a
   unfolding searched
   answer-spent q = answer-outcome most ws n b a e h (spent k) q
 
@@ -72,10 +77,10 @@ take-replicate zero m h = refl
 take-replicate (suc n) zero h = absurd (omega arith)
 take-replicate (suc n) (suc m) h = ap (λ (l : List ℕ). 2 ∷ l) (take-replicate n m (omega arith))
 
-module _ (n : ℕ) (h : n ≤ 276) {s : List ℕ} (z : s ≡ noneSet) where
+module _ (n : ℕ) (h : n ≤ 780) {s : List ℕ} (z : s ≡ noneSet) where
   prefix-is : take n s ≡ replicate n 2
   unfolding noneSet
-  prefix-is = ap (take n) z ∙ take-replicate n 276 h
+  prefix-is = ap (take n) z ∙ take-replicate n 780 h
 
   pub prefix-length : length (take n s) ≡ n
   prefix-length = ap length prefix-is ∙ length-replicate {A = ℕ} n 2
@@ -164,15 +169,15 @@ module _ (most : ℕ) (ws : List ℕ) (n b : ℕ) (a : List ℕ) where
   answerBy true = searched a (searchFrom (clausesIn ws) n b)
   answerBy false = record { solution = Refused (searchNumber most ws n a); answer = a }
 
-  answer-by : searchOf most ws n b a ≡ answerBy (eqb (searchNumber most ws n a) 0)
-  unfolding searchOf
+  answer-by : searchAt most ws n b a ≡ answerBy (eqb (searchNumber most ws n a) 0)
+  unfolding searchAt
   answer-by = go (eqb (searchNumber most ws n a) 0)
     where
       go : (t : Bool) → elim t as (λ _. Searched) [ true ↦ searched a (searchFrom (clausesIn ws) n b) | false ↦ record { solution = Refused (searchNumber most ws n a); answer = a } ] ≡ answerBy t
       go true = refl
       go false = refl
 
-  solved-is : (s : Searched) → s ≡ searchOf most ws n b a → (k : ℕ) → s .solution ≡ Solved k → IsSolved s k
+  solved-is : (s : Searched) → s ≡ searchAt most ws n b a → (k : ℕ) → s .solution ≡ Solved k → IsSolved s k
   unfolding searched
   solved-is s e k p = go (eqb (searchNumber most ws n a) 0) refl (e ∙ answer-by)
     where
@@ -196,7 +201,7 @@ module _ (most : ℕ) (ws : List ℕ) (n b : ℕ) (a : List ℕ) where
       go true false = omega arith
       go false u = omega arith
 
-  none-is : (s : Searched) → s ≡ searchOf most ws n b a → s .solution ≡ Refused 12 → IsNone
+  none-is : (s : Searched) → s ≡ searchAt most ws n b a → s .solution ≡ Refused 12 → IsNone
   unfolding searched
   none-is s e p = go (eqb (searchNumber most ws n a) 0) refl (e ∙ answer-by)
     where
@@ -211,7 +216,7 @@ module _ (most : ℕ) (ws : List ℕ) (n b : ℕ) (a : List ℕ) where
       go false t r = absurd (refused-other not-twelve (sym (ap (λ (z : Searched). z .solution) r) ∙ p))
 
   -- what the answer bytes begin with
-  module _ {r : Solution} {out : List ℕ} (e : record { solution = r; answer = out } ≡ searchOf most ws n b a) where
+  module _ {r : Solution} {out : List ℕ} (e : record { solution = r; answer = out } ≡ searchAt most ws n b a) where
     first-values : {k : ℕ} (i : IsSolved (record { solution = r; answer = out }) k) → take n out ≡ i .values
     unfolding over
     first-values i = ap (take n) (i .answer) ∙ take-at (i .values) (drop (length (i .values)) a) n (theorems.satisfies (clausesIn ws) n b (i .formed) (i .values) _ (i .outcome) .assigns .long)
@@ -229,9 +234,25 @@ module _ (most : ℕ) (ws : List ℕ) (n b : ℕ) (a : List ℕ) where
     few h k p = let i = solved-is (record { solution = r; answer = out }) e k p in rw (i .outcome) at (theorems.horn (clausesIn ws) n b (i .formed) h)
 
     -- the contract
-    pub promised : (record { solution = r; answer = out } ≡ searchOf most ws n b a)
-        × (((k : ℕ) → r ≡ Solved k → Model (clausesIn ws) n (take n out))
-        × (((k : ℕ) → r ≡ Solved k → Maximal (clausesIn ws) n (take n out))
-        × ((r ≡ Refused 12 → (m : List ℕ) → Model (clausesIn ws) n m → ⊥)
-        × (Horn (clausesIn ws) → (k : ℕ) → r ≡ Solved k → k ≤ n))))
-    promised = (e, (satisfies, (maximal, (complete, few))))
+    pub promised : (record { solution = r; answer = out } ≡ searchAt most ws n b a) × SearchSound ws n r out
+    promised = (e, record { satisfies = satisfies; maximal = maximal; complete = complete; few = few })
+
+-- ---- 39, and the variables of the limits
+
+-- the product fits
+pub few-product : (n : ℕ) → n ≤ 40 → n * (n - 1) ≤ 1600
+few-product n h = mul-le-mul {n₂ = 40} {m₂ = 40} h (omega arith)
+
+pub room : {n m : ℕ} → n ≤ m → m ≤ 780 → n ≤ 780
+room h k = omega arith
+
+pub unfit : (L : Limits) (ws : List ℕ) (n b : ℕ) (a : List ℕ) → limitsFit L ≡ false → (record { solution = Refused 39; answer = a } ≡ searchOf L ws n b a) × SearchSound ws n (Refused 39) a
+unfolding searchOf
+unfit L ws n b a e = (
+  sym (rw (e, searchOf)),
+  record { satisfies = λ k p. absurd (not-solved p); maximal = λ k p. absurd (not-solved p); complete = λ p. absurd (refused-other (omega arith) p); few = λ h k p. absurd (not-solved p) },
+)
+
+pub within : (L : Limits) (ws : List ℕ) (n b : ℕ) (a : List ℕ) {s : Searched} {m : ℕ} → limitsFit L ≡ true → m ≡ pairs (L .states) → s ≡ searchAt m ws n b a → s ≡ searchOf L ws n b a
+unfolding searchOf
+within L ws n b a e p q = q ∙ ap (λ (m : ℕ). searchAt m ws n b a) p ∙ sym (rw (e, searchOf))

@@ -25,7 +25,7 @@ variablesOf = map (λ l. l / 2)
 
 pub record Marked (ls marks : List ℕ) (mark i : ℕ) : Type 0 where
   pub below : Below marks (mark + 1)
-  pub met : (x : ℕ) → x < 276 → eqb (getD marks x 0) mark ≡ mem x (variablesOf (take i ls))
+  pub met : (x : ℕ) → x < 780 → eqb (getD marks x 0) mark ≡ mem x (variablesOf (take i ls))
 
 pub marked : (ls : List ℕ) {marks : List ℕ} {mark : ℕ} → Below marks mark → Marked ls marks mark 0
 unfolding mem any
@@ -34,13 +34,13 @@ marked ls {marks} {mark} b = record {
   met = λ x h. ne-eqb (getD marks x 0) mark (λ e. omega (arith, b .lower x h, e));
 }
 
-pub none-marked : Below (replicate 276 0) 1
-none-marked = record { long = refl; lower = λ x h. omega (arith, getD-replicate {A = ℕ} 276 x 0 0 h) }
+pub none-marked : Below (replicate 780 0) 1
+none-marked = record { long = refl; lower = λ x h. omega (arith, getD-replicate {A = ℕ} 780 x 0 0 h) }
 
 pub lower-still : {marks : List ℕ} {a b : ℕ} → Below marks a → a ≤ b → Below marks b
 lower-still p h = record { long = p .long; lower = λ x k. omega (arith, p .lower x k) }
 
-pub mark-on : {ls marks : List ℕ} {mark i x : ℕ} → Marked ls marks mark i → i < length ls → x ≡ getD ls i 0 / 2 → x < 276 → Marked ls (set marks x mark) mark (i + 1)
+pub mark-on : {ls marks : List ℕ} {mark i x : ℕ} → Marked ls marks mark i → i < length ls → x ≡ getD ls i 0 / 2 → x < 780 → Marked ls (set marks x mark) mark (i + 1)
 mark-on {ls} {marks} {mark} {i} {x} p h e k = record {
   below = record { long = length-set marks x mark ∙ p .below .long; lower = λ y l. omega (arith, lows y l (ℕ-discrete y x)) };
   met = λ y l. mets y l (ℕ-discrete y x) ∙ sym (ap (mem y) grown ∙ mem-snoc y x (variablesOf (take i ls)));
@@ -55,11 +55,11 @@ mark-on {ls} {marks} {mark} {i} {x} p h e k = record {
     here : getD (set marks x mark) x 0 ≡ mark
     here = getD-set-same marks x mark 0 (omega (arith, p .below .long))
 
-    lows : (y : ℕ) → y < 276 → Dec (y ≡ x) → getD (set marks x mark) y 0 ≤ mark
+    lows : (y : ℕ) → y < 780 → Dec (y ≡ x) → getD (set marks x mark) y 0 ≤ mark
     lows y l (yes q) = omega (arith, ap (λ z. getD (set marks x mark) z 0) q, here)
     lows y l (no q) = omega (arith, getD-set-other marks x y mark 0 q, p .below .lower y l)
 
-    mets : (y : ℕ) → y < 276 → Dec (y ≡ x) → eqb (getD (set marks x mark) y 0) mark ≡ (mem y (variablesOf (take i ls)) || eqb y x)
+    mets : (y : ℕ) → y < 780 → Dec (y ≡ x) → eqb (getD (set marks x mark) y 0) mark ≡ (mem y (variablesOf (take i ls)) || eqb y x)
     mets y l (yes q) = eq-eqb _ _ (ap (λ z. getD (set marks x mark) z 0) q ∙ here) ∙ sym (or-right (mem y (variablesOf (take i ls))) (eq-eqb y x q))
     mets y l (no q) = ap (λ z. eqb z mark) (getD-set-other marks x y mark 0 q) ∙ p .met y l ∙ sym (rw (ne-eqb y x q) (or-none (mem y (variablesOf (take i ls)))))
 
@@ -125,7 +125,7 @@ module _ {ls : List ℕ} {n i : ℕ} (p : Fitting ls n i) where
   fit-all h = sym (fits-of n ls (rw (take-all i ls h) at (p .below)) (rw (take-all i ls h) at (p .once)))
 
 -- the same by the marks
-module _ {ls marks : List ℕ} {n mark i x : ℕ} (p : Fitting ls n i) (m : Marked ls marks mark i) (most : n ≤ 276) (h : i < length ls) (e : x ≡ getD ls i 0 / 2) where
+module _ {ls marks : List ℕ} {n mark i x : ℕ} (p : Fitting ls n i) (m : Marked ls marks mark i) (most : n ≤ 780) (h : i < length ls) (e : x ≡ getD ls i 0 / 2) where
   pub mark-past : n ≤ x → false ≡ clauseFits n ls
   mark-past k = fit-past p h (omega arith)
 

@@ -124,9 +124,9 @@ undo-leads z h l = turn breaks z h l
 pub record Turning (cs : List (List ℕ)) (n b : ℕ) (v t ms : List ℕ) (count depth made low : ℕ) : Type 0 where
   pub ready : Ready cs v t count
   pub size : length v ≡ n
-  pub most : n ≤ 276
-  pub long : length t ≡ 276
-  pub marks : length ms ≡ 276
+  pub most : n ≤ 780
+  pub long : length t ≡ 780
+  pub marks : length ms ≡ 780
   pub below : (x : ℕ) → List·Memᴰ x (take count t) → x < n
   pub guesses : List Guess
   pub stands : Stands n ms v (take count t) depth guesses
@@ -135,7 +135,7 @@ pub record Turning (cs : List (List ℕ)) (n b : ℕ) (v t ms : List ℕ) (count
   pub few : made ≤ b
   pub leads : (o : Outcome) → LeadsTo cs n b (goes (stateOf v guesses made)) o → LeadsTo cs n b (atStart n) o
 
-pub turning : {ws v : List ℕ} (b : ℕ) (t ms : List ℕ) → Fresh ws v → length t ≡ 276 → length ms ≡ 276 → Turning (clausesIn ws) (length v) b v t ms 0 0 0 0
+pub turning : {ws v : List ℕ} (b : ℕ) (t ms : List ℕ) → Fresh ws v → length t ≡ 780 → length ms ≡ 780 → Turning (clausesIn ws) (length v) b v t ms 0 0 0 0
 turning {ws} {v} b t ms f p q = record {
   ready = record {
     formed = f .formed;
@@ -160,7 +160,7 @@ module _ {cs : List (List ℕ)} {v t ms w s : List ℕ} {n b count depth made lo
   pub after-size : length w ≡ n
   after-size = grown-length (c .grown) ∙ i .size
 
-  pub after-long : length s ≡ 276
+  pub after-long : length s ≡ 780
   after-long = c .grown .long ∙ i .long
 
   -- more variables are set, and the trail has room for all

@@ -6,12 +6,15 @@ use Prim.Native.Nat.{ℕ}
 use lib.ListN.{length}
 use lib.Dec.{eqb, leb}
 use Rattle.lists.specs.Lists.{all, over, firstFailed}
+use Rattle.limits.specs.declared.Limits.{Limits}
+use Rattle.limits.specs.Limits.{limitsFit}
+use Rattle.limits.specs.Pairs.{pairs}
 use Rattle.cnf.specs.Clauses.{clausesIn, whole, clauseFits}
 use Rattle.cnf.specs.Search.{Outcome, solved, none-exists, spent, unfinished, searchFrom}
 use Rattle.search.specs.declared.Solution.{Solution}
 use Rattle.search.specs.declared.Solution.the-variants.{Solved, Refused}
 
--- 11: "over 276 variables, a clause past the end, a variable past the count or twice in a clause"; most is the 276
+-- 11: "over 276 variables, a clause past the end, a variable past the count or twice in a clause"; most is the 276, or what the limits in force have
 unfoldable pub listFits : ℕ → List ℕ → ℕ → Bool
 listFits most list variables = leb variables most && whole list && all (clauseFits variables) (clausesIn list)
 
@@ -31,11 +34,18 @@ searched answer (none-exists k) = record { solution = Refused 12; answer = answe
 searched answer (spent k) = record { solution = Refused 13; answer = answer }
 searched answer unfinished = record { solution = Refused 13; answer = answer }
 
--- the operation
-unfoldable pub searchOf : ℕ → List ℕ → ℕ → ℕ → List ℕ → Searched
-searchOf most list variables budget answer = elim (eqb (searchNumber most list variables answer) 0) [
+-- what a search over at most so many variables answers
+unfoldable pub searchAt : ℕ → List ℕ → ℕ → ℕ → List ℕ → Searched
+searchAt most list variables budget answer = elim (eqb (searchNumber most list variables answer) 0) [
   | true ↦ searched answer (searchFrom (clausesIn list) variables budget)
   | false ↦ record { solution = Refused (searchNumber most list variables answer); answer = answer }
+]
+
+-- the operation: 39, "a limit of zero or past its maximum comes first"; a variable for each pair of the states that the limits permit
+unfoldable pub searchOf : Limits → List ℕ → ℕ → ℕ → List ℕ → Searched
+searchOf L list variables budget answer = elim (limitsFit L) [
+  | true ↦ searchAt (pairs (L .states)) list variables budget answer
+  | false ↦ record { solution = Refused 39; answer = answer }
 ]
 
 -- an answer's number, 0 where it is none, and its values

@@ -31,16 +31,16 @@ pub record Undone (v t : List ℕ) (mark count : ℕ) (w : List ℕ) (x : ℕ) :
   pub variable : x ≡ getD t mark 0
   pub values : w ≡ set (unsetting v (slice mark count t)) x 0
 
--- the values of 276 variables, none of which is set
+-- the values of 780 variables, none of which is set
 unfoldable pub noneSet : List ℕ
-noneSet = replicate 276 2
+noneSet = replicate 780 2
 
--- whole clauses over at most 276 variables, none of which is set
+-- whole clauses over at most 780 variables, none of which is set
 pub record Fresh (ws v : List ℕ) : Type 0 where
   pub all-there : whole ws ≡ true
   pub formed : Formed (clausesIn ws) (length v)
   pub none-set : v ≡ replicate (length v) 2
-  pub most : length v ≤ 276
+  pub most : length v ≤ 780
 
 -- how the search ends, with the values that it leaves
 abbrev pub outcomeOf : Ending → List ℕ → Outcome

@@ -14,15 +14,15 @@ pub fn wide(x: u16) -> usize
 }
 
 // A mark for each variable, none in use.
-fn no_marks() -> [usize; 276]
+fn no_marks() -> [usize; 780]
     ensures { λ r. ⌜ Below r 1 ⌝ }
 {
-    [0usize; 276]
+    [0usize; 780]
 }
 
 // Whether each variable is below the count and stands once: those met in this clause have its mark, all others a lower one.
-fn clause_fits(literals: &[u16], variables: usize, marks: &mut [usize; 276], mark: usize) -> bool
-    requires { ⌜ (variables ≤ 276) × Below (now marks) mark ⌝ }
+fn clause_fits(literals: &[u16], variables: usize, marks: &mut [usize; 780], mark: usize) -> bool
+    requires { ⌜ (variables ≤ 780) × Below (now marks) mark ⌝ }
     ensures { λ r. ⌜ (r ≡ clauseFits variables (now (literals .entry))) × Below (now (marks .exit)) (mark + 1) ⌝ }
 {
     let mut i: usize = 0;
@@ -42,7 +42,7 @@ fn clause_fits(literals: &[u16], variables: usize, marks: &mut [usize; 276], mar
 
 // Whether every clause is all there and fits. A clause's mark is the place of its first literal.
 pub(crate) fn list_fits(list: &[u16], variables: usize) -> bool
-    requires { ⌜ variables ≤ 276 ⌝ }
+    requires { ⌜ variables ≤ 780 ⌝ }
     ensures { λ r. ⌜ r ≡ (whole (now (list .entry)) && all (clauseFits variables) (clausesIn (now (list .entry)))) ⌝ }
 {
     let mut marks = no_marks();

@@ -1,12 +1,15 @@
 // The search over clause words.
 ghost use mathlib.Core.Path.{_≡_};
-ghost use mathlib.Core.List.{List};
-ghost use Prim.Native.Nat.{ℕ, _≤_};
-ghost use lib.ListN.{take};
-ghost use Rattle.cnf.specs.Clauses.{clausesIn, Model, Maximal, Horn};
-ghost use Rattle.search.specs.Answers.{Searched, searchOf};
+ghost use mathlib.Core.Bool.{true};
+ghost use Prim.Native.Nat.{_≤_};
+ghost use Rattle.limits.specs.Limits.{standard, limitsFit};
+ghost use Rattle.limits.specs.Pairs.{pairs};
+ghost use Rattle.search.specs.Answers.{Searched, searchAt, searchOf};
+ghost use Rattle.search.specs.Demands.{SearchSound};
 ghost use Rattle.search.specs.Turns.{noneSet};
 use fits::list_fits;
+use limits::Limits;
+use limits::limits_fit;
 use solve::Ending;
 use solve::solve;
 
@@ -18,26 +21,30 @@ mod solve;
 pub enum Solution {
     // solved: the guesses made
     Solved(u64),
-    // 11 to 14
+    // 39, 11 to 14
     Refused(u8),
 }
 
-// Room for the values of 276 variables, none of which is set.
-fn none_set() -> [u8; 276]
+// Room for the values of 780 variables, none of which is set.
+fn none_set() -> [u8; 780]
     ensures { λ r. ⌜ r ≡ noneSet ⌝ }
 {
-    [2u8; 276]
+    [2u8; 780]
 }
 
-// Searches for an assignment of the variables that satisfies the list's clauses, with at most `budget` guesses.
-pub fn search(list: &[u16], variables: usize, budget: u64, answer: &mut [u8]) -> Solution
-    ensures answers { λ r. ⌜ _≡_ {A = Searched} (record { solution = r; answer = now (answer .exit) }) (searchOf 276 (now (list .entry)) variables budget (now (answer .entry))) ⌝ }
-    ensures satisfies { λ r. ⌜ ((k : ℕ) → r ≡ Solution.Solved k → Model (clausesIn (now (list .entry))) variables (take variables (now (answer .exit)))) ⌝ }
-    ensures maximal { λ r. ⌜ ((k : ℕ) → r ≡ Solution.Solved k → Maximal (clausesIn (now (list .entry))) variables (take variables (now (answer .exit)))) ⌝ }
-    ensures complete { λ r. ⌜ (r ≡ Solution.Refused 12 → (a : List ℕ) → Model (clausesIn (now (list .entry))) variables a → ⊥) ⌝ }
-    ensures few { λ r. ⌜ (Horn (clausesIn (now (list .entry))) → (k : ℕ) → r ≡ Solution.Solved k → k ≤ variables) ⌝ }
+// Searches over at most so many variables.
+fn search_at(
+    most: usize,
+    list: &[u16],
+    variables: usize,
+    budget: u64,
+    answer: &mut [u8],
+) -> Solution
+    requires { ⌜ most ≤ 780 ⌝ }
+    ensures answers { λ r. ⌜ _≡_ {A = Searched} (record { solution = r; answer = now (answer .exit) }) (searchAt most (now (list .entry)) variables budget (now (answer .entry))) ⌝ }
+    ensures sound { λ r. ⌜ SearchSound (now (list .entry)) variables r (now (answer .exit)) ⌝ }
 {
-    if 276 < variables {
+    if most < variables {
         return Solution::Refused(11);
     }
     if !list_fits(list, variables) {
@@ -56,4 +63,38 @@ pub fn search(list: &[u16], variables: usize, budget: u64, answer: &mut [u8]) ->
         Ending::Absent(_) => Solution::Refused(12),
         Ending::Spent(_) => Solution::Refused(13),
     }
+}
+
+// How many variables a table has at most at the limits.
+fn most_variables(limits: Limits) -> usize
+    requires { ⌜ limitsFit limits ≡ true ⌝ }
+    ensures { λ r. ⌜ r ≡ pairs (limits .states) ⌝ }
+{
+    limits.states * (limits.states - 1) / 2
+}
+
+// Searches for an assignment of the variables that satisfies the list's clauses, with at most `budget` guesses. There are no more variables than
+// a table has at the limits.
+pub fn search_within(
+    limits: Limits,
+    list: &[u16],
+    variables: usize,
+    budget: u64,
+    answer: &mut [u8],
+) -> Solution
+    ensures answers { λ r. ⌜ _≡_ {A = Searched} (record { solution = r; answer = now (answer .exit) }) (searchOf limits (now (list .entry)) variables budget (now (answer .entry))) ⌝ }
+    ensures sound { λ r. ⌜ SearchSound (now (list .entry)) variables r (now (answer .exit)) ⌝ }
+{
+    if !limits_fit(limits) {
+        return Solution::Refused(39);
+    }
+    search_at(most_variables(limits), list, variables, budget, answer)
+}
+
+// The search at the limits of a caller that gives none.
+pub fn search(list: &[u16], variables: usize, budget: u64, answer: &mut [u8]) -> Solution
+    ensures answers { λ r. ⌜ _≡_ {A = Searched} (record { solution = r; answer = now (answer .exit) }) (searchOf standard (now (list .entry)) variables budget (now (answer .entry))) ⌝ }
+    ensures sound { λ r. ⌜ SearchSound (now (list .entry)) variables r (now (answer .exit)) ⌝ }
+{
+    search_within(limits::standard(), list, variables, budget, answer)
 }

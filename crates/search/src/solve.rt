@@ -16,11 +16,11 @@ pub enum Ending {
     Spent(u64),
 }
 
-// Room for 276 places.
-fn places() -> [u16; 276]
-    ensures { λ r. ⌜ length r ≡ 276 ⌝ }
+// Room for 780 places.
+fn places() -> [u16; 780]
+    ensures { λ r. ⌜ length r ≡ 780 ⌝ }
 {
-    [0u16; 276]
+    [0u16; 780]
 }
 
 // The first unset variable from `low` on, or the number of variables.

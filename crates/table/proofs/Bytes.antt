@@ -14,7 +14,9 @@ use borrow.Author.Tests.{ltb-true}
 use Rattle.lists.specs.Lists.{all, flat, gather, firstFailed}
 use Rattle.lists.proofs.Members.{and-true, all-true}
 use Rattle.lists.proofs.Parts.{length-parts, parts-wide, flat-parts, length-flat, parts-flat}
-use Rattle.table.specs.Limits.{Limits, longest}
+use Rattle.limits.proofs.Within.{Within, limits-within}
+use Rattle.limits.specs.declared.Limits.{Limits}
+use Rattle.table.specs.Limits.{longest}
 use Rattle.table.specs.File.{Table, word16, trailer, distance, version, start, records, tableOf, bytes16, fromReturns, fromCalls, fromInternals, fromStates, fromSymbols, trailerOf, bytesOf}
 use Rattle.table.specs.Reading.{recordFits, tableTests, Readable, WellFormed}
 use Rattle.table.proofs.Passed.{Passed, read-passed, passed-read, Wide, Tested, tests-passed, formed-wide, formed-tested, formed-of}
@@ -22,11 +24,6 @@ use Rattle.table.proofs.Passed.{Passed, read-passed, passed-read, Wide,
 -- every element is a byte
 abbrev pub Bytes : List ℕ → Type 0
 Bytes b = (i : ℕ) → getD b i 0 < 256
-
--- limits at which every distance is a 16-bit number, and every state and symbol a byte
-pub record Small (L : Limits) : Type 0 where
-  pub states : L .states ≤ 40
-  pub symbols : L .symbols ≤ 64
 
 -- ---- 16-bit words
 
@@ -101,6 +98,7 @@ pub read-well-formed : (L : Limits) (b : List ℕ) → Readable L b → WellForm
 unfolding tableOf
 read-well-formed L b e =
     formed-of
+    (read-passed L b e .limits)
     (record {
       internals = records-wide 3 (slice (start b 2) (start b 3) b);
       calls = records-wide 3 (slice (start b 3) (start b 4) b);
@@ -221,7 +219,11 @@ lengths t w = record {
 pub bytes-length : (t : Table) → Wide t → length (bytesOf t) ≡ length (t .symbols) + length (t .states) + 3 * length (t .internals) + 3 * length (t .calls) + 4 * length (t .returns) + 12
 bytes-length t w = let n = lengths t w in omega arith
 
-module _ (L : Limits) (t : Table) (s : Small L) (f : WellFormed L t) where
+module _ (L : Limits) (t : Table) (f : WellFormed L t) where
+  -- every distance is a 16-bit number
+  s : Within L
+  s = limits-within (f .limits)
+
   n : Lengths t
   n = lengths t (formed-wide f)
 
@@ -229,7 +231,7 @@ module _ (L : Limits) (t : Table) (s : Small L) (f : WellFormed L t) where
   few = formed-tested f
 
   small : length (fromSymbols t) < 65536
-  small = omega (arith, n, few)
+  small = omega (arith, n, few, s)
 
   trailer-at : trailer (bytesOf t) ≡ length (fromSymbols t)
   unfolding trailer
@@ -308,6 +310,7 @@ module _ (L : Limits) (t : Table) (s : Small L) (f : WellFormed L t) where
   pub passed-bytes : Passed L (bytesOf t)
   unfolding longest
   passed-bytes = record {
+    limits = f .limits;
     long = omega (arith, n);
     short = omega (arith, n, few);
     dated = dated;
@@ -367,10 +370,14 @@ bytes-record t kind h k (p ∷ a ∷ qs) e i =
     go l m f (suc zero) = omega arith
     go l m f (suc (suc i)) = bytes-of qs (λ q n. let l = ltb-true q (length (t .states)) (all-true (λ q. ltb q (length (t .states))) qs f q n) in omega arith) i
 
-pub bytes-bytes : (L : Limits) (t : Table) → Small L → WellFormed L t → Bytes (bytesOf t)
+pub bytes-bytes : (L : Limits) (t : Table) → WellFormed L t → Bytes (bytesOf t)
 unfolding bytesOf fromSymbols fromStates fromInternals fromCalls fromReturns trailerOf
-bytes-bytes L t s f = bytes-append (fromSymbols t) (trailerOf t) (bytes-append (t .symbols) (fromStates t) symbols from-states) (bytes-words (words t))
+bytes-bytes L t f = bytes-append (fromSymbols t) (trailerOf t) (bytes-append (t .symbols) (fromStates t) symbols from-states) (bytes-words (words t))
   where
+    -- every state and symbol is a byte
+    s : Within L
+    s = limits-within (f .limits)
+
     c : Tested L t
     c = formed-tested f
 
@@ -381,7 +388,7 @@ bytes-bytes L t s f = bytes-append (fromSymbols t) (trailerOf t) (bytes-append (
     states = bytes-of (t .states) (λ x m. let l = c .state-bytes x m in omega arith)
 
     section : (kind : ℕ) (rs : List (List ℕ)) → ((r : List ℕ) → List·Memᴰ r rs → recordFits t kind r ≡ true) → Bytes (flat rs)
-    section kind rs h = bytes-flat rs (λ r m. bytes-record t kind (omega (arith, c)) (omega (arith, c)) r (h r m))
+    section kind rs h = bytes-flat rs (λ r m. bytes-record t kind (omega (arith, c, s)) (omega (arith, c, s)) r (h r m))
 
     from-calls : Bytes (fromCalls t)
     from-calls = bytes-append (flat (t .calls)) (fromReturns t) (section 1 (t .calls) (c .calls-fit)) (section 2 (t .returns) (c .returns-fit))

@@ -5,7 +5,10 @@ use mathlib.Core.List.{List, [], _∷_, _++_, map}
 use Prim.Native.Nat.{ℕ}
 use lib.ListN.{replicate}
 use Rattle.lists.specs.Lists.{any, all, parts, gather, firstFailed}
-use Rattle.table.specs.Limits.{standard, longest}
+use Rattle.limits.specs.declared.Limits.{Limits}
+use Rattle.limits.specs.Limits.{limitsFit}
+use Rattle.limits.specs.Limits.{standard}
+use Rattle.table.specs.Limits.{longest}
 use Rattle.table.specs.File.{word16, trailer, distance, version, start, records, tableOf, bytes16}
 use Rattle.table.specs.Reading.{lengthFits, distancesFit, countsFit, bytesFit, isInitial, startFits, recordFits, recordsFit, before, ascendFrom, ascend, orderFits, tableTests, readNumber, startsOf, readOf, readingValues}
 
@@ -64,10 +67,29 @@ files =
     ∷ []
 
 numbers : map (readNumber standard) files ≡ 0 ∷ 0 ∷ 1 ∷ 1 ∷ 2 ∷ 2 ∷ 3 ∷ 3 ∷ 3 ∷ 3 ∷ 3 ∷ 4 ∷ 4 ∷ 4 ∷ 5 ∷ 6 ∷ 7 ∷ 7 ∷ 8 ∷ 8 ∷ 8 ∷ []
-unfolding any all parts gather firstFailed longest word16 trailer distance version start records tableOf bytes16 lengthFits distancesFit countsFit bytesFit isInitial startFits recordFits recordsFit before ascendFrom ascend orderFits tableTests readNumber
+unfolding any all parts gather firstFailed limitsFit longest word16 trailer distance version start records tableOf bytes16 lengthFits distancesFit countsFit bytesFit isInitial startFits recordFits recordsFit before ascendFrom ascend orderFits tableTests readNumber
 numbers = refl
+
+abbrev within : ℕ → ℕ → Limits
+within states symbols = record { states = states; symbols = symbols }
+
+-- "39 for a limit of zero or past its maximum comes first"; "1, 4 .. read the limits in force": the longest file of all, and 25 states
+limited :
+    readNumber (within 0 32) (replicate 11 0)
+    ∷ readNumber (within 41 32) (replicate 11 0)
+    ∷ readNumber (within 24 0) (replicate 11 0)
+    ∷ readNumber (within 24 65) (replicate 11 0)
+    ∷ readNumber (within 40 64) (replicate 22645 0)
+    ∷ readNumber (within 40 64) (replicate 22644 0)
+    ∷ readNumber (within 40 64) (file (replicate 25 0) 25 25 0 0 0 1)
+    ∷ readNumber (within 3 64) T
+    ∷ readNumber (within 4 3) T
+    ∷ []
+    ≡ 39 ∷ 39 ∷ 39 ∷ 39 ∷ 1 ∷ 2 ∷ 6 ∷ 4 ∷ 0 ∷ []
+unfolding any all parts gather firstFailed limitsFit longest word16 trailer distance version start records tableOf bytes16 lengthFits distancesFit countsFit bytesFit isInitial startFits recordFits recordsFit before ascendFrom ascend orderFits tableTests readNumber
+limited = refl
 
 -- "Reading answers the five section starts."
 starts-of-T : readingValues (readOf standard T) ≡ 0 ∷ 3 ∷ 7 ∷ 16 ∷ 19 ∷ []
-unfolding any all parts gather firstFailed longest word16 trailer distance version start records tableOf bytes16 lengthFits distancesFit countsFit bytesFit isInitial startFits recordFits recordsFit before ascendFrom ascend orderFits tableTests readNumber startsOf readOf readingValues
+unfolding any all parts gather firstFailed limitsFit longest word16 trailer distance version start records tableOf bytes16 lengthFits distancesFit countsFit bytesFit isInitial startFits recordFits recordsFit before ascendFrom ascend orderFits tableTests readNumber startsOf readOf readingValues
 starts-of-T = refl

@@ -12,7 +12,9 @@ use lib.Dec.{eqb, ltb}
 use borrow.Author.Tests.{eqb-true, ltb-true}
 use Rattle.lists.specs.Lists.{keep, same}
 use Rattle.lists.proofs.Members.{and-true, getD-mem, all-true, keep-mem, keep-of, same-true, same-refl}
-use Rattle.table.specs.Limits.{Limits}
+use Rattle.limits.specs.declared.Limits.{Limits}
+use Rattle.limits.specs.Limits.{stateMost}
+use Rattle.limits.proofs.Within.{limits-within}
 use Rattle.table.specs.File.{Table}
 use Rattle.table.specs.Reading.{recordFits, WellFormed}
 use Rattle.table.specs.Language.{count, byteOf, look, targets, automaton}
@@ -62,6 +64,10 @@ module _ {L : Limits} {t : Table} (wf : WellFormed L t) where
 
   pub few-states : count t ≤ L .states
   few-states = formed-tested wf .states-few
+
+  -- .. and at no limits more than 40
+  pub most-states : count t ≤ stateMost
+  most-states = omega (arith, few-states, limits-within (wf .limits))
 
   -- a state's byte is at most 3
   pub byte-small : (q : ℕ) → byteOf t q ≤ 3

@@ -6,7 +6,7 @@ use Prim.Native.Nat.{ℕ}
 use native.Mathlib.Omega.{arith}
 use lib.Dec.{eqb}
 use borrow.Author.Tests.{eqb-true, eqb-false}
-use Rattle.table.specs.Limits.{Limits}
+use Rattle.limits.specs.declared.Limits.{Limits}
 use Rattle.table.specs.Reading.{readNumber, startsOf, readOf}
 use Rattle.table.specs.Sections.{ReadAs}
 use Rattle.table.specs.declared.Starts.{Starts}

@@ -12,7 +12,10 @@ use borrow.Author.Tests.{lt-leb, le-leb, eq-eqb, ne-eqb, eqb-false}
 use Rattle.lists.specs.Lists.{any, all, firstFailed}
 use Rattle.lists.proofs.Members.{and-of}
 use Rattle.lists.proofs.Refusals.{passes, fails, no-test}
-use Rattle.table.specs.Limits.{standard, longest}
+use Rattle.limits.specs.Limits.{limitsFit}
+use Rattle.limits.proofs.Within.{limits-within}
+use Rattle.limits.specs.declared.Limits.{Limits}
+use Rattle.table.specs.Limits.{longest}
 use Rattle.table.specs.File.{Table, word16, trailer, distance, version, start, records, tableOf}
 use Rattle.table.specs.Reading.{lengthFits, distancesFit, countsFit, bytesFit, isInitial, startFits, recordFits, recordsFit, ascend, orderFits, tableTests, readNumber, startsOf, readOf}
 use Rattle.table.specs.Sections.{sectioned}
@@ -25,32 +28,32 @@ use Rattle.table.proofs.Fits.{fits-by}
 
 -- ---- 4: counts
 
-module _ (a b c d e : List ℕ) where
-  counts : countsFit standard (sectioned a b c d e)
-      ≡ leb (length a) 32 && leb 1 (length b) && leb (length b) 24 && leb (length c / 3) 1024 && leb (length d / 3) 1024 && leb (length e / 4) 4096
+module _ (L : Limits) (a b c d e : List ℕ) where
+  counts : countsFit L (sectioned a b c d e)
+      ≡ leb (length a) (L .symbols) && leb 1 (length b) && leb (length b) (L .states) && leb (length c / 3) 1024 && leb (length d / 3) 1024 && leb (length e / 4) 4096
   unfolding countsFit sectioned
-  counts = λ i. leb (length a) 32 && leb 1 (length b) && leb (length b) 24 && leb (length-records 3 c i) 1024 && leb (length-records 3 d i) 1024 && leb (length-records 4 e i) 4096
+  counts = λ i. leb (length a) (L .symbols) && leb 1 (length b) && leb (length b) (L .states) && leb (length-records 3 c i) 1024 && leb (length-records 3 d i) 1024 && leb (length-records 4 e i) 4096
 
-  pub symbols-many : 32 < length a → false ≡ countsFit standard (sectioned a b c d e)
+  pub symbols-many : L .symbols < length a → false ≡ countsFit L (sectioned a b c d e)
   symbols-many h = sym (counts ∙ rw (lt-leb _ _ h))
 
-  module _ (p1 : length a ≤ 32) where
-    pub states-none : length b < 1 → false ≡ countsFit standard (sectioned a b c d e)
+  module _ (p1 : length a ≤ L .symbols) where
+    pub states-none : length b < 1 → false ≡ countsFit L (sectioned a b c d e)
     states-none h = sym (counts ∙ rw (le-leb _ _ p1, lt-leb _ _ h))
 
     module _ (p2 : 1 ≤ length b) where
-      pub states-many : 24 < length b → false ≡ countsFit standard (sectioned a b c d e)
+      pub states-many : L .states < length b → false ≡ countsFit L (sectioned a b c d e)
       states-many h = sym (counts ∙ rw (le-leb _ _ p1, le-leb _ _ p2, lt-leb _ _ h))
 
-      module _ (p3 : length b ≤ 24) where
-        pub internals-many : 1024 < length c / 3 → false ≡ countsFit standard (sectioned a b c d e)
+      module _ (p3 : length b ≤ L .states) where
+        pub internals-many : 1024 < length c / 3 → false ≡ countsFit L (sectioned a b c d e)
         internals-many h = sym (counts ∙ rw (le-leb _ _ p1, le-leb _ _ p2, le-leb _ _ p3, lt-leb _ _ h))
 
         module _ (p4 : length c / 3 ≤ 1024) where
-          pub calls-many : 1024 < length d / 3 → false ≡ countsFit standard (sectioned a b c d e)
+          pub calls-many : 1024 < length d / 3 → false ≡ countsFit L (sectioned a b c d e)
           calls-many h = sym (counts ∙ rw (le-leb _ _ p1, le-leb _ _ p2, le-leb _ _ p3, le-leb _ _ p4, lt-leb _ _ h))
 
-          pub by-returns : length d / 3 ≤ 1024 → leb (length e / 4) 4096 ≡ countsFit standard (sectioned a b c d e)
+          pub by-returns : length d / 3 ≤ 1024 → leb (length e / 4) 4096 ≡ countsFit L (sectioned a b c d e)
           by-returns p5 = sym (counts ∙ rw (le-leb _ _ p1, le-leb _ _ p2, le-leb _ _ p3, le-leb _ _ p4, le-leb _ _ p5))
 
 -- ---- two or three tests in a row
@@ -97,33 +100,33 @@ ordered c d e = refl
 
 -- ---- the first of 4 to 8
 
-module _ (a b c d e : List ℕ) where
+module _ (L : Limits) (a b c d e : List ℕ) where
   -- the tests, each over the sections that it reads
-  tests : firstFailed (tableTests standard (sectioned a b c d e))
-      ≡ firstFailed ((4, countsFit standard (sectioned a b c d e)) ∷ (5, bytesFit (sectioned a b [] [] [])) ∷ (6, any isInitial b) ∷ (7, recordsFit (sectioned a b c d e)) ∷ (8, orderFits (sectioned [] [] c d e)) ∷ [])
+  tests : firstFailed (tableTests L (sectioned a b c d e))
+      ≡ firstFailed ((4, countsFit L (sectioned a b c d e)) ∷ (5, bytesFit (sectioned a b [] [] [])) ∷ (6, any isInitial b) ∷ (7, recordsFit (sectioned a b c d e)) ∷ (8, orderFits (sectioned [] [] c d e)) ∷ [])
   unfolding tableTests bytesFit startFits orderFits sectioned
   tests = refl
 
-  pub number-4 : countsFit standard (sectioned a b c d e) ≡ false → 4 ≡ firstFailed (tableTests standard (sectioned a b c d e))
+  pub number-4 : countsFit L (sectioned a b c d e) ≡ false → 4 ≡ firstFailed (tableTests L (sectioned a b c d e))
   number-4 h = sym (tests ∙ fails 4 _ h)
 
-  module _ (p4 : countsFit standard (sectioned a b c d e) ≡ true) where
-    pub number-5 : bytesFit (sectioned a b [] [] []) ≡ false → 5 ≡ firstFailed (tableTests standard (sectioned a b c d e))
+  module _ (p4 : countsFit L (sectioned a b c d e) ≡ true) where
+    pub number-5 : bytesFit (sectioned a b [] [] []) ≡ false → 5 ≡ firstFailed (tableTests L (sectioned a b c d e))
     number-5 h = sym (tests ∙ passes 4 _ p4 ∙ fails 5 _ h)
 
     module _ (p5 : bytesFit (sectioned a b [] [] []) ≡ true) where
-      pub number-6 : any isInitial b ≡ false → 6 ≡ firstFailed (tableTests standard (sectioned a b c d e))
+      pub number-6 : any isInitial b ≡ false → 6 ≡ firstFailed (tableTests L (sectioned a b c d e))
       number-6 h = sym (tests ∙ passes 4 _ p4 ∙ passes 5 _ p5 ∙ fails 6 _ h)
 
       module _ (p6 : any isInitial b ≡ true) where
-        pub number-7 : recordsFit (sectioned a b c d e) ≡ false → 7 ≡ firstFailed (tableTests standard (sectioned a b c d e))
+        pub number-7 : recordsFit (sectioned a b c d e) ≡ false → 7 ≡ firstFailed (tableTests L (sectioned a b c d e))
         number-7 h = sym (tests ∙ passes 4 _ p4 ∙ passes 5 _ p5 ∙ passes 6 _ p6 ∙ fails 7 _ h)
 
         module _ (p7 : recordsFit (sectioned a b c d e) ≡ true) where
-          pub number-8 : orderFits (sectioned [] [] c d e) ≡ false → 8 ≡ firstFailed (tableTests standard (sectioned a b c d e))
+          pub number-8 : orderFits (sectioned [] [] c d e) ≡ false → 8 ≡ firstFailed (tableTests L (sectioned a b c d e))
           number-8 h = sym (tests ∙ passes 4 _ p4 ∙ passes 5 _ p5 ∙ passes 6 _ p6 ∙ passes 7 _ p7 ∙ fails 8 _ h)
 
-          pub number-0 : orderFits (sectioned [] [] c d e) ≡ true → 0 ≡ firstFailed (tableTests standard (sectioned a b c d e))
+          pub number-0 : orderFits (sectioned [] [] c d e) ≡ true → 0 ≡ firstFailed (tableTests L (sectioned a b c d e))
           number-0 h = sym (tests ∙ passes 4 _ p4 ∙ passes 5 _ p5 ∙ passes 6 _ p6 ∙ passes 7 _ p7 ∙ passes 8 _ h ∙ no-test)
 
 -- ---- 3: distances
@@ -284,50 +287,62 @@ sections-are b s end h d e = parts ∙ (λ i. at-starts (e i) (sym (trailer-end 
 answer : Starts → ℕ → Reading
 answer s k = elim (eqb k 0) [ true ↦ Sections s | false ↦ Refused k ]
 
-answered : (b : List ℕ) (k : ℕ) → readNumber standard b ≡ k → readOf standard b ≡ answer (startsOf b) k
+answered : (L : Limits) (b : List ℕ) (k : ℕ) → readNumber L b ≡ k → readOf L b ≡ answer (startsOf b) k
 unfolding readOf answer
-answered b k e = ap (answer (startsOf b)) e
+answered L b k e = ap (answer (startsOf b)) e
 
-refused : (b : List ℕ) (k : ℕ) → readNumber standard b ≡ k → (k ≡ 0 → ⊥) → Refused k ≡ readOf standard b
+refused : (L : Limits) (b : List ℕ) (k : ℕ) → readNumber L b ≡ k → (k ≡ 0 → ⊥) → Refused k ≡ readOf L b
 unfolding answer
-refused b k e h = sym (answered b k e ∙ rw (ne-eqb _ _ h, answer))
+refused L b k e h = sym (answered L b k e ∙ rw (ne-eqb _ _ h, answer))
 
-module _ (b : List ℕ) where
-  pub file-short : length b < 12 → Refused 1 ≡ readOf standard b
+-- the longest file, as the code sums it up
+pub long-file : (L : Limits) → L .symbols + L .states + 22540 ≡ longest L
+unfolding longest
+long-file L = omega arith
+
+pub file-within : (L : Limits) → limitsFit L ≡ true → L .symbols + L .states ≤ 104
+file-within L e = omega (arith, limits-within e)
+
+pub limits-refused : (L : Limits) (b : List ℕ) → limitsFit L ≡ false → Refused 39 ≡ readOf L b
+unfolding readNumber
+limits-refused L b h = refused L b 39 (fails 39 _ h) (eqb-false 39 0 refl)
+
+module _ (L : Limits) (fit : limitsFit L ≡ true) (b : List ℕ) where
+  pub file-short : length b < 12 → Refused 1 ≡ readOf L b
   unfolding readNumber lengthFits
-  file-short h = refused b 1 (fails 1 _ (rw (lt-leb _ _ h))) (eqb-false 1 0 refl)
+  file-short h = refused L b 1 (passes 39 _ fit ∙ fails 1 _ (rw (lt-leb _ _ h))) (eqb-false 1 0 refl)
 
   module _ (p : 12 ≤ length b) where
-    pub file-long : 22596 < length b → Refused 1 ≡ readOf standard b
-    unfolding readNumber lengthFits longest
-    file-long h = refused b 1 (fails 1 _ (rw (le-leb _ _ p, lt-leb _ _ h))) (eqb-false 1 0 refl)
+    pub file-long : longest L < length b → Refused 1 ≡ readOf L b
+    unfolding readNumber lengthFits
+    file-long h = refused L b 1 (passes 39 _ fit ∙ fails 1 _ (rw (le-leb _ _ p, lt-leb _ _ h))) (eqb-false 1 0 refl)
 
-    module _ (q : length b ≤ 22596) where
-      length-passes : lengthFits standard b ≡ true
-      unfolding lengthFits longest
+    module _ (q : length b ≤ longest L) where
+      length-passes : lengthFits L b ≡ true
+      unfolding lengthFits
       length-passes = and-of (le-leb _ _ p) (le-leb _ _ q)
 
-      pub file-version : (word16 b (length b - 12 + 10) ≡ 1 → ⊥) → Refused 2 ≡ readOf standard b
+      pub file-version : (word16 b (length b - 12 + 10) ≡ 1 → ⊥) → Refused 2 ≡ readOf L b
       unfolding readNumber version trailer
-      file-version h = refused b 2 (passes 1 _ length-passes ∙ fails 2 _ (ne-eqb _ _ h)) (eqb-false 2 0 refl)
+      file-version h = refused L b 2 (passes 39 _ fit ∙ passes 1 _ length-passes ∙ fails 2 _ (ne-eqb _ _ h)) (eqb-false 2 0 refl)
 
       module _ (v : word16 b (length b - 12 + 10) ≡ 1) where
         version-passes : eqb (version b) 1 ≡ true
         unfolding version trailer
         version-passes = eq-eqb _ _ v
 
-        pub file-distances : distancesFit b ≡ false → Refused 3 ≡ readOf standard b
+        pub file-distances : distancesFit b ≡ false → Refused 3 ≡ readOf L b
         unfolding readNumber
-        file-distances h = refused b 3 (passes 1 _ length-passes ∙ passes 2 _ version-passes ∙ fails 3 _ h) (eqb-false 3 0 refl)
+        file-distances h = refused L b 3 (passes 39 _ fit ∙ passes 1 _ length-passes ∙ passes 2 _ version-passes ∙ fails 3 _ h) (eqb-false 3 0 refl)
 
         module _ (d : distancesFit b ≡ true) where
-          table-decides : readNumber standard b ≡ firstFailed (tableTests standard (tableOf b))
+          table-decides : readNumber L b ≡ firstFailed (tableTests L (tableOf b))
           unfolding readNumber
-          table-decides = passes 1 _ length-passes ∙ passes 2 _ version-passes ∙ passes 3 _ d
+          table-decides = passes 39 _ fit ∙ passes 1 _ length-passes ∙ passes 2 _ version-passes ∙ passes 3 _ d
 
-          pub table-refused : (k : ℕ) → k ≡ firstFailed (tableTests standard (tableOf b)) → (k ≡ 0 → ⊥) → Refused k ≡ readOf standard b
-          table-refused k e h = refused b k (table-decides ∙ sym e) h
+          pub table-refused : (k : ℕ) → k ≡ firstFailed (tableTests L (tableOf b)) → (k ≡ 0 → ⊥) → Refused k ≡ readOf L b
+          table-refused k e h = refused L b k (table-decides ∙ sym e) h
 
-          pub table-read : (k : ℕ) (s : Starts) → k ≡ firstFailed (tableTests standard (tableOf b)) → k ≡ 0 → s ≡ startsOf b → Sections s ≡ readOf standard b
+          pub table-read : (k : ℕ) (s : Starts) → k ≡ firstFailed (tableTests L (tableOf b)) → k ≡ 0 → s ≡ startsOf b → Sections s ≡ readOf L b
           unfolding answer
-          table-read k s e z f = ap Sections f ∙ sym (answered b 0 (table-decides ∙ sym e ∙ z))
+          table-read k s e z f = ap Sections f ∙ sym (answered L b 0 (table-decides ∙ sym e ∙ z))

@@ -5,7 +5,7 @@ use Prim.Native.Nat.{ℕ, _-_, _≤_, _<_}
 use native.Mathlib.Omega.{arith}
 use lib.ListN.{length, getD, take, drop, length-take, drop-of-length-le, List·getD-eq-default}
 use lib.Seq.{slice, take-nil, take-all, drop-length}
-use Rattle.table.specs.Limits.{Limits}
+use Rattle.limits.specs.declared.Limits.{Limits}
 use Rattle.table.specs.File.{trailer, start, records, tableOf}
 use Rattle.table.specs.Reading.{startsOf}
 use Rattle.table.specs.Sections.{ReadAs, partOf, stateByte}

@@ -1,8 +1,9 @@
--- What it says that reading refuses nothing (document 01, "Refused calls", 1 to 8): of the bytes, and of the table, test by test and both ways.
+-- What it says that reading refuses nothing (document 01, "Refused calls", 1 to 8, and 39): of the bytes, and of the table, test by test and both ways.
 -- Assumes nothing.
-use mathlib.Core.Path.{_≡_, _∙_}
-use mathlib.Core.Bool.{true}
-use mathlib.Core.List.{List, List·Memᴰ}
+use mathlib.Core.Path.{_≡_, refl, sym, subst, _∙_}
+use mathlib.Core.Logic.{_⊎_, inl, inr}
+use mathlib.Core.Bool.{Bool, true, false}
+use mathlib.Core.List.{List, _∷_, List·Memᴰ}
 use Prim.Native.Nat.{ℕ, _-_, _%_, _≤_}
 use native.Mathlib.Omega.{arith}
 use lib.ListN.{length}
@@ -10,8 +11,10 @@ use lib.Dec.{eqb, leb}
 use borrow.Author.Tests.{eqb-true, leb-true, eq-eqb, le-leb}
 use Rattle.lists.specs.Lists.{any, all, firstFailed}
 use Rattle.lists.proofs.Members.{and-true, and-of, all-true, all-of}
-use Rattle.lists.proofs.Refusals.{passed, passes, failed-within, none-failed, no-test}
-use Rattle.table.specs.Limits.{Limits, longest, moveLimit, returnLimit}
+use Rattle.lists.proofs.Refusals.{passed, passes, fails, failed-within, none-failed, no-test}
+use Rattle.limits.specs.Limits.{limitsFit}
+use Rattle.limits.specs.declared.Limits.{Limits}
+use Rattle.table.specs.Limits.{longest, moveLimit, returnLimit}
 use Rattle.table.specs.File.{Table, trailer, distance, version, tableOf}
 use Rattle.table.specs.Reading.{lengthFits, distancesFit, countsFit, bytesFit, isInitial, startFits, recordFits, recordsFit, ascend, orderFits, tableTests, readNumber, Readable, WellFormed}
 
@@ -56,8 +59,9 @@ framed-distances b f =
     (le-leb _ _ (f .falls-2))) (le-leb _ _ (f .falls-3))) (le-leb _ _ (f .falls-4))) (eq-eqb _ _ (f .threes-2))) (eq-eqb _ _ (f .threes-3)))
     (eq-eqb _ _ (f .fours-4))
 
--- 1 to 8 do not apply
+-- 39 and 1 to 8 do not apply
 pub record Passed (L : Limits) (b : List ℕ) : Type 0 where
+  pub limits : limitsFit L ≡ true
   pub long : 12 ≤ length b
   pub short : length b ≤ longest L
   pub dated : version b ≡ 1
@@ -67,11 +71,13 @@ pub record Passed (L : Limits) (b : List ℕ) : Type 0 where
 pub read-passed : (L : Limits) (b : List ℕ) → Readable L b → Passed L b
 unfolding readNumber lengthFits
 read-passed L b e =
-    let p1 = passed 1 _ _ (λ z. absurd (omega arith)) e in
+    let p0 = passed 39 _ _ (λ z. absurd (omega arith)) e in
+    let p1 = passed 1 _ _ (λ z. absurd (omega arith)) (p0 .1) in
     let p2 = passed 2 _ _ (λ z. absurd (omega arith)) (p1 .1) in
     let p3 = passed 3 _ _ (λ z. absurd (omega arith)) (p2 .1) in
     let l = and-true _ _ (p1 .0) in
     record {
+      limits = p0 .0;
       long = leb-true _ _ (l .0);
       short = leb-true _ _ (l .1);
       dated = eqb-true _ _ (p2 .0);
@@ -82,7 +88,8 @@ read-passed L b e =
 pub passed-read : (L : Limits) (b : List ℕ) → Passed L b → Readable L b
 unfolding readNumber lengthFits
 passed-read L b p =
-    passes 1 _ (and-of (le-leb _ _ (p .long)) (le-leb _ _ (p .short)))
+    passes 39 _ (p .limits)
+    ∙ passes 1 _ (and-of (le-leb _ _ (p .long)) (le-leb _ _ (p .short)))
     ∙ passes 2 _ (eq-eqb _ _ (p .dated))
     ∙ passes 3 _ (framed-distances b (p .framed))
     ∙ p .fits
@@ -174,8 +181,9 @@ formed-wide {L} {t} f = record {
 pub formed-tested : {L : Limits} {t : Table} → WellFormed L t → Tested L t
 formed-tested {L} {t} f = tests-passed L t (f .fits)
 
-pub formed-of : {L : Limits} {t : Table} → Wide t → Tested L t → WellFormed L t
-formed-of {L} {t} w p = record {
+pub formed-of : {L : Limits} {t : Table} → limitsFit L ≡ true → Wide t → Tested L t → WellFormed L t
+formed-of {L} {t} l w p = record {
+  limits = l;
   internals-wide = wide 3 (t .internals) (w .internals);
   calls-wide = wide 3 (t .calls) (w .calls);
   returns-wide = wide 4 (t .returns) (w .returns);
@@ -185,9 +193,16 @@ formed-of {L} {t} w p = record {
     wide : (w : ℕ) (rs : List (List ℕ)) → ((r : List ℕ) → List·Memᴰ r rs → length r ≡ w) → all (λ r. eqb (length r) w) rs ≡ true
     wide w rs h = all-of (λ r. eqb (length r) w) rs (λ r m. eq-eqb (length r) w (h r m))
 
--- reading refuses by 1 to 8
-pub read-within : (L : Limits) (b : List ℕ) → readNumber L b ≤ 8
+-- reading refuses by 39 and 1 to 8: by no number in between
+pub read-within : (L : Limits) (b : List ℕ) → (readNumber L b ≡ 39) ⊎ (readNumber L b ≤ 8)
 unfolding readNumber tableTests
-read-within L b =
-    failed-within 8 1 _ _ (omega arith) (failed-within 8 2 _ _ (omega arith) (failed-within 8 3 _ _ (omega arith) (failed-within 8 4 _ _ (omega arith)
-    (failed-within 8 5 _ _ (omega arith) (failed-within 8 6 _ _ (omega arith) (failed-within 8 7 _ _ (omega arith) (failed-within 8 8 _ _ (omega arith) (none-failed 8))))))))
+read-within L b = go (limitsFit L) refl
+  where
+    after : firstFailed ((1, lengthFits L b) ∷ (2, eqb (version b) 1) ∷ (3, distancesFit b) ∷ tableTests L (tableOf b)) ≤ 8
+    after =
+        failed-within 8 1 _ _ (omega arith) (failed-within 8 2 _ _ (omega arith) (failed-within 8 3 _ _ (omega arith) (failed-within 8 4 _ _ (omega arith)
+        (failed-within 8 5 _ _ (omega arith) (failed-within 8 6 _ _ (omega arith) (failed-within 8 7 _ _ (omega arith) (failed-within 8 8 _ _ (omega arith) (none-failed 8))))))))
+
+    go : (t : Bool) → limitsFit L ≡ t → (readNumber L b ≡ 39) ⊎ (readNumber L b ≤ 8)
+    go true e = inr (subst (λ (k : ℕ). k ≤ 8) (sym (passes 39 _ e)) after)
+    go false e = inl (fails 39 _ e)

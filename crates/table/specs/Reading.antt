@@ -1,4 +1,4 @@
--- Reading a table: the refusals 1 to 8 in their order, and the answer (document 01, "The table file" and "Refused calls"). Assumes nothing.
+-- Reading a table: the refusals 39 and 1 to 8 in their order, and the answer (document 01, "The table file" and "Refused calls"). Assumes nothing.
 use mathlib.Core.Path.{_≡_}
 use mathlib.Core.Bool.{Bool, true, false, _&&_, _||_}
 use mathlib.Core.List.{List, [], _∷_}
@@ -6,13 +6,15 @@ use Prim.Native.Nat.{ℕ, _-_, _/_, _%_}
 use lib.ListN.{length, getD}
 use lib.Dec.{eqb, ltb, leb}
 use Rattle.lists.specs.Lists.{any, all, firstFailed}
-use Rattle.table.specs.Limits.{Limits, longest, moveLimit, returnLimit}
+use Rattle.limits.specs.Limits.{limitsFit}
+use Rattle.limits.specs.declared.Limits.{Limits}
+use Rattle.table.specs.Limits.{longest, moveLimit, returnLimit}
 use Rattle.table.specs.File.{Table, tableOf, trailer, distance, version, start}
 use Rattle.table.specs.declared.Starts.{Starts}
 use Rattle.table.specs.declared.Reading.{Reading}
 use Rattle.table.specs.declared.Reading.the-variants.{Sections, Refused}
 
--- 1: "under 12 or over 22,596 bytes"
+-- 1: "under 12 or over 22,596 bytes", or what the longest file of the limits in force has
 unfoldable pub lengthFits : Limits → List ℕ → Bool
 lengthFits L b = leb 12 (length b) && leb (length b) (longest L)
 
@@ -82,9 +84,9 @@ orderFits t = ascend (t .internals) && ascend (t .calls) && ascend (t .returns)
 unfoldable pub tableTests : Limits → Table → List (ℕ × Bool)
 tableTests L t = (4, countsFit L t) ∷ (5, bytesFit t) ∷ (6, startFits t) ∷ (7, recordsFit t) ∷ (8, orderFits t) ∷ []
 
--- the first of 1 to 8 that applies, or 0
+-- 39, "a limit of zero or past its maximum comes first"; then the first of 1 to 8 that applies; or 0
 unfoldable pub readNumber : Limits → List ℕ → ℕ
-readNumber L b = firstFailed ((1, lengthFits L b) ∷ (2, eqb (version b) 1) ∷ (3, distancesFit b) ∷ tableTests L (tableOf b))
+readNumber L b = firstFailed ((39, limitsFit L) ∷ (1, lengthFits L b) ∷ (2, eqb (version b) 1) ∷ (3, distancesFit b) ∷ tableTests L (tableOf b))
 
 abbrev pub Readable : Limits → List ℕ → Type 0
 Readable L b = readNumber L b ≡ 0
@@ -106,8 +108,9 @@ unfoldable pub readingValues : Reading → List ℕ
 readingValues (Sections s) = s .symbols ∷ s .states ∷ s .internals ∷ s .calls ∷ s .returns ∷ []
 readingValues (Refused k) = []
 
--- a table whose bytes are readable: its records have their widths, and 4 to 8 do not apply
+-- a table whose bytes are readable: its records have their widths, and 39 and 4 to 8 do not apply
 pub record WellFormed (L : Limits) (t : Table) : Type 0 where
+  pub limits : limitsFit L ≡ true
   pub internals-wide : all (λ r. eqb (length r) 3) (t .internals) ≡ true
   pub calls-wide : all (λ r. eqb (length r) 3) (t .calls) ≡ true
   pub returns-wide : all (λ r. eqb (length r) 4) (t .returns) ≡ true

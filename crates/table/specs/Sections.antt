@@ -6,7 +6,7 @@ use mathlib.Core.List.{List, [], _∷_}
 use Prim.Native.Nat.{ℕ, suc}
 use lib.ListN.{getD}
 use lib.Seq.{slice}
-use Rattle.table.specs.Limits.{Limits}
+use Rattle.limits.specs.declared.Limits.{Limits}
 use Rattle.table.specs.File.{Table, trailer, records}
 use Rattle.table.specs.Reading.{before, Readable, startsOf}
 use Rattle.table.specs.declared.Starts.{Starts}
@@ -28,6 +28,11 @@ sectioned symbols states internals calls returns =
 pub record ReadAs (L : Limits) (b : List ℕ) (s : Starts) : Type 0 where
   pub readable : Readable L b
   pub starts : s ≡ startsOf b
+
+-- the same at whatever limits: what is handed on inside does not look at them again
+pub record HasRead (b : List ℕ) (s : Starts) : Type 0 where
+  pub limits : Limits
+  pub known : ReadAs limits b s
 
 -- "Each section is a part of the file that begins where the one before it ends", by the starts that the bytes are passed on with
 unfoldable pub partOf : List ℕ → Starts → Section → List ℕ

@@ -6,10 +6,13 @@ ghost use Prim.Native.Nat.{_+_, _≤_, _<_};
 ghost use lib.ListN.{length};
 ghost use lib.Dec.{ltb};
 ghost use Rattle.lists.specs.Lists.{any, all, firstFailed};
-ghost use Rattle.table.specs.Limits.{standard};
+ghost use Rattle.limits.specs.Limits.{standard, limitsFit};
+ghost use Rattle.table.specs.Limits.{longest};
 ghost use Rattle.table.specs.File.{word16, records, tableOf};
 ghost use Rattle.table.specs.Reading.{distancesFit, countsFit, bytesFit, isInitial, recordFits, recordsFit, ascend, orderFits, tableTests, startsOf, readOf};
 ghost use Rattle.table.specs.Sections.{sectioned};
+use limits::Limits;
+use limits::limits_fit;
 
 mod keyed;
 mod view;
@@ -37,17 +40,13 @@ pub struct Starts {
 // What reading a table answers.
 pub enum Reading {
     Sections(Starts),
-    // 1 to 8
+    // 39, 1 to 8
     Refused(u8),
 }
 
-// "over 22,596 bytes"
-const LONGEST: usize = 22596;
-// "At most 32" symbols, "1 to 24" states, "At most 1,024" internals and calls, "At most 4,096" returns
-const SYMBOLS: usize = 32;
-
-const STATES: usize = 24;
-
+// The longest file's bytes but for its symbols and states: every record section full, and the trailer.
+const RECORDS_AND_TRAILER: usize = 22540;
+// "At most 1,024" internals and calls, "At most 4,096" returns
 const MOVES: usize = 1024;
 
 const RETURNS: usize = 4096;
@@ -152,16 +151,23 @@ fn ascends(width: usize, section: &[u8]) -> bool
 }
 
 // 4: the counts.
-fn counts_fit(symbols: &[u8], states: &[u8], internals: &[u8], calls: &[u8], returns: &[u8]) -> bool
-    ensures { λ r. ⌜ r ≡ countsFit standard (sectioned (now (symbols .entry)) (now (states .entry)) (now (internals .entry)) (now (calls .entry)) (now (returns .entry))) ⌝ }
+fn counts_fit(
+    limits: Limits,
+    symbols: &[u8],
+    states: &[u8],
+    internals: &[u8],
+    calls: &[u8],
+    returns: &[u8],
+) -> bool
+    ensures { λ r. ⌜ r ≡ countsFit limits (sectioned (now (symbols .entry)) (now (states .entry)) (now (internals .entry)) (now (calls .entry)) (now (returns .entry))) ⌝ }
 {
-    if SYMBOLS < symbols.len() {
+    if limits.symbols < symbols.len() {
         return false;
     }
     if states.len() < 1 {
         return false;
     }
-    if STATES < states.len() {
+    if limits.states < states.len() {
         return false;
     }
     if MOVES < internals.len() / 3 {
@@ -216,10 +222,17 @@ fn sections_ascend(internals: &[u8], calls: &[u8], returns: &[u8]) -> bool
 }
 
 // The first of 4 to 8 that applies to five sections, or 0.
-fn table_number(symbols: &[u8], states: &[u8], internals: &[u8], calls: &[u8], returns: &[u8]) -> u8
-    ensures { λ r. ⌜ r ≡ firstFailed (tableTests standard (sectioned (now (symbols .entry)) (now (states .entry)) (now (internals .entry)) (now (calls .entry)) (now (returns .entry)))) ⌝ }
+fn table_number(
+    limits: Limits,
+    symbols: &[u8],
+    states: &[u8],
+    internals: &[u8],
+    calls: &[u8],
+    returns: &[u8],
+) -> u8
+    ensures { λ r. ⌜ r ≡ firstFailed (tableTests limits (sectioned (now (symbols .entry)) (now (states .entry)) (now (internals .entry)) (now (calls .entry)) (now (returns .entry)))) ⌝ }
 {
-    if !counts_fit(symbols, states, internals, calls, returns) {
+    if !counts_fit(limits, symbols, states, internals, calls, returns) {
         return 4;
     }
     if !bytes_fit(symbols, states) {
@@ -286,9 +299,9 @@ fn starts_at(table: &[u8], end: usize) -> Starts
 }
 
 // The first of 4 to 8 that applies to the file's table: each section is handed on as a part of the file.
-fn sections_number(table: &[u8], starts: Starts, end: usize) -> u8
+fn sections_number(limits: Limits, table: &[u8], starts: Starts, end: usize) -> u8
     requires { ⌜ (end + 12 ≡ length (now table)) × (distancesFit (now table) ≡ true) × (starts ≡ startsOf (now table)) ⌝ }
-    ensures { λ r. ⌜ r ≡ firstFailed (tableTests standard (tableOf (now (table .entry)))) ⌝ }
+    ensures { λ r. ⌜ r ≡ firstFailed (tableTests limits (tableOf (now (table .entry)))) ⌝ }
 {
     let symbols = starts.symbols;
     let states = starts.states;
@@ -296,6 +309,7 @@ fn sections_number(table: &[u8], starts: Starts, end: usize) -> u8
     let calls = starts.calls;
     let returns = starts.returns;
     table_number(
+        limits,
         &table[symbols..states],
         &table[states..internals],
         &table[internals..calls],
@@ -304,15 +318,25 @@ fn sections_number(table: &[u8], starts: Starts, end: usize) -> u8
     )
 }
 
-// Reads a table: the five section starts, or the first refusal that applies.
-pub fn read(table: &[u8]) -> Reading
-    ensures { λ r. ⌜ r ≡ readOf standard (now (table .entry)) ⌝ }
+// The longest file at the limits.
+fn longest_file(limits: Limits) -> usize
+    requires { ⌜ limitsFit limits ≡ true ⌝ }
+    ensures { λ r. ⌜ r ≡ longest limits ⌝ }
+{
+    limits.symbols + limits.states + RECORDS_AND_TRAILER
+}
+
+// Reads a table at limits to which 39 does not apply.
+fn read_fit(limits: Limits, table: &[u8]) -> Reading
+    requires { ⌜ limitsFit limits ≡ true ⌝ }
+    ensures { λ r. ⌜ r ≡ readOf limits (now (table .entry)) ⌝ }
 {
     let length = table.len();
     if length < 12 {
         return Reading::Refused(1);
     }
-    if LONGEST < length {
+    let longest = longest_file(limits);
+    if longest < length {
         return Reading::Refused(1);
     }
     let end = length - 12;
@@ -323,9 +347,26 @@ pub fn read(table: &[u8]) -> Reading
         return Reading::Refused(3);
     }
     let starts = starts_at(table, end);
-    let number = sections_number(table, starts, end);
+    let number = sections_number(limits, table, starts, end);
     if number != 0 {
         return Reading::Refused(number);
     }
     Reading::Sections(starts)
+}
+
+// Reads a table at limits: the five section starts, or the first refusal that applies.
+pub fn read_within(limits: Limits, table: &[u8]) -> Reading
+    ensures { λ r. ⌜ r ≡ readOf limits (now (table .entry)) ⌝ }
+{
+    if !limits_fit(limits) {
+        return Reading::Refused(39);
+    }
+    read_fit(limits, table)
+}
+
+// Reads a table at the limits of a caller that gives none.
+pub fn read(table: &[u8]) -> Reading
+    ensures { λ r. ⌜ r ≡ readOf standard (now (table .entry)) ⌝ }
+{
+    read_within(limits::standard(), table)
 }

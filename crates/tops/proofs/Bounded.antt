@@ -1,4 +1,4 @@
--- What the tops ask of a table: its records have their widths and name states, and there are no more states than the limit. Assumes nothing.
+-- What the tops ask of a table: its records have their widths and name states, and there are no more states than words. Assumes nothing.
 use mathlib.Core.Path.{_≡_, sym}
 use mathlib.Core.Logic.{_≢_}
 use mathlib.Core.List.{List, List·Memᴰ, Memᴰ·cast}
@@ -7,7 +7,6 @@ use native.Mathlib.Omega.{arith}
 use native.Mathlib.Decide.{decLt}
 use lib.ListN.{length, getD, List·getD-eq-default}
 use Rattle.vpa.specs.Automata.{Lawful}
-use Rattle.table.specs.Limits.{Limits}
 use Rattle.table.specs.File.{Table}
 use Rattle.table.specs.Language.{count, byteOf, automaton}
 use Rattle.table.proofs.Facts.{three-bytes, four-bytes}
@@ -24,21 +23,21 @@ pub record Pops (n : ℕ) (r : List ℕ) : Type 0 where
   pub under : getD r 2 0 < n
   pub to : getD r 3 0 < n
 
-pub record Bounded (L : Limits) (t : Table) : Type 0 where
-  pub states : count t ≤ L .states
+pub record Bounded (m : ℕ) (t : Table) : Type 0 where
+  pub states : count t ≤ m
   pub internals : (r : List ℕ) → List·Memᴰ r (t .internals) → Moves (count t) r
   pub calls : (r : List ℕ) → List·Memᴰ r (t .calls) → Moves (count t) r
   pub returns : (r : List ℕ) → List·Memᴰ r (t .returns) → Pops (count t) r
 
-module _ {L : Limits} {t : Table} (bounded : Bounded L t) where
+module _ {m : ℕ} {t : Table} (bounded : Bounded m t) where
   pub an-internal : (r : List ℕ) → List·Memᴰ r (t .internals) → automaton t .internal (getD r 0 0) (getD r 1 0) (getD r 2 0)
-  an-internal r m = Memᴰ·cast (sym (three-bytes r (bounded .internals r m .wide))) m
+  an-internal r i = Memᴰ·cast (sym (three-bytes r (bounded .internals r i .wide))) i
 
   pub a-call : (r : List ℕ) → List·Memᴰ r (t .calls) → automaton t .call (getD r 0 0) (getD r 1 0) (getD r 2 0)
-  a-call r m = Memᴰ·cast (sym (three-bytes r (bounded .calls r m .wide))) m
+  a-call r i = Memᴰ·cast (sym (three-bytes r (bounded .calls r i .wide))) i
 
   pub a-return : (r : List ℕ) → List·Memᴰ r (t .returns) → automaton t .return (getD r 0 0) (getD r 1 0) (getD r 2 0) (getD r 3 0)
-  a-return r m = Memᴰ·cast (sym (four-bytes r (bounded .returns r m .wide))) m
+  a-return r i = Memᴰ·cast (sym (four-bytes r (bounded .returns r i .wide))) i
 
   marked : (q : ℕ) → byteOf t q ≢ 0 → q < count t
   marked q h = go (decLt q (count t))

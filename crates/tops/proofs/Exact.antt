@@ -1,8 +1,8 @@
 -- The words hold the reachable tops, exactly (document 01, "Runs and reachable tops"; source 000, Sect. 2.2). Assumes nothing.
 use mathlib.Core.Path.{_≡_, refl, sym, ap, _∙_}
-use mathlib.Core.Logic.{_≢_, _↔_, _⊎_, inl, inr}
+use mathlib.Core.Logic.{_↔_, _⊎_, inl, inr}
 use mathlib.Core.Bool.{Bool, true, false, true≢false}
-use mathlib.Core.List.{List, [], _∷_, List·Memᴰ, List·Memᴰ·head, List·Memᴰ·tail}
+use mathlib.Core.List.{List, _∷_, _++_, List·Memᴰ, List·Memᴰ·head, List·Memᴰ·tail}
 use mathlib.Core.Option.{Option, none, some}
 use Prim.Native.Nat.{ℕ, zero, suc, _+_, _-_, _*_, _%_, _^_, _<_}
 use native.Mathlib.Omega.{arith}
@@ -14,58 +14,58 @@ use borrow.Author.Tests.{eqb-true, eqb-false, eq-eqb, ne-eqb}
 use Rattle.lists.specs.Lists.{keep, upto, same}
 use Rattle.lists.specs.Bits.{Bit, has}
 use Rattle.lists.proofs.Bits.{some-bit, no-bit, bit-own, bit-pow, has-true, has-of}
-use Rattle.lists.proofs.Members.{keep-mem, keep-of, upto-of, length-upto, same-true}
+use Rattle.lists.proofs.Members.{upto-of, length-upto, same-true}
 use Rattle.lists.proofs.Counts.{keep-le, keep-less, grid, length-grid, grid-of}
 use Rattle.lists.proofs.Words.{new-bit, has-no, same-false, getD-padded, word-lt}
 use Rattle.vpa.specs.Automata.{Tops, Top, bottom, along, pushed, popped}
 use Rattle.vpa.proofs.Tops.{tops-of, top-of, top-state, top-named}
-use Rattle.table.specs.Limits.{Limits}
 use Rattle.table.specs.File.{Table}
 use Rattle.table.specs.Reading.{isInitial}
 use Rattle.table.specs.Language.{count, byteOf, automaton}
-use Rattle.tops.specs.Tops.{topNamed, bottomOf, add, live, byCalls, byReturns, round, rounds, startWords, topWords, liveReturns}
+use Rattle.tops.specs.Tops.{topNamed, add, live, byCalls, byReturns, round, rounds, startWords, topWordsAt}
 use Rattle.tops.proofs.Bounded.{Bounded, an-internal, a-call, a-return, lawful}
 use Rattle.tops.proofs.Walks.{Below, below-refl, below-trans, add-bit, add-own, length-add, internalStep, callStep, returnStep, walk, round-walk, internal-grows, call-grows, return-grows, internal-step, call-step, return-step, walk-keeps, walk-longer, walk-wide, walk-at}
 
 -- ---- the numbers of tops
 
-pub named-bottom : (L : Limits) → topNamed L (L .states) ≡ none
-unfolding topNamed
-named-bottom L = rw (eq-eqb (L .states) (L .states) refl, topNamed)
+-- the number of a top, where bottom has the number m
+abbrev number : ℕ → Option ℕ → ℕ
+number m none = m
+number m (some s) = s
 
-pub named-state : (L : Limits) {s : ℕ} → s < L .states → topNamed L s ≡ some s
-unfolding topNamed
-named-state L {s} h = rw (ne-eqb s (L .states) (λ e. omega arith), topNamed)
+module _ (m : ℕ) where
+  named-bottom : topNamed m m ≡ none
+  unfolding topNamed
+  named-bottom = rw (eq-eqb m m refl, topNamed)
 
--- the number of a top
-abbrev number : Limits → Option ℕ → ℕ
-number L none = L .states
-number L (some s) = s
+  named-state : {s : ℕ} → s < m → topNamed m s ≡ some s
+  unfolding topNamed
+  named-state {s} h = rw (ne-eqb s m (λ e. omega arith), topNamed)
 
-number-named : (L : Limits) (x : ℕ) → number L (topNamed L x) ≡ x
-unfolding topNamed
-number-named L x = go (eqb x (L .states)) refl
-  where
-    go : (b : Bool) → eqb x (L .states) ≡ b → number L (elim b [ true ↦ none | false ↦ some x ]) ≡ x
-    go true e = sym (eqb-true _ _ e)
-    go false e = refl
+  number-named : (x : ℕ) → number m (topNamed m x) ≡ x
+  unfolding topNamed
+  number-named x = go (eqb x m) refl
+    where
+      go : (b : Bool) → eqb x m ≡ b → number m (elim b [ true ↦ none | false ↦ some x ]) ≡ x
+      go true e = sym (eqb-true _ _ e)
+      go false e = refl
 
 -- what a test tells
 told : {P : Type 0} {b : Bool} → (b ≡ true) ↔ P → (c : Bool) → b ≡ c → Dec P
 told h true e = yes (h .0 e)
 told h false e = no (λ p. true≢false (sym (h .1 p) ∙ e))
 
-module _ {L : Limits} {t : Table} (bounded : Bounded L t) where
+module _ {most : ℕ} {t : Table} (bounded : Bounded most t) where
   -- ---- what the rounds find is a top
 
   pub record Sound (f : List ℕ) : Type 0 where
-    pub top : (q x : ℕ) → Bit (getD f q 0) x → Top (automaton t) q (topNamed L x)
+    pub top : (q x : ℕ) → Bit (getD f q 0) x → Top (automaton t) q (topNamed most x)
     pub wide : length f ≡ count t
 
-  sound-add : (f : List ℕ) (q w : ℕ) → Sound f → ((x : ℕ) → Bit w x → Top (automaton t) q (topNamed L x)) → Sound (add f q w)
+  sound-add : (f : List ℕ) (q w : ℕ) → Sound f → ((x : ℕ) → Bit w x → Top (automaton t) q (topNamed most x)) → Sound (add f q w)
   sound-add f q w s h = record { top = λ p x b. go p x (add-bit f q w p x b); wide = length-add f q w ∙ s .wide }
     where
-      go : (p x : ℕ) → Bit (getD f p 0) x ⊎ ((p ≡ q) × Bit w x) → Top (automaton t) p (topNamed L x)
+      go : (p x : ℕ) → Bit (getD f p 0) x ⊎ ((p ≡ q) × Bit w x) → Top (automaton t) p (topNamed most x)
       go p x (inl b) = s .top p x b
       go p x (inr (e, b)) = rw e (h x b)
 
@@ -76,10 +76,10 @@ module _ {L : Limits} {t : Table} (bounded : Bounded L t) where
   unfolding callStep byCalls
   call-sound r m f s = go (eqb (getD f (getD r 0 0) 0) 0) refl
     where
-      from : (x : ℕ) × Bit (getD f (getD r 0 0) 0) x → (y : ℕ) → Bit (2 ^ getD r 0 0) y → Top (automaton t) (getD r 2 0) (topNamed L y)
+      from : (x : ℕ) × Bit (getD f (getD r 0 0) 0) x → (y : ℕ) → Bit (2 ^ getD r 0 0) y → Top (automaton t) (getD r 2 0) (topNamed most y)
       from (x, b) y c =
-          let l : getD r 0 0 < L .states = omega (arith, bounded .calls r m .from, bounded .states) in
-          rw (bit-pow (getD r 0 0) y c, named-state L l) (pushed (a-call bounded r m) (s .top _ x b))
+          let l : getD r 0 0 < most = omega (arith, bounded .calls r m .from, bounded .states) in
+          rw (bit-pow (getD r 0 0) y c, named-state most l) (pushed (a-call bounded r m) (s .top _ x b))
 
       go : (b : Bool) → eqb (getD f (getD r 0 0) 0) 0 ≡ b → Sound (elim b [ true ↦ f | false ↦ add f (getD r 2 0) (2 ^ getD r 0 0) ])
       go true e = s
@@ -92,9 +92,9 @@ module _ {L : Limits} {t : Table} (bounded : Bounded L t) where
       go : (b : Bool) → live f r ≡ b → Sound (elim b [ true ↦ add f (getD r 3 0) (getD f (getD r 2 0) 0) | false ↦ f ])
       go false e = s
       go true e =
-          let l : getD r 2 0 < L .states = omega (arith, bounded .returns r m .under, bounded .states) in
+          let l : getD r 2 0 < most = omega (arith, bounded .returns r m .under, bounded .states) in
           let k = s .top (getD r 0 0) (getD r 2 0) (has-true f _ _ e) in
-          sound-add f _ _ s (λ x b. popped (a-return bounded r m) (rw (named-state L l) at k) (s .top _ x b))
+          sound-add f _ _ s (λ x b. popped (a-return bounded r m) (rw (named-state most l) at k) (s .top _ x b))
 
   round-sound : (f : List ℕ) → Sound f → Sound (round t f)
   round-sound f s =
@@ -103,36 +103,36 @@ module _ {L : Limits} {t : Table} (bounded : Bounded L t) where
       (walk-keeps Sound callStep (t .calls) _ call-sound
       (walk-keeps Sound internalStep (t .internals) f internal-sound s)))
 
-  start-at : (q : ℕ) → getD (startWords L t) q 0 ≡ elim (isInitial (byteOf t q)) [ true ↦ 2 ^ bottomOf L | false ↦ 0 ]
+  start-at : (q : ℕ) → getD (startWords most t) q 0 ≡ elim (isInitial (byteOf t q)) [ true ↦ 2 ^ most | false ↦ 0 ]
   unfolding startWords isInitial
-  start-at q = List·getD-map {B = ℕ} (λ byte. elim (isInitial byte) [ true ↦ 2 ^ bottomOf L | false ↦ 0 ]) (t .states) q 0
+  start-at q = List·getD-map {B = ℕ} (λ byte. elim (isInitial byte) [ true ↦ 2 ^ most | false ↦ 0 ]) (t .states) q 0
 
-  start-sound : Sound (startWords L t)
+  start-sound : Sound (startWords most t)
   unfolding startWords isInitial
   start-sound = record { top = λ q x b. go q x (isInitial (byteOf t q)) refl (rw (start-at q) at b); wide = length-map (t .states) _ }
     where
-      go : (q x : ℕ) (b : Bool) → isInitial (byteOf t q) ≡ b → Bit (elim b [ true ↦ 2 ^ bottomOf L | false ↦ 0 ]) x → Top (automaton t) q (topNamed L x)
-      go q x true e b = rw (bit-pow (bottomOf L) x b, named-bottom L) (bottom (eqb-true _ _ e))
+      go : (q x : ℕ) (b : Bool) → isInitial (byteOf t q) ≡ b → Bit (elim b [ true ↦ 2 ^ most | false ↦ 0 ]) x → Top (automaton t) q (topNamed most x)
+      go q x true e b = rw (bit-pow most x b, named-bottom most) (bottom (eqb-true _ _ e))
       go q x false e b = absurd (no-bit x b)
 
   -- ---- a round that changes nothing is reached
 
   cells : List (ℕ × ℕ)
-  cells = grid (upto (count t)) (L .states ∷ upto (count t))
+  cells = grid (upto (count t)) (most ∷ upto (count t))
 
-  named : (q x : ℕ) → Top (automaton t) q (topNamed L x) → (x ≡ L .states) ⊎ (x < count t)
+  named : (q x : ℕ) → Top (automaton t) q (topNamed most x) → (x ≡ most) ⊎ (x < count t)
   unfolding topNamed
-  named q x h = go (eqb x (L .states)) refl h
+  named q x h = go (eqb x most) refl h
     where
-      go : (b : Bool) → eqb x (L .states) ≡ b → Top (automaton t) q (elim b [ true ↦ none | false ↦ some x ]) → (x ≡ L .states) ⊎ (x < count t)
+      go : (b : Bool) → eqb x most ≡ b → Top (automaton t) q (elim b [ true ↦ none | false ↦ some x ]) → (x ≡ most) ⊎ (x < count t)
       go true e k = inl (eqb-true _ _ e)
       go false e k = inr (top-named (automaton t) (lawful bounded) k)
 
-  place : (q x : ℕ) → Top (automaton t) q (topNamed L x) → List·Memᴰ (q, x) cells
+  place : (q x : ℕ) → Top (automaton t) q (topNamed most x) → List·Memᴰ (q, x) cells
   unfolding cells
   place q x h = grid-of _ _ q x (upto-of (count t) q (top-state (automaton t) (lawful bounded) h)) (go (named q x h))
     where
-      go : (x ≡ L .states) ⊎ (x < count t) → List·Memᴰ x (L .states ∷ upto (count t))
+      go : (x ≡ most) ⊎ (x < count t) → List·Memᴰ x (most ∷ upto (count t))
       go (inl e) = List·Memᴰ·head e
       go (inr l) = List·Memᴰ·tail (upto-of (count t) x l)
 
@@ -207,14 +207,14 @@ module _ {L : Limits} {t : Table} (bounded : Bounded L t) where
         let h = k .3 .keeps (getD r 3 0) x (rw (return-step r (k .0) (j .keeps _ _ b)) (add-own (k .0) _ _ x l (j .keeps _ x c))) in
         rw (sym (round-walk t g) ∙ fixed) at h
 
-    module _ (started : Below (startWords L t) g) where
-      bottom-found : (q : ℕ) → byteOf t q % 2 ≡ 1 → Bit (getD g q 0) (L .states)
+    module _ (started : Below (startWords most t) g) where
+      bottom-found : (q : ℕ) → byteOf t q % 2 ≡ 1 → Bit (getD g q 0) most
       unfolding isInitial
       bottom-found q i =
           let e : isInitial (byteOf t q) ≡ true = eq-eqb _ _ i in
-          started .keeps q (L .states) (rw (start-at q, e) (bit-own (L .states)))
+          started .keeps q most (rw (start-at q, e) (bit-own most))
 
-      complete : {q : ℕ} {o : Option ℕ} → Top (automaton t) q o → Bit (getD g q 0) (number L o)
+      complete : {q : ℕ} {o : Option ℕ} → Top (automaton t) q o → Bit (getD g q 0) (number most o)
       complete (bottom i) = bottom-found _ i
       complete (along r h) = internal-closed _ r _ (complete h)
       complete (pushed r h) = call-closed _ r _ (complete h)
@@ -223,71 +223,74 @@ module _ {L : Limits} {t : Table} (bounded : Bounded L t) where
   -- ---- the words
 
   abbrev rounded : List ℕ
-  rounded = rounds (suc (count t * suc (count t))) t (startWords L t)
+  rounded = rounds (suc (count t * suc (count t))) t (startWords most t)
 
-  rested : Settled (startWords L t) rounded
+  rested : Settled (startWords most t) rounded
   unfolding cells
   rested =
-      let e : length cells ≡ count t * suc (count t) = length-grid (upto (count t)) (L .states ∷ upto (count t)) ∙ ap (λ n. n * suc n) (length-upto (count t)) in
+      let e : length cells ≡ count t * suc (count t) = length-grid (upto (count t)) (most ∷ upto (count t)) ∙ ap (λ n. n * suc n) (length-upto (count t)) in
       settled _ _ start-sound (omega arith)
 
-  words-at : (q : ℕ) → getD (topWords L t) q 0 ≡ getD rounded q 0
-  unfolding topWords
-  words-at q = getD-padded rounded (L .states - count t) q
+  words-at : (q : ℕ) → getD (topWordsAt most t) q 0 ≡ getD rounded q 0
+  unfolding topWordsAt
+  words-at q = getD-padded rounded (most - count t) q
 
-  pub length-words : length (topWords L t) ≡ L .states
-  unfolding topWords
-  length-words = omega (arith, length-append rounded (replicate (L .states - count t) 0), length-replicate {A = ℕ} (L .states - count t) 0, rested .sound .wide, bounded .states)
+  -- the states' words, and zeros behind them
+  pub record Padded : Type 0 where
+    pub states : List ℕ
+    pub long : length states ≡ count t
+    pub words : topWordsAt most t ≡ states ++ replicate (most - count t) 0
+
+  pub padded : Padded
+  unfolding topWordsAt
+  padded = record { states = rounded; long = rested .sound .wide; words = refl }
+
+  pub length-words : length (topWordsAt most t) ≡ most
+  unfolding topWordsAt
+  length-words = omega (arith, length-append rounded (replicate (most - count t) 0), length-replicate {A = ℕ} (most - count t) 0, rested .sound .wide, bounded .states)
 
   -- bit x of word q is 1 exactly where some reachable configuration has state q and x topmost
-  pub top-bit : (q x : ℕ) → Bit (getD (topWords L t) q 0) x ↔ Tops (automaton t) q (topNamed L x)
+  pub top-bit : (q x : ℕ) → Bit (getD (topWordsAt most t) q 0) x ↔ Tops (automaton t) q (topNamed most x)
   top-bit q x = (
     λ b. tops-of (automaton t) (rested .sound .top q x (rw (words-at q) at b)),
-    λ h. rw (words-at q) (rw (number-named L x) at (complete rounded (rested .sound) (rested .fixed) (rested .longer) (top-of (automaton t) h))),
+    λ h. rw (words-at q) (rw (number-named most x) at (complete rounded (rested .sound) (rested .fixed) (rested .longer) (top-of (automaton t) h))),
   )
 
   -- the same of the test
-  pub top-has : (q x : ℕ) → (has (topWords L t) q x ≡ true) ↔ Tops (automaton t) q (topNamed L x)
-  top-has q x = (λ e. top-bit q x .0 (has-true (topWords L t) q x e), λ h. has-of (topWords L t) q x (top-bit q x .1 h))
+  pub top-has : (q x : ℕ) → (has (topWordsAt most t) q x ≡ true) ↔ Tops (automaton t) q (topNamed most x)
+  top-has q x = (λ e. top-bit q x .0 (has-true (topWordsAt most t) q x e), λ h. has-of (topWordsAt most t) q x (top-bit q x .1 h))
 
   -- a state s, and bottom
-  pub top-state-has : {s : ℕ} (q : ℕ) → s < L .states → (has (topWords L t) q s ≡ true) ↔ Tops (automaton t) q (some s)
-  top-state-has {s} q l = rw (named-state L l) at (top-has q s)
+  pub top-state-has : {s : ℕ} (q : ℕ) → s < most → (has (topWordsAt most t) q s ≡ true) ↔ Tops (automaton t) q (some s)
+  top-state-has {s} q l = rw (named-state most l) at (top-has q s)
 
-  pub bottom-has : (q : ℕ) → (has (topWords L t) q (L .states) ≡ true) ↔ Tops (automaton t) q none
-  bottom-has q = rw (named-bottom L) at (top-has q (L .states))
+  pub bottom-has : (q : ℕ) → (has (topWordsAt most t) q most ≡ true) ↔ Tops (automaton t) q none
+  bottom-has q = rw (named-bottom most) at (top-has q most)
 
   -- only the words of states have bits, and none past bottom
-  pub bit-within : (q x : ℕ) → Bit (getD (topWords L t) q 0) x → (q < count t) × (x < suc (L .states))
+  pub bit-within : (q x : ℕ) → Bit (getD (topWordsAt most t) q 0) x → (q < count t) × (x < suc most)
   bit-within q x b = (top-state (automaton t) (lawful bounded) top, go (named q x top))
     where
-      top : Top (automaton t) q (topNamed L x)
+      top : Top (automaton t) q (topNamed most x)
       top = top-of (automaton t) (top-bit q x .0 b)
 
-      go : (x ≡ L .states) ⊎ (x < count t) → x < suc (L .states)
+      go : (x ≡ most) ⊎ (x < count t) → x < suc most
       go (inl e) = omega arith
       go (inr l) = omega (arith, bounded .states)
 
-  pub word-within : (q : ℕ) → getD (topWords L t) q 0 < 2 ^ suc (L .states)
-  word-within q = word-lt (suc (L .states)) (getD (topWords L t) q 0) (λ x b. bit-within q x b .1)
+  pub word-within : (q : ℕ) → getD (topWordsAt most t) q 0 < 2 ^ suc most
+  word-within q = word-lt (suc most) (getD (topWordsAt most t) q 0) (λ x b. bit-within q x b .1)
 
   -- which tops are reachable can be told
   pub tops? : (q : ℕ) (o : Option ℕ) → Dec (Tops (automaton t) q o)
-  tops? q none = told (bottom-has q) (has (topWords L t) q (L .states)) refl
-  tops? q (some s) = go (decLt s (L .states))
+  tops? q none = told (bottom-has q) (has (topWordsAt most t) q most) refl
+  tops? q (some s) = go (decLt s most)
     where
-      go : Dec (s < L .states) → Dec (Tops (automaton t) q (some s))
-      go (yes l) = told (top-state-has q l) (has (topWords L t) q s) refl
+      go : Dec (s < most) → Dec (Tops (automaton t) q (some s))
+      go (yes l) = told (top-state-has q l) (has (topWordsAt most t) q s) refl
       go (no n) = no (λ h. n (omega (arith, top-named (automaton t) (lawful bounded) (top-of (automaton t) h), bounded .states)))
 
   -- "A return record is live when its stack state is in tops of its state"
-  pub live-exact : (r : List ℕ) → List·Memᴰ r (t .returns) → (live (topWords L t) r ≡ true) ↔ Tops (automaton t) (getD r 0 0) (some (getD r 2 0))
+  pub live-exact : (r : List ℕ) → List·Memᴰ r (t .returns) → (live (topWordsAt most t) r ≡ true) ↔ Tops (automaton t) (getD r 0 0) (some (getD r 2 0))
   unfolding live
   live-exact r m = top-state-has (getD r 0 0) (omega (arith, bounded .returns r m .under, bounded .states))
-
-  pub live-return : (q a s q' : ℕ) → List·Memᴰ (q ∷ a ∷ s ∷ q' ∷ []) (liveReturns L t) ↔ (automaton t .return q a s q' × Tops (automaton t) q (some s))
-  unfolding liveReturns
-  live-return q a s q' = (
-    λ m. let k = keep-mem (live (topWords L t)) (t .returns) _ m in (k .0, live-exact _ (k .0) .0 (k .1)),
-    λ (m, h). keep-of (live (topWords L t)) (t .returns) _ m (live-exact _ m .1 h),
-  )

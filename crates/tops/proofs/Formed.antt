@@ -7,19 +7,20 @@ use Prim.Native.Nat.{ℕ, _<_}
 use native.Mathlib.Omega.{arith}
 use Rattle.lists.specs.Bits.{has}
 use Rattle.vpa.specs.Automata.{Tops}
-use Rattle.table.specs.Limits.{Limits}
+use Rattle.limits.specs.declared.Limits.{Limits}
+use Rattle.limits.specs.Limits.{stateMost}
 use Rattle.table.specs.File.{Table}
 use Rattle.table.specs.Reading.{WellFormed}
 use Rattle.table.specs.Language.{count, automaton}
-use Rattle.table.proofs.Facts.{internals-fit, calls-fit, returns-fit, few-states}
+use Rattle.table.proofs.Facts.{internals-fit, calls-fit, returns-fit, most-states}
 use Rattle.tops.specs.Tops.{topWords}
 use Rattle.tops.proofs.Bounded.{Bounded}
 use Rattle.tops.proofs.Exact.{top-state-has, tops?}
 
 module _ {L : Limits} {t : Table} (wf : WellFormed L t) where
-  pub bounded : Bounded L t
+  pub bounded : Bounded stateMost t
   bounded = record {
-    states = few-states wf;
+    states = most-states wf;
     internals = λ r m. record { wide = internals-fit wf .wide r m; from = internals-fit wf .states r m 0 (omega arith) (omega arith); to = internals-fit wf .states r m 2 (omega arith) (omega arith) };
     calls = λ r m. record { wide = calls-fit wf .wide r m; from = calls-fit wf .states r m 0 (omega arith) (omega arith); to = calls-fit wf .states r m 2 (omega arith) (omega arith) };
     returns = λ r m. record {
@@ -31,8 +32,8 @@ module _ {L : Limits} {t : Table} (wf : WellFormed L t) where
   }
 
   -- the test and the relation
-  pub told : (q s : ℕ) → s < count t → (has (topWords L t) q s ≡ true) ↔ Tops (automaton t) q (some s)
-  told q s l = top-state-has bounded q (omega (arith, few-states wf))
+  pub told : (q s : ℕ) → s < count t → (has (topWords t) q s ≡ true) ↔ Tops (automaton t) q (some s)
+  told q s l = top-state-has bounded q (omega (arith, most-states wf))
 
   pub reachable? : (q s : ℕ) → Dec (Tops (automaton t) q (some s))
   reachable? q s = tops? bounded q (some s)

@@ -17,7 +17,7 @@ use Rattle.lists.specs.Lists.{same}
 use Rattle.lists.specs.Bits.{onesOver}
 use Rattle.lists.proofs.Members.{same-true}
 use Rattle.lists.proofs.Words.{ones-le}
-use Rattle.table.specs.Limits.{standard}
+use Rattle.limits.specs.Limits.{stateMost}
 use Rattle.table.specs.File.{Table, records}
 use Rattle.table.specs.Sections.{sectioned}
 use Rattle.table.specs.Reading.{isInitial}
@@ -61,10 +61,10 @@ by-nil Return g = refl
 pub record Walking (k : Kind) (s before : List ℕ) (at : ℕ) (words : List ℕ) : Type 0 where
   pub inside : at ≤ length s
   pub whole : (length s - at) % widthOf k ≡ 0
-  pub states : (r : List ℕ) → List·Memᴰ r (records (widthOf k) (drop at s)) → (i : ℕ) → i ≢ 1 → i < widthOf k → getD r i 0 < 24
+  pub states : (r : List ℕ) → List·Memᴰ r (records (widthOf k) (drop at s)) → (i : ℕ) → i ≢ 1 → i < widthOf k → getD r i 0 < stateMost
   pub meets : byRecords k (records (widthOf k) s) before ≡ byRecords k (records (widthOf k) (drop at s)) words
 
-pub walking : (k : Kind) {s : List ℕ} (f : List ℕ) → Section (widthOf k) 24 s → Walking k s f 0 f
+pub walking : (k : Kind) {s : List ℕ} (f : List ℕ) → Section (widthOf k) stateMost s → Walking k s f 0 f
 walking k f h = record { inside = omega arith; whole = rw sub-zero (h .whole); states = h .states; meets = refl }
 
 module _ {k : Kind} {s f : List ℕ} {at : ℕ} {g : List ℕ} (p : Walking k s f at g) where
@@ -87,7 +87,7 @@ module _ {k : Kind} {s f : List ℕ} {at : ℕ} {g : List ℕ} (p : Walking k s 
     here = records-cons (widthOf k) s at (omega (arith, three-bytes k)) room
 
     -- its bytes are states
-    state-here : (i : ℕ) → i ≢ 1 → i < widthOf k → getD s (at + i) 0 < 24
+    state-here : (i : ℕ) → i ≢ 1 → i < widthOf k → getD s (at + i) 0 < stateMost
     state-here i n l =
         let m = p .states (take (widthOf k) (drop at s)) (rw here (List·Memᴰ·head refl)) i n l in
         rw (record-byte (widthOf k) s at i l) at m
@@ -97,7 +97,7 @@ module _ {k : Kind} {s f : List ℕ} {at : ℕ} {g : List ℕ} (p : Walking k s 
       last-place : at + w - 1 ≡ at + (widthOf k - 1)
       last-place = omega (arith, v, three-bytes k)
 
-      pub states-read : (a < 24) × (b < 24) × (c < 24)
+      pub states-read : (a < stateMost) × (b < stateMost) × (c < stateMost)
       states-read =
           let x = rw add-zero at (state-here 0 (λ q. omega arith) (omega (arith, three-bytes k))) in
           let y = state-here 2 (λ q. omega arith) (three-bytes k) in
@@ -120,96 +120,96 @@ module _ {k : Kind} {s f : List ℕ} {at : ℕ} {g : List ℕ} (p : Walking k s 
             meets = p .meets ∙ ap (λ rs. byRecords k rs g) here ∙ by-cons k _ rs g ∙ (λ i. byRecords k rs (stepBy k g (first i) (third i) (last i))) ∙ ap (byRecords k rs) (sym q);
           })
 
--- ---- two lists compared from their starts
+-- ---- the first n of two lists compared from their starts
 
-pub record Comparing (a b : List ℕ) (i : ℕ) : Type 0 where
-  pub inside : i ≤ 24
-  pub left : length a ≡ 24
-  pub right : length b ≡ 24
-  pub meets : same a b ≡ same (drop i a) (drop i b)
+pub record Comparing (a b : List ℕ) (n i : ℕ) : Type 0 where
+  pub inside : i ≤ n
+  pub left : n ≤ length a
+  pub right : n ≤ length b
+  pub meets : same (take n a) (take n b) ≡ same (drop i (take n a)) (drop i (take n b))
 
-pub comparing : (a b : List ℕ) → length a ≡ 24 → length b ≡ 24 → Comparing a b 0
-comparing a b h k = record { inside = omega arith; left = h; right = k; meets = refl }
+pub comparing : (a b : List ℕ) (n : ℕ) → n ≤ length a → n ≤ length b → Comparing a b n 0
+comparing a b n h k = record { inside = omega arith; left = h; right = k; meets = refl }
 
-module _ {a b : List ℕ} {i : ℕ} (p : Comparing a b i) where
-  compare-here : i < 24 → (t : Bool) → eqb (getD a i 0) (getD b i 0) ≡ t → same a b ≡ (t && same (drop (i + 1) a) (drop (i + 1) b))
+module _ {a b : List ℕ} {n i : ℕ} (p : Comparing a b n i) where
+  next : (c : List ℕ) → n ≤ length c → i < n → drop i (take n c) ≡ getD c i 0 ∷ drop (i + 1) (take n c)
+  next c k h = drop-cons (take n c) i 0 (omega (arith, length-take-le n c k)) ∙ (λ j. getD-take n c i 0 h j ∷ drop (sym (add-one i) j) (take n c))
+
+  compare-here : i < n → (t : Bool) → eqb (getD a i 0) (getD b i 0) ≡ t → same (take n a) (take n b) ≡ (t && same (drop (i + 1) (take n a)) (drop (i + 1) (take n b)))
   unfolding same
-  compare-here h t e =
-      p .meets
-      ∙ (λ j. same (drop-cons a i 0 (omega arith) j) (drop-cons b i 0 (omega arith) j))
-      ∙ ap (λ u. u && same (drop (suc i) a) (drop (suc i) b)) e
-      ∙ ap (λ n. t && same (drop n a) (drop n b)) (sym (add-one i))
+  compare-here h t e = p .meets ∙ (λ j. same (next a (p .left) h j) (next b (p .right) h j)) ∙ ap (λ u. u && same (drop (i + 1) (take n a)) (drop (i + 1) (take n b))) e
 
-  pub compare-on : i < 24 → getD a i 0 ≡ getD b i 0 → Comparing a b (i + 1)
+  pub compare-on : i < n → getD a i 0 ≡ getD b i 0 → Comparing a b n (i + 1)
   compare-on h e = record { inside = omega arith; left = p .left; right = p .right; meets = compare-here h true (eq-eqb _ _ e) }
 
-  pub differ : i < 24 → getD a i 0 ≢ getD b i 0 → false ≡ same a b
-  differ h n = sym (compare-here h false (ne-eqb _ _ n))
+  pub differ : i < n → getD a i 0 ≢ getD b i 0 → false ≡ same (take n a) (take n b)
+  differ h d = sym (compare-here h false (ne-eqb _ _ d))
 
-  pub compared : 24 ≤ i → true ≡ same a b
+  pub compared : n ≤ i → true ≡ same (take n a) (take n b)
   unfolding same
-  compared h = sym (p .meets ∙ (λ j. same (drop-of-length-le a {i = i} (omega arith) j) (drop-of-length-le b {i = i} (omega arith) j)))
+  compared h = sym (p .meets ∙ (λ j. same (drop-of-length-le (take n a) {i = i} (omega (arith, length-take-le n a (p .left))) j) (drop-of-length-le (take n b) {i = i} (omega (arith, length-take-le n b (p .right))) j)))
 
--- ---- the ones of all the words, summed
+-- ---- the ones of the first n words, summed
 
-pub record Summing (ws : List ℕ) (found q : ℕ) : Type 0 where
-  pub inside : q ≤ 24
-  pub wide : length ws ≡ 24
-  pub few : found ≤ 32 * q
-  pub meets : onesOver 32 ws ≡ found + onesOver 32 (drop q ws)
+pub record Summing (ws : List ℕ) (n found q : ℕ) : Type 0 where
+  pub inside : q ≤ n
+  pub wide : n ≤ length ws
+  pub few : found ≤ 64 * q
+  pub meets : onesOver 64 (take n ws) ≡ found + onesOver 64 (drop q (take n ws))
 
-pub summing : (ws : List ℕ) → length ws ≡ 24 → Summing ws 0 0
-summing ws h = record { inside = omega arith; wide = h; few = omega arith; meets = omega arith }
+pub summing : (ws : List ℕ) (n : ℕ) → n ≤ length ws → Summing ws n 0 0
+summing ws n h = record { inside = omega arith; wide = h; few = omega arith; meets = omega arith }
 
-module _ {ws : List ℕ} {found q : ℕ} (p : Summing ws found q) where
-  pub sum-on : {n : ℕ} → q < 24 → n ≡ onesIn 32 (getD ws q 0) → Summing ws (found + n) (q + 1)
+module _ {ws : List ℕ} {n found q : ℕ} (p : Summing ws n found q) where
+  pub sum-on : {k : ℕ} → q < n → k ≡ onesIn 64 (getD ws q 0) → Summing ws n (found + k) (q + 1)
   unfolding onesOver
   sum-on h l =
-      let e = ap (onesOver 32) (drop-cons ws q 0 (omega (arith, p .wide))) in
-      let f = ap (λ n. onesOver 32 (drop n ws)) (add-one q) in
-      record { inside = omega arith; wide = p .wide; few = omega (arith, p .few, ones-le 32 (getD ws q 0)); meets = omega (arith, p .meets, e, f) }
+      let e = ap (onesOver 64) (drop-cons (take n ws) q 0 (omega (arith, length-take-le n ws (p .wide)))) in
+      let f = ap (λ k. onesOver 64 (drop k (take n ws))) (add-one q) in
+      let g = ap (onesIn 64) (getD-take n ws q 0 h) in
+      record { inside = omega arith; wide = p .wide; few = omega (arith, p .few, ones-le 64 (getD ws q 0)); meets = omega (arith, p .meets, e, f, g) }
 
-  pub sum-fits : {n : ℕ} → (w : ℕ) → q < 24 → n ≡ onesIn 32 w → found + n < 2 ^ 32
-  sum-fits w h e = omega (arith, p .few, ones-le 32 w)
+  pub sum-fits : {k : ℕ} → (w : ℕ) → n ≤ stateMost → q < n → k ≡ onesIn 64 w → found + k < 2 ^ 32
+  sum-fits w m h e = omega (arith, p .few, ones-le 64 w)
 
-  pub summed : 24 ≤ q → found ≡ onesOver 32 ws
+  pub summed : n ≤ q → found ≡ onesOver 64 (take n ws)
   unfolding onesOver
-  summed h = omega (arith, p .meets, ap (onesOver 32) (drop-of-length-le ws {i = q} (omega (arith, p .wide))))
+  summed h = omega (arith, p .meets, ap (onesOver 64) (drop-of-length-le (take n ws) {i = q} (omega (arith, length-take-le n ws (p .wide)))))
 
 -- ---- the words at the start
 
 -- a state's first word, by its byte
 unfoldable pub startWord : ℕ → ℕ
-startWord byte = elim (isInitial byte) [ true ↦ 2 ^ 24 | false ↦ 0 ]
+startWord byte = elim (isInitial byte) [ true ↦ 2 ^ stateMost | false ↦ 0 ]
 
 pub record Starting (s words : List ℕ) (q : ℕ) : Type 0 where
-  pub few : length s ≤ 24
+  pub few : length s ≤ stateMost
   pub inside : q ≤ length s
-  pub meets : words ≡ map startWord (take q s) ++ replicate (24 - q) 0
+  pub meets : words ≡ map startWord (take q s) ++ replicate (stateMost - q) 0
 
-pub starting : (s : List ℕ) → length s ≤ 24 → Starting s (replicate 24 0) 0
+pub starting : (s : List ℕ) → length s ≤ stateMost → Starting s (replicate stateMost 0) 0
 starting s h = record { few = h; inside = omega arith; meets = refl }
 
 module _ {s words : List ℕ} {q : ℕ} (p : Starting s words q) where
-  zeros : q < length s → replicate {A = ℕ} (24 - q) 0 ≡ 0 ∷ replicate (24 - (q + 1)) 0
-  zeros h = let e : 24 - q ≡ suc (24 - (q + 1)) = omega (arith, p .few) in ap (λ n. replicate {A = ℕ} n 0) e
+  zeros : q < length s → replicate {A = ℕ} (stateMost - q) 0 ≡ 0 ∷ replicate (stateMost - (q + 1)) 0
+  zeros h = let e : stateMost - q ≡ suc (stateMost - (q + 1)) = omega (arith, p .few) in ap (λ n. replicate {A = ℕ} n 0) e
 
   before-here : q < length s → length (map startWord (take q s)) ≡ q
   before-here h = length-map (take q s) startWord ∙ length-take-le q s (omega arith)
 
-  one-more : q < length s → map startWord (take q s) ++ startWord (getD s q 0) ∷ replicate (24 - (q + 1)) 0 ≡ map startWord (take (q + 1) s) ++ replicate (24 - (q + 1)) 0
+  one-more : q < length s → map startWord (take q s) ++ startWord (getD s q 0) ∷ replicate (stateMost - (q + 1)) 0 ≡ map startWord (take (q + 1) s) ++ replicate (stateMost - (q + 1)) 0
   one-more h =
       let e : map startWord (take (q + 1) s) ≡ map startWord (take q s) ++ (startWord (getD s q 0) ∷ []) = rw (add-one, take-suc s q 0 h) (map-append startWord (take q s) (getD s q 0 ∷ [])) in
-      sym (ap (λ ws. ws ++ replicate (24 - (q + 1)) 0) e ∙ append-snoc (map startWord (take q s)) (startWord (getD s q 0)) (replicate (24 - (q + 1)) 0))
+      sym (ap (λ ws. ws ++ replicate (stateMost - (q + 1)) 0) e ∙ append-snoc (map startWord (take q s)) (startWord (getD s q 0)) (replicate (stateMost - (q + 1)) 0))
 
-  pub start-set : q < length s → {v : ℕ} → getD s q 0 % 2 ≡ 1 → v ≡ 2 ^ 24 → Starting s (set words q v) (q + 1)
+  pub start-set : q < length s → {v : ℕ} → getD s q 0 % 2 ≡ 1 → v ≡ 2 ^ stateMost → Starting s (set words q v) (q + 1)
   unfolding startWord isInitial
   start-set h {v} e k =
       let f : v ≡ startWord (getD s q 0) = k ∙ sym (rw (eq-eqb _ _ e, startWord)) in
       record {
         few = p .few;
         inside = omega arith;
-        meets = ap (λ ws. set ws q v) (p .meets ∙ ap (λ zs. map startWord (take q s) ++ zs) (zeros h)) ∙ set-at (map startWord (take q s)) 0 (replicate (24 - (q + 1)) 0) v q (before-here h) ∙ ap (λ x. map startWord (take q s) ++ x ∷ replicate (24 - (q + 1)) 0) f ∙ one-more h;
+        meets = ap (λ ws. set ws q v) (p .meets ∙ ap (λ zs. map startWord (take q s) ++ zs) (zeros h)) ∙ set-at (map startWord (take q s)) 0 (replicate (stateMost - (q + 1)) 0) v q (before-here h) ∙ ap (λ x. map startWord (take q s) ++ x ∷ replicate (stateMost - (q + 1)) 0) f ∙ one-more h;
       }
 
   pub start-skip : q < length s → getD s q 0 % 2 ≢ 1 → Starting s words (q + 1)
@@ -219,18 +219,18 @@ module _ {s words : List ℕ} {q : ℕ} (p : Starting s words q) where
       record {
         few = p .few;
         inside = omega arith;
-        meets = p .meets ∙ ap (λ zs. map startWord (take q s) ++ zs) (zeros h) ∙ ap (λ x. map startWord (take q s) ++ x ∷ replicate (24 - (q + 1)) 0) f ∙ one-more h;
+        meets = p .meets ∙ ap (λ zs. map startWord (take q s) ++ zs) (zeros h) ∙ ap (λ x. map startWord (take q s) ++ x ∷ replicate (stateMost - (q + 1)) 0) f ∙ one-more h;
       }
 
-  pub started : length s ≤ q → words ≡ startWords standard (sectioned [] s [] [] []) ++ replicate (24 - length s) 0
+  pub started : length s ≤ q → words ≡ startWords stateMost (sectioned [] s [] [] []) ++ replicate (stateMost - length s) 0
   unfolding startWords startWord sectioned
   started h =
       let e : q ≡ length s = omega (arith, p .inside) in
-      p .meets ∙ (λ i. map startWord (take-all q s h i) ++ replicate (24 - e i) 0)
+      p .meets ∙ (λ i. map startWord (take-all q s h i) ++ replicate (stateMost - e i) 0)
 
 -- ---- the rounds
 
-pub section-within : {w n : ℕ} {s : List ℕ} → n ≤ 24 → Section w n s → Section w 24 s
+pub section-within : {w n : ℕ} {s : List ℕ} → n ≤ stateMost → Section w n s → Section w stateMost s
 section-within h k = record { whole = k .whole; states = λ r m i n l. let g = k .states r m i n l in omega arith }
 
 -- the words that are to come out, and those that so many rounds are still to be made from
@@ -240,9 +240,9 @@ pub record Resting (t : Table) (end words : List ℕ) (left : ℕ) : Type 0 wher
 pub resting : (t : Table) (words : List ℕ) (n : ℕ) → Resting t (rounds (suc (n * suc n)) t words) words (n * (n + 1) + 1)
 resting t words n = record { meets = ap (λ k. rounds k t words) (sym (add-one (n * (n + 1)) ∙ ap (λ k. suc (n * k)) (add-one n))) }
 
--- at most 24 states are few rounds
-pub few-rounds : {n : ℕ} → n ≤ 24 → n * (n + 1) ≤ 600
-few-rounds h = mul-le-mul {n₂ = 24} {m₂ = 25} h (omega arith)
+-- at most 40 states are few rounds
+pub few-rounds : {n : ℕ} → n ≤ stateMost → n * (n + 1) ≤ 1640
+few-rounds h = mul-le-mul {n₂ = stateMost} {m₂ = 41} h (omega arith)
 
 -- all three sections make a round
 pub rounded : (t : Table) (f : List ℕ) {a b c : List ℕ} → a ≡ byInternals (t .internals) f → b ≡ byCalls (t .calls) a → c ≡ byReturns (t .returns) b → c ≡ round t f

@@ -11,9 +11,10 @@ use lib.Dec.{eqb}
 use borrow.Author.Tests.{eq-eqb, ne-eqb, eqb-true, eqb-false}
 use Rattle.lists.specs.Lists.{same}
 use Rattle.lists.specs.Bits.{onesOver}
-use Rattle.table.specs.Limits.{Limits, standard}
+use Rattle.limits.specs.declared.Limits.{Limits}
+use Rattle.limits.specs.Limits.{stateMost}
 use Rattle.table.specs.File.{Table, trailer, start, tableOf}
-use Rattle.table.specs.Sections.{sectioned, partOf}
+use Rattle.table.specs.Sections.{sectioned, partOf, HasRead}
 use Rattle.table.specs.Reading.{readNumber, Readable, startsOf, readOf}
 use Rattle.table.specs.declared.Starts.{Starts}
 use Rattle.table.specs.declared.view.Section.the-variants.{States, Internals, Calls, Returns}
@@ -22,8 +23,8 @@ use Rattle.table.specs.declared.Reading.the-variants.{Sections as SectionsAt, R
 use Rattle.table.proofs.Passed.{Passed, read-passed}
 use Rattle.table.proofs.Parts.{states-at, internals-at, calls-at, returns-at}
 use Rattle.table.proofs.Bytes.{length-between, length-from, read-well-formed}
-use Rattle.table.proofs.Facts.{internals-fit, calls-fit, returns-fit, few-states}
-use Rattle.tops.specs.Tops.{round, rounds, startWords, topWords, topCount, topsOf}
+use Rattle.table.proofs.Facts.{internals-fit, calls-fit, returns-fit, most-states}
+use Rattle.tops.specs.Tops.{round, rounds, startWords, topWords, topWordsAt, topCount, topsOf}
 use Rattle.tops.specs.Sections.{Sections, topsFound}
 use Rattle.tops.specs.Demands.{TopsExact, examinedOf}
 use Rattle.tops.specs.declared.TopWords.{TopWords}
@@ -33,7 +34,7 @@ use Rattle.tops.proofs.Formed.{bounded}
 
 -- ---- the tops do not look at the symbols
 
-module _ (L : Limits) (states : List ℕ) (internals calls returns : List (List ℕ)) where
+module _ (states : List ℕ) (internals calls returns : List (List ℕ)) where
   abbrev pub with-symbols : List ℕ → Table
   with-symbols symbols = record { symbols = symbols; states = states; internals = internals; calls = calls; returns = returns }
 
@@ -47,96 +48,95 @@ module _ (L : Limits) (states : List ℕ) (internals calls returns : List (List 
       go true h = refl
       go false h = h
 
-  pub words-alike : (y z : List ℕ) → topWords L (with-symbols y) ≡ topWords L (with-symbols z)
-  unfolding topWords startWords
-  words-alike y z = ap (λ f. f ++ replicate (L .states - length states) 0) (rounds-alike y z (suc (length states * suc (length states))) (startWords L (with-symbols y)))
+  pub words-alike : (y z : List ℕ) → topWords (with-symbols y) ≡ topWords (with-symbols z)
+  unfolding topWordsAt startWords
+  words-alike y z = ap (λ f. f ++ replicate (stateMost - length states) 0) (rounds-alike y z (suc (length states * suc (length states))) (startWords stateMost (with-symbols y)))
 
-  pub found-alike : (y z : List ℕ) → topsFound L (with-symbols y) ≡ topsFound L (with-symbols z)
+  pub found-alike : (y z : List ℕ) → topsFound (with-symbols y) ≡ topsFound (with-symbols z)
   unfolding topsFound topCount
-  found-alike y z = let e = words-alike y z in λ i. record { number = 0; words = e i; found = onesOver (suc (L .states)) (e i) }
+  found-alike y z = let e = words-alike y z in λ i. record { number = 0; words = e i; found = onesOver (suc stateMost) (e i) }
 
 -- ---- the sections
 
-module _ (b : List ℕ) (readable : Readable standard b) where
-  p : Passed standard b
-  p = read-passed standard b readable
+module _ (L : Limits) (b : List ℕ) (readable : Readable L b) where
+  p : Passed L b
+  p = read-passed L b readable
 
   pub sections-read : Sections (slice (start b 1) (start b 2) b) (slice (start b 2) (start b 3) b) (slice (start b 3) (start b 4) b) (slice (start b 4) (trailer b) b)
   unfolding tableOf
   sections-read =
-      let wf = read-well-formed standard b readable in
+      let wf = read-well-formed L b readable in
       record {
-        few = few-states wf;
+        few = most-states wf;
         internals-whole = record { whole = ap (λ n. n % 3) (length-between b 2 3 (p .framed .falls-3) (omega (arith, p))) ∙ p .framed .threes-2; states = internals-fit wf .states };
         calls-whole = record { whole = ap (λ n. n % 3) (length-between b 3 4 (p .framed .falls-4) (omega (arith, p))) ∙ p .framed .threes-3; states = calls-fit wf .states };
         returns-whole = record { whole = ap (λ n. n % 4) (length-from b 4 (omega (arith, p))) ∙ p .framed .fours-4; states = returns-fit wf .states };
       }
 
-  -- the operation's answer is that of its sections
-  pub tops-read : topsFound standard (sectioned [] (slice (start b 1) (start b 2) b) (slice (start b 2) (start b 3) b) (slice (start b 3) (start b 4) b) (slice (start b 4) (trailer b) b)) ≡ topsOf standard b
-  unfolding tableOf topsOf topsFound sectioned
-  tops-read =
-      let t = tableOf b in
-      let e : topsOf standard b ≡ topsFound standard t = rw (eq-eqb (readNumber standard b) 0 readable, topsOf) in
-      found-alike standard (t .states) (t .internals) (t .calls) (t .returns) [] (t .symbols) ∙ sym e
+-- the answer is that of the sections
+pub tops-read : (b : List ℕ) → topsFound (sectioned [] (slice (start b 1) (start b 2) b) (slice (start b 2) (start b 3) b) (slice (start b 3) (start b 4) b) (slice (start b 4) (trailer b) b)) ≡ topsFound (tableOf b)
+unfolding tableOf sectioned
+tops-read b = let t = tableOf b in found-alike (t .states) (t .internals) (t .calls) (t .returns) [] (t .symbols)
 
 -- ---- as the code takes them: the parts that the starts give
 
-module _ (b : List ℕ) {s : Starts} (readable : Readable standard b) (starts : s ≡ startsOf b) {states internals calls returns : List ℕ}
+module _ (b : List ℕ) {s : Starts} (h : HasRead b s) {states internals calls returns : List ℕ}
     (e1 : states ≡ partOf b s States) (e2 : internals ≡ partOf b s Internals) (e3 : calls ≡ partOf b s Calls) (e4 : returns ≡ partOf b s Returns) where
   pub parts-sections : Sections states internals calls returns
-  parts-sections = rw (e1 ∙ states-at b starts, e2 ∙ internals-at b starts, e3 ∙ calls-at b starts, e4 ∙ returns-at b starts) (sections-read b readable)
+  parts-sections = let starts = h .known .starts in rw (e1 ∙ states-at b starts, e2 ∙ internals-at b starts, e3 ∙ calls-at b starts, e4 ∙ returns-at b starts) (sections-read (h .limits) b (h .known .readable))
 
-  pub parts-tops : topsFound standard (sectioned [] states internals calls returns) ≡ topsOf standard b
-  parts-tops = rw (e1 ∙ states-at b starts, e2 ∙ internals-at b starts, e3 ∙ calls-at b starts, e4 ∙ returns-at b starts) (tops-read b readable)
+  pub parts-tops : topsFound (sectioned [] states internals calls returns) ≡ topsFound (tableOf b)
+  parts-tops = let starts = h .known .starts in rw (e1 ∙ states-at b starts, e2 ∙ internals-at b starts, e3 ∙ calls-at b starts, e4 ∙ returns-at b starts) (tops-read b)
 
 -- ---- the answer with the starts
 
-module _ (b : List ℕ) where
-  pub read-sections : {s : Starts} → SectionsAt s ≡ readOf standard b → Readable standard b × (s ≡ startsOf b)
+module _ (L : Limits) (b : List ℕ) where
+  pub read-sections : {s : Starts} → SectionsAt s ≡ readOf L b → Readable L b × (s ≡ startsOf b)
   unfolding readOf
-  read-sections {s} e = go (eqb (readNumber standard b) 0) refl e
+  read-sections {s} e = go (eqb (readNumber L b) 0) refl e
     where
-      go : (x : Bool) → eqb (readNumber standard b) 0 ≡ x → _≡_ {A = Reading} (SectionsAt s) (elim x [ true ↦ SectionsAt (startsOf b) | false ↦ RefusedBy (readNumber standard b) ]) → Readable standard b × (s ≡ startsOf b)
+      go : (x : Bool) → eqb (readNumber L b) 0 ≡ x → _≡_ {A = Reading} (SectionsAt s) (elim x [ true ↦ SectionsAt (startsOf b) | false ↦ RefusedBy (readNumber L b) ]) → Readable L b × (s ≡ startsOf b)
       go true p f = (eqb-true _ _ p, cc)
       go false p f = let z : _≡_ {A = ℕ} 0 1 = cc in absurd (omega arith)
 
-  pub read-refused : {k : ℕ} → RefusedBy k ≡ readOf standard b → (readNumber standard b ≡ k) × (k ≢ 0)
-  unfolding readOf
-  read-refused {k} e = go (eqb (readNumber standard b) 0) refl e
-    where
-      go : (x : Bool) → eqb (readNumber standard b) 0 ≡ x → _≡_ {A = Reading} (RefusedBy k) (elim x [ true ↦ SectionsAt (startsOf b) | false ↦ RefusedBy (readNumber standard b) ]) → (readNumber standard b ≡ k) × (k ≢ 0)
-      go true p f = let z : _≡_ {A = ℕ} 0 1 = cc in absurd (omega arith)
-      go false p f = let e : readNumber standard b ≡ k = cc in (e, λ n. eqb-false _ _ p (e ∙ n))
+  pub read-handed : {s : Starts} → SectionsAt s ≡ readOf L b → HasRead b s
+  read-handed e = let r = read-sections e in record { limits = L; known = record { readable = r .0; starts = r .1 } }
 
-  pub examined : {s : Starts} {t : TopWords} → SectionsAt s ≡ readOf standard b → t ≡ topsOf standard b → record { number = 0; starts = s; words = t .words; found = t .found } ≡ examinedOf standard b
-  unfolding examinedOf topsOf topsFound
+  pub read-refused : {k : ℕ} → RefusedBy k ≡ readOf L b → (readNumber L b ≡ k) × (k ≢ 0)
+  unfolding readOf
+  read-refused {k} e = go (eqb (readNumber L b) 0) refl e
+    where
+      go : (x : Bool) → eqb (readNumber L b) 0 ≡ x → _≡_ {A = Reading} (RefusedBy k) (elim x [ true ↦ SectionsAt (startsOf b) | false ↦ RefusedBy (readNumber L b) ]) → (readNumber L b ≡ k) × (k ≢ 0)
+      go true p f = let z : _≡_ {A = ℕ} 0 1 = cc in absurd (omega arith)
+      go false p f = let e : readNumber L b ≡ k = cc in (e, λ n. eqb-false _ _ p (e ∙ n))
+
+  pub examined : {s : Starts} {t : TopWords} → SectionsAt s ≡ readOf L b → t ≡ topsFound (tableOf b) → record { number = 0; starts = s; words = t .words; found = t .found } ≡ examinedOf L b
+  unfolding examinedOf topsFound
   examined {s} {t} e f =
       let r = read-sections e in
-      let g : topsOf standard b ≡ topsFound standard (tableOf b) = rw (eq-eqb (readNumber standard b) 0 (r .0), topsOf, topsFound) in
-      rw (eq-eqb (readNumber standard b) 0 (r .0), examinedOf) (λ i. record { number = 0; starts = r .1 i; words = (f ∙ g) i .words; found = (f ∙ g) i .found })
+      rw (eq-eqb (readNumber L b) 0 (r .0), examinedOf) (λ i. record { number = 0; starts = r .1 i; words = f i .words; found = f i .found })
 
-  pub examined-refused : {k : ℕ} → RefusedBy k ≡ readOf standard b → record { number = k; starts = record { symbols = 0; states = 0; internals = 0; calls = 0; returns = 0 }; words = replicate 24 0; found = 0 } ≡ examinedOf standard b
+  pub examined-refused : {k : ℕ} → RefusedBy k ≡ readOf L b → record { number = k; starts = record { symbols = 0; states = 0; internals = 0; calls = 0; returns = 0 }; words = replicate stateMost 0; found = 0 } ≡ examinedOf L b
   unfolding examinedOf
   examined-refused {k} e =
       let r = read-refused e in
-      rw (ne-eqb (readNumber standard b) 0 (λ z. r .1 (sym (r .0) ∙ z)), examinedOf) (λ i. record { number = sym (r .0) i; starts = record { symbols = 0; states = 0; internals = 0; calls = 0; returns = 0 }; words = replicate 24 0; found = 0 })
+      rw (ne-eqb (readNumber L b) 0 (λ z. r .1 (sym (r .0) ∙ z)), examinedOf) (λ i. record { number = sym (r .0) i; starts = record { symbols = 0; states = 0; internals = 0; calls = 0; returns = 0 }; words = replicate stateMost 0; found = 0 })
 
   -- the tops alone
-  pub examined-tops : record { number = examinedOf standard b .number; words = examinedOf standard b .words; found = examinedOf standard b .found } ≡ topsOf standard b
+  pub examined-tops : record { number = examinedOf L b .number; words = examinedOf L b .words; found = examinedOf L b .found } ≡ topsOf L b
   unfolding examinedOf topsOf
-  examined-tops = go (eqb (readNumber standard b) 0) refl
+  examined-tops = go (eqb (readNumber L b) 0) refl
     where
-      go : (x : Bool) → eqb (readNumber standard b) 0 ≡ x → record { number = examinedOf standard b .number; words = examinedOf standard b .words; found = examinedOf standard b .found } ≡ topsOf standard b
+      go : (x : Bool) → eqb (readNumber L b) 0 ≡ x → record { number = examinedOf L b .number; words = examinedOf L b .words; found = examinedOf L b .found } ≡ topsOf L b
       go true p = rw (p, examinedOf, topsOf)
       go false p = rw (p, examinedOf, topsOf)
 
   -- demand 2
-  pub tops-exact : TopsExact standard b (topsOf standard b)
+  pub tops-exact : TopsExact L b (topsOf L b)
   unfolding topsOf
-  tops-exact readable q x = rw (eq-eqb (readNumber standard b) 0 readable, topsOf) (top-bit (bounded (read-well-formed standard b readable)) q x)
+  tops-exact readable q x = rw (eq-eqb (readNumber L b) 0 readable, topsOf) (top-bit (bounded (read-well-formed L b readable)) q x)
 
-  pub tops-answer : {x : Examined} → x ≡ examinedOf standard b → (record { number = x .number; words = x .words; found = x .found } ≡ topsOf standard b) × TopsExact standard b (record { number = x .number; words = x .words; found = x .found })
+  pub tops-answer : {x : Examined} → x ≡ examinedOf L b → (record { number = x .number; words = x .words; found = x .found } ≡ topsOf L b) × TopsExact L b (record { number = x .number; words = x .words; found = x .found })
   tops-answer {x} e =
-      let f : record { number = x .number; words = x .words; found = x .found } ≡ topsOf standard b = (λ i. record { number = e i .number; words = e i .words; found = e i .found }) ∙ examined-tops in
-      (f, subst (λ (t : TopWords). TopsExact standard b t) (sym f) tops-exact)
+      let f : record { number = x .number; words = x .words; found = x .found } ≡ topsOf L b = (λ i. record { number = e i .number; words = e i .words; found = e i .found }) ∙ examined-tops in
+      (f, subst (λ (t : TopWords). TopsExact L b t) (sym f) tops-exact)

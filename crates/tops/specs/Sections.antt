@@ -7,7 +7,7 @@ use Prim.Native.Nat.{ℕ, _%_, _^_, _<_, _≤_}
 use lib.ListN.{length, getD}
 use lib.Dec.{eqb}
 use Rattle.lists.specs.Bits.{has}
-use Rattle.table.specs.Limits.{Limits}
+use Rattle.limits.specs.Limits.{stateMost}
 use Rattle.table.specs.File.{Table, records}
 use Rattle.tops.specs.declared.TopWords.{TopWords}
 use Rattle.tops.specs.declared.Kind.{Kind}
@@ -37,13 +37,13 @@ byRecords Internal rs f = byInternals rs f
 byRecords Call rs f = byCalls rs f
 byRecords Return rs f = byReturns rs f
 
--- at most 24 states, and records that name states
+-- at most 40 states, and records that name states
 pub record Sections (states internals calls returns : List ℕ) : Type 0 where
-  pub few : length states ≤ 24
+  pub few : length states ≤ stateMost
   pub internals-whole : Section 3 (length states) internals
   pub calls-whole : Section 3 (length states) calls
   pub returns-whole : Section 4 (length states) returns
 
 -- the answer of a table that was read
-unfoldable pub topsFound : Limits → Table → TopWords
-topsFound L t = record { number = 0; words = topWords L t; found = topCount L t }
+unfoldable pub topsFound : Table → TopWords
+topsFound t = record { number = 0; words = topWords t; found = topCount t }

@@ -8,19 +8,16 @@ use lib.Dec.{eqb}
 use lib.Bits.{bitOr}
 use Rattle.lists.specs.Lists.{keep, same}
 use Rattle.lists.specs.Bits.{has, onesOver}
-use Rattle.table.specs.Limits.{Limits}
+use Rattle.limits.specs.declared.Limits.{Limits}
+use Rattle.limits.specs.Limits.{stateMost}
 use Rattle.table.specs.File.{Table, tableOf}
 use Rattle.table.specs.Reading.{isInitial, readNumber}
 use Rattle.table.specs.Language.{count}
 use Rattle.tops.specs.declared.TopWords.{TopWords}
 
--- "bottom is a top too, numbered 24"
-abbrev pub bottomOf : Limits → ℕ
-bottomOf L = L .states
-
--- the top that a number stands for
-unfoldable pub topNamed : Limits → ℕ → Option ℕ
-topNamed L t = elim (eqb t (bottomOf L)) [ true ↦ none | false ↦ some t ]
+-- "bottom is a top too": the top that the number t stands for, where bottom has the number m
+unfoldable pub topNamed : ℕ → ℕ → Option ℕ
+topNamed m t = elim (eqb t m) [ true ↦ none | false ↦ some t ]
 
 -- word q gains the tops of w
 unfoldable pub add : List ℕ → ℕ → ℕ → List ℕ
@@ -54,23 +51,27 @@ unfoldable pub rounds : ℕ → Table → List ℕ → List ℕ
 rounds zero t f = f
 rounds (suc k) t f = elim (same (round t f) f) [ true ↦ f | false ↦ rounds k t (round t f) ]
 
--- an initial state has bottom
-unfoldable pub startWords : Limits → Table → List ℕ
-startWords L t = map (λ byte. elim (isInitial byte) [ true ↦ 2 ^ bottomOf L | false ↦ 0 ]) (t .states)
+-- an initial state has bottom, numbered m
+unfoldable pub startWords : ℕ → Table → List ℕ
+startWords m t = map (λ byte. elim (isInitial byte) [ true ↦ 2 ^ m | false ↦ 0 ]) (t .states)
 
--- "bit t of word q"; "States past the count have the zero word"; so many rounds are enough (proofs/Exact)
-unfoldable pub topWords : Limits → Table → List ℕ
-topWords L t = rounds (suc (count t * suc (count t))) t (startWords L t) ++ replicate (L .states - count t) 0
+-- "bit t of word q"; "States past the count have the zero word": m words, bottom at bit m; so many rounds are enough (proofs/Exact)
+unfoldable pub topWordsAt : ℕ → Table → List ℕ
+topWordsAt m t = rounds (suc (count t * suc (count t))) t (startWords m t) ++ replicate (m - count t) 0
+
+-- "Tops become 40 words of 64 bits with bottom at bit 40", at any limits
+abbrev pub topWords : Table → List ℕ
+topWords t = topWordsAt stateMost t
 
 -- "the number of tops found over all states"
-unfoldable pub topCount : Limits → Table → ℕ
-topCount L t = onesOver (suc (bottomOf L)) (topWords L t)
+unfoldable pub topCount : Table → ℕ
+topCount t = onesOver (suc stateMost) (topWords t)
 
 -- the operation
 unfoldable pub topsOf : Limits → List ℕ → TopWords
 topsOf L b = elim (eqb (readNumber L b) 0) [
-  | true ↦ record { number = 0; words = topWords L (tableOf b); found = topCount L (tableOf b) }
-  | false ↦ record { number = readNumber L b; words = replicate (L .states) 0; found = 0 }
+  | true ↦ record { number = 0; words = topWords (tableOf b); found = topCount (tableOf b) }
+  | false ↦ record { number = readNumber L b; words = replicate stateMost 0; found = 0 }
 ]
 
 -- an answer's values: the words, then the number of tops found; none where its number is not 0
@@ -78,5 +79,5 @@ unfoldable pub topsValues : TopWords → List ℕ
 topsValues r = elim (eqb (r .number) 0) [ true ↦ r .words ++ (r .found ∷ []) | false ↦ [] ]
 
 -- the live returns, in file order
-unfoldable pub liveReturns : Limits → Table → List (List ℕ)
-liveReturns L t = keep (live (topWords L t)) (t .returns)
+unfoldable pub liveReturns : Table → List (List ℕ)
+liveReturns t = keep (live (topWords t)) (t .returns)

@@ -2,24 +2,24 @@
 ghost use mathlib.Core.Path.{_≡_};
 ghost use Prim.Native.Nat.{suc, _-_, _*_, _^_, _<_, _≤_};
 ghost use mathlib.Core.List.{[], _++_};
-ghost use lib.ListN.{length, replicate};
+ghost use lib.ListN.{length, take, replicate};
 ghost use lib.Count.{onesIn, trailingZeros};
 ghost use Rattle.lists.specs.Lists.{same};
 ghost use Rattle.lists.specs.Bits.{has, onesOver};
-ghost use Rattle.table.specs.Limits.{standard};
-ghost use Rattle.table.specs.File.{records};
-ghost use Rattle.table.specs.Sections.{sectioned};
+ghost use Rattle.limits.specs.Limits.{standard, stateMost};
+ghost use Rattle.table.specs.File.{records, tableOf};
+ghost use Rattle.table.specs.Sections.{sectioned, HasRead};
 ghost use Rattle.tops.specs.Tops.{add, startWords, rounds, topWords, topsOf};
-ghost use Rattle.table.specs.Reading.{Readable, startsOf};
 ghost use Rattle.tops.specs.Demands.{examinedOf, TopsExact};
 ghost use Rattle.tops.specs.Sections.{Section, Sections, widthOf, stepBy, byRecords, topsFound};
+use limits::Limits;
 use table::Reading;
 use table::Starts;
 
 // What tops answers: the refusal's number or 0, a word for each possible state, and the number of tops found.
 pub struct TopWords {
     pub number: u8,
-    pub words: [u32; 24],
+    pub words: [u64; 40],
     pub found: u32,
 }
 
@@ -27,7 +27,7 @@ pub struct TopWords {
 pub struct Examined {
     pub number: u8,
     pub starts: Starts,
-    pub words: [u32; 24],
+    pub words: [u64; 40],
     pub found: u32,
 }
 
@@ -45,39 +45,39 @@ fn wide(x: u8) -> usize
 }
 
 // The word whose only bit is x.
-fn bit(x: usize) -> u32
-    requires { ⌜ x < 32 ⌝ }
+fn bit(x: usize) -> u64
+    requires { ⌜ x < 64 ⌝ }
     ensures { λ r. ⌜ r ≡ 2 ^ x ⌝ }
 {
-    1u32 << x
+    1u64 << x
 }
 
 // Top x is in word q.
-fn has_top(words: &[u32; 24], q: usize, x: usize) -> bool
-    requires { ⌜ (q < 24) × (x < 32) ⌝ }
+fn has_top(words: &[u64; 40], q: usize, x: usize) -> bool
+    requires { ⌜ (q < 40) × (x < 64) ⌝ }
     ensures { λ r. ⌜ r ≡ has (now (words .entry)) q x ⌝ }
 {
     (words[q] >> x) % 2 == 1
 }
 
 // Word q gains the tops of w.
-fn add(words: &mut [u32; 24], q: usize, w: u32)
-    requires { ⌜ q < 24 ⌝ }
+fn add(words: &mut [u64; 40], q: usize, w: u64)
+    requires { ⌜ q < 40 ⌝ }
     ensures { λ _. ⌜ now (words .exit) ≡ add (now (words .entry)) q w ⌝ }
 {
     words[q] = words[q] | w;
 }
 
-// An initial state has bottom, numbered 24.
-fn start_words(states: &[u8]) -> [u32; 24]
-    requires { ⌜ length (now states) ≤ 24 ⌝ }
-    ensures { λ r. ⌜ r ≡ startWords standard (sectioned [] (now (states .entry)) [] [] []) ++ replicate (24 - length (now (states .entry))) 0 ⌝ }
+// An initial state has bottom, numbered 40.
+fn start_words(states: &[u8]) -> [u64; 40]
+    requires { ⌜ length (now states) ≤ 40 ⌝ }
+    ensures { λ r. ⌜ r ≡ startWords stateMost (sectioned [] (now (states .entry)) [] [] []) ++ replicate (40 - length (now (states .entry))) 0 ⌝ }
 {
-    let mut words = [0u32; 24];
+    let mut words = [0u64; 40];
     let mut q: usize = 0;
     'states: while q < states.len() {
         if states[q] % 2 == 1 {
-            words[q] = bit(24);
+            words[q] = bit(40);
         }
         q += 1;
     }
@@ -97,8 +97,8 @@ fn width_of(kind: Kind) -> usize
 
 // By an internal (q, a, q') the tops of q are tops of q'; by a call (q, a, q') the state q is one, if q has a top; by a live return (q, a, s, q')
 // the tops of s are.
-fn step(kind: Kind, from: usize, under: usize, to: usize, words: &mut [u32; 24])
-    requires { ⌜ (from < 24) × (under < 24) × (to < 24) ⌝ }
+fn step(kind: Kind, from: usize, under: usize, to: usize, words: &mut [u64; 40])
+    requires { ⌜ (from < 40) × (under < 40) × (to < 40) ⌝ }
     ensures { λ _. ⌜ now (words .exit) ≡ stepBy kind (now (words .entry)) from under to ⌝ }
 {
     match kind {
@@ -121,8 +121,8 @@ fn step(kind: Kind, from: usize, under: usize, to: usize, words: &mut [u32; 24])
 }
 
 // The records of a section, in file order.
-fn by_records(kind: Kind, section: &[u8], words: &mut [u32; 24])
-    requires { ⌜ Section (widthOf kind) 24 (now section) ⌝ }
+fn by_records(kind: Kind, section: &[u8], words: &mut [u64; 40])
+    requires { ⌜ Section (widthOf kind) 40 (now section) ⌝ }
     ensures { λ _. ⌜ now (words .exit) ≡ byRecords kind (records (widthOf kind) (now (section .entry))) (now (words .entry)) ⌝ }
 {
     let width = width_of(kind);
@@ -137,11 +137,13 @@ fn by_records(kind: Kind, section: &[u8], words: &mut [u32; 24])
     }
 }
 
-fn same_words(a: [u32; 24], b: [u32; 24]) -> bool
-    ensures { λ r. ⌜ r ≡ same a b ⌝ }
+// Whether the first n words are the same.
+fn same_words(a: [u64; 40], b: [u64; 40], n: usize) -> bool
+    requires { ⌜ n ≤ 40 ⌝ }
+    ensures { λ r. ⌜ r ≡ same (take n a) (take n b) ⌝ }
 {
     let mut i: usize = 0;
-    'words: while i < 24 {
+    'words: while i < n {
         if a[i] != b[i] {
             return false;
         }
@@ -150,8 +152,8 @@ fn same_words(a: [u32; 24], b: [u32; 24]) -> bool
     true
 }
 
-// All records pass until a round changes nothing; so many rounds are enough (proofs/Exact).
-fn rest(states: &[u8], internals: &[u8], calls: &[u8], returns: &[u8], words: &mut [u32; 24])
+// All records pass until a round changes nothing, which the words of the states tell; so many rounds are enough (proofs/Exact).
+fn rest(states: &[u8], internals: &[u8], calls: &[u8], returns: &[u8], words: &mut [u64; 40])
     requires { ⌜ Sections (now states) (now internals) (now calls) (now returns) ⌝ }
     ensures { λ _. ⌜ now (words .exit) ≡ rounds (suc (length (now (states .entry)) * suc (length (now (states .entry))))) (sectioned [] (now (states .entry)) (now (internals .entry)) (now (calls .entry)) (now (returns .entry))) (now (words .entry)) ⌝ }
 {
@@ -163,7 +165,7 @@ fn rest(states: &[u8], internals: &[u8], calls: &[u8], returns: &[u8], words: &m
         by_records(Kind::Call, calls, words);
         by_records(Kind::Return, returns, words);
         let new = *words;
-        if same_words(new, old) {
+        if same_words(new, old, n) {
             return;
         }
         left -= 1;
@@ -171,9 +173,9 @@ fn rest(states: &[u8], internals: &[u8], calls: &[u8], returns: &[u8], words: &m
 }
 
 // The top words of the table with these sections.
-fn words_of(states: &[u8], internals: &[u8], calls: &[u8], returns: &[u8]) -> [u32; 24]
+fn words_of(states: &[u8], internals: &[u8], calls: &[u8], returns: &[u8]) -> [u64; 40]
     requires { ⌜ Sections (now states) (now internals) (now calls) (now returns) ⌝ }
-    ensures { λ r. ⌜ r ≡ topWords standard (sectioned [] (now (states .entry)) (now (internals .entry)) (now (calls .entry)) (now (returns .entry))) ⌝ }
+    ensures { λ r. ⌜ r ≡ topWords (sectioned [] (now (states .entry)) (now (internals .entry)) (now (calls .entry)) (now (returns .entry))) ⌝ }
 {
     let mut words = start_words(states);
     rest(states, internals, calls, returns, &mut words);
@@ -181,19 +183,20 @@ fn words_of(states: &[u8], internals: &[u8], calls: &[u8], returns: &[u8]) -> [u
 }
 
 // The number of tops in a word: its ones.
-fn tops_in(word: u32) -> u32
-    ensures { λ r. ⌜ r ≡ onesIn 32 word ⌝ }
+fn tops_in(word: u64) -> u32
+    ensures { λ r. ⌜ r ≡ onesIn 64 word ⌝ }
 {
-    u32::count_ones(word)
+    u64::count_ones(word)
 }
 
-// The number of tops in all the words.
-pub fn count_tops(words: [u32; 24]) -> u32
-    ensures { λ r. ⌜ r ≡ onesOver 32 words ⌝ }
+// The number of tops in the first n words.
+fn count_tops(words: [u64; 40], n: usize) -> u32
+    requires { ⌜ n ≤ 40 ⌝ }
+    ensures { λ r. ⌜ r ≡ onesOver 64 (take n words) ⌝ }
 {
     let mut found: u32 = 0;
     let mut q: usize = 0;
-    'words: while q < 24 {
+    'words: while q < n {
         found += tops_in(words[q]);
         q += 1;
     }
@@ -203,37 +206,37 @@ pub fn count_tops(words: [u32; 24]) -> u32
 // The answer for the table with these sections.
 fn tops_of(states: &[u8], internals: &[u8], calls: &[u8], returns: &[u8]) -> TopWords
     requires { ⌜ Sections (now states) (now internals) (now calls) (now returns) ⌝ }
-    ensures { λ r. ⌜ r ≡ topsFound standard (sectioned [] (now (states .entry)) (now (internals .entry)) (now (calls .entry)) (now (returns .entry))) ⌝ }
+    ensures { λ r. ⌜ r ≡ topsFound (sectioned [] (now (states .entry)) (now (internals .entry)) (now (calls .entry)) (now (returns .entry))) ⌝ }
 {
     let words = words_of(states, internals, calls, returns);
     TopWords {
         number: 0,
         words: words,
-        found: count_tops(words),
+        found: count_tops(words, states.len()),
     }
 }
 
-// The lowest top of a word, 32 where it has none: its trailing zeros.
-pub fn next_top(word: u32) -> u32
-    ensures { λ r. ⌜ r ≡ trailingZeros 32 word ⌝ }
+// The lowest top of a word, 64 where it has none: its trailing zeros.
+pub fn next_top(word: u64) -> u32
+    ensures { λ r. ⌜ r ≡ trailingZeros 64 word ⌝ }
 {
-    u32::trailing_zeros(word)
+    u64::trailing_zeros(word)
 }
 
 // The word without its lowest top.
-pub fn later_tops(word: u32) -> u32
-    ensures { λ r. ⌜ r ≡ word - 2 ^ trailingZeros 32 word ⌝ }
+pub fn later_tops(word: u64) -> u64
+    ensures { λ r. ⌜ r ≡ word - 2 ^ trailingZeros 64 word ⌝ }
 {
     if word == 0 {
         return 0;
     }
-    word - (1u32 << u32::trailing_zeros(word))
+    word - (1u64 << u64::trailing_zeros(word))
 }
 
 // The tops of a table that was read: its sections are handed on as parts of the file.
 fn tops_read(table: &[u8], starts: Starts) -> TopWords
-    requires { ⌜ Readable standard (now table) × (starts ≡ startsOf (now table)) ⌝ }
-    ensures { λ r. ⌜ r ≡ topsOf standard (now (table .entry)) ⌝ }
+    requires { ⌜ HasRead (now table) starts ⌝ }
+    ensures { λ r. ⌜ r ≡ topsFound (tableOf (now (table .entry))) ⌝ }
 {
     tops_of(
         table::part(table, starts, table::Section::States),
@@ -243,11 +246,11 @@ fn tops_read(table: &[u8], starts: Starts) -> TopWords
     )
 }
 
-// Reads a table and works out its tops.
-pub fn examine(table: &[u8]) -> Examined
-    ensures { λ r. ⌜ r ≡ examinedOf standard (now (table .entry)) ⌝ }
+// Reads a table at limits and works out its tops.
+pub fn examine(limits: Limits, table: &[u8]) -> Examined
+    ensures { λ r. ⌜ r ≡ examinedOf limits (now (table .entry)) ⌝ }
 {
-    let reading = table::read(table);
+    let reading = table::read_within(limits, table);
     match reading {
         Reading::Sections(starts) => {
             let t = tops_read(table, starts);
@@ -268,22 +271,30 @@ pub fn examine(table: &[u8]) -> Examined
                 calls: 0,
                 returns: 0,
             },
-            words: [0u32; 24],
+            words: [0u64; 40],
             found: 0,
         },
     }
 }
 
-// The reachable tops of a table.
-pub fn tops(table: &[u8]) -> TopWords
-    ensures { λ r. ⌜ r ≡ topsOf standard (now (table .entry)) ⌝ }
-    ensures exact { λ r. ⌜ TopsExact standard (now (table .entry)) r ⌝ }
+// The reachable tops of a table that is read at limits.
+pub fn tops_within(limits: Limits, table: &[u8]) -> TopWords
+    ensures { λ r. ⌜ r ≡ topsOf limits (now (table .entry)) ⌝ }
+    ensures exact { λ r. ⌜ TopsExact limits (now (table .entry)) r ⌝ }
 {
-    let e = examine(table);
+    let e = examine(limits, table);
     let words = e.words;
     TopWords {
         number: e.number,
         words,
         found: e.found,
     }
+}
+
+// The reachable tops of a table, at the limits of a caller that gives none.
+pub fn tops(table: &[u8]) -> TopWords
+    ensures { λ r. ⌜ r ≡ topsOf standard (now (table .entry)) ⌝ }
+    ensures exact { λ r. ⌜ TopsExact standard (now (table .entry)) r ⌝ }
+{
+    tops_within(limits::standard(), table)
 }

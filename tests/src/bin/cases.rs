@@ -17,7 +17,7 @@ use frames::{Cases, Room};
 use named::{faults, joined_stack_symbols, longest, more_faults, not_transitive, one_undone, one_way, pigeons};
 use named::{silent, t, t_with_call, t_with_return, two_undone, unreachable_stack};
 use random::Random;
-use reference::Table;
+use reference::{Limits, Table, LARGEST, STANDARD};
 
 /// The words of a table's clause list.
 fn words_needed(table: &Table) -> usize {
@@ -104,7 +104,7 @@ fn searching(c: &mut Cases, r: &mut Random) {
 fn marked(c: &mut Cases) {
     let b = t().bytes();
     assert_eq!(b, named::T);
-    let bottom = 1 << reference::BOTTOM;
+    let bottom = 1u64 << reference::BOTTOM;
     let (words, found) = c.tops(&b).unwrap();
     assert_eq!((&words[..5], found), (&[bottom, 1, bottom, bottom, 0][..], 4));
     assert_eq!(c.clauses(&b, 72), Ok((23, 72)));
@@ -194,7 +194,7 @@ fn tempting(c: &mut Cases) {
     let dead = unreachable_stack();
     assert_eq!(c.check(&dead.bytes(), &[0, 1, 1, 2]), Ok(3));
     assert_eq!(c.quotient(&dead.bytes(), &[0, 1, 1, 2], 40), Ok(named::T_REDUCED.to_vec()));
-    let mut kept = reference::parse(&named::T_REDUCED).unwrap().0;
+    let mut kept = reference::parse(STANDARD, &named::T_REDUCED).unwrap().0;
     kept.returns.insert(0, [1, 2, 0, 0]);
     let word = [1, 2, 1, 2];
     assert!(reference::accepts(&kept, &word) && !reference::accepts(&dead, &word) && !reference::accepts(&t(), &word));
@@ -345,7 +345,7 @@ fn random_tables(c: &mut Cases, r: &mut Random) {
             1 => c.quotient(&d, &delivered, r.below(40)).err(),
             _ => c.reduce(&d, 9, Room { list: r.below(90), map: 7, out: r.below(60) }).0.err(),
         };
-        assert!(reference::read(&d).is_ok() || reference::read(&d).err() == number);
+        assert!(reference::read(STANDARD, &d).is_ok() || reference::read(STANDARD, &d).err() == number);
     }
 }
 
@@ -370,7 +370,7 @@ fn large_tables(c: &mut Cases, r: &mut Random) {
     for one in [true, false] {
         let b = large_table(r, 24, one, 1500).bytes();
         let (mut map, mut out) = ([0; 24], [0; 1500]);
-        let length = reference::reduce(&b, 100_000, &mut vec![0; 1_000_000], &mut map, &mut out).unwrap().3;
+        let length = reference::reduce(STANDARD, &b, 100_000, &mut vec![0; 1_000_000], &mut map, &mut out).unwrap().3;
         c.check(&b, &map).unwrap();
         assert_eq!(c.quotient(&b, &map, length), Ok(out[..length].to_vec()));
         let apart: Vec<u8> = (0..24).collect();
@@ -380,10 +380,100 @@ fn large_tables(c: &mut Cases, r: &mut Random) {
     }
 }
 
+/// A table of so many states and symbols, none of them with a record.
+fn bare(states: usize, symbols: usize) -> Vec<u8> {
+    let mut table = silent(&[vec![1], vec![2; states - 1]].concat());
+    table.symbols = vec![2; symbols];
+    table.bytes()
+}
+
+/// 39 before every other number of every operation; zero, and one past its maximum, of each limit.
+fn no_limits(c: &mut Cases) {
+    for (states, symbols) in [(0, 32), (24, 0), (41, 64), (40, 65), (0, 0), (255, 255)] {
+        c.limits = Limits { states, symbols };
+        for b in [&[][..], &named::T, &bare(41, 65)] {
+            assert_eq!(c.read(b), Err(39));
+            assert_eq!(c.tops(b), Err(39));
+            assert_eq!(c.clauses(b, 3), Err(39));
+            assert_eq!(c.check(b, &[9]), Err(39));
+            assert_eq!(c.quotient(b, &[0, 1, 1, 2], 9), Err(39));
+            assert_eq!(c.reduce(b, 1, Room { list: 2, map: 1, out: 3 }).0, Err(39));
+        }
+        assert_eq!(c.search(&[2, 0], 900, 9, 0), Err(39));
+        assert_eq!(c.search(&[0], 0, 9, 2), Err(39));
+    }
+}
+
+/// Counts, lengths and variables at the limits in force, and one past them.
+fn at_limits(c: &mut Cases) {
+    for (states, symbols) in [(1, 1), (24, 32), (25, 33), (24, 64), (40, 32), (40, 64)] {
+        c.limits = Limits { states, symbols };
+        assert!(c.read(&bare(states, symbols)).is_ok());
+        assert_eq!(c.read(&bare(states + 1, symbols)), Err(4));
+        assert_eq!(c.read(&bare(states, symbols + 1)), Err(4));
+        assert_eq!(c.tops(&bare(states, symbols)).unwrap().1, 1);
+        assert_eq!(c.check(&bare(states + 1, 0), &[0]), Err(4));
+        if (states, symbols) == (1, 1) || c.limits == LARGEST {
+            let longest = states + symbols + 22_540;
+            assert_eq!(c.read(&vec![0; longest]), Err(2));
+            assert_eq!(c.read(&vec![0; longest + 1]), Err(1));
+        }
+        let variables = states * (states - 1) / 2;
+        assert_eq!(c.search(&[], variables, 900, variables).unwrap().0, variables as u64);
+        assert_eq!(c.search(&[], variables + 1, 900, variables + 1), Err(11));
+        let last: Vec<u8> = (0..states as u8).collect();
+        assert_eq!(c.check(&bare(states, symbols), &last), Ok(states));
+        assert_eq!(c.quotient(&bare(states, symbols), &last, 200), Ok(bare(states, symbols)));
+    }
+}
+
+/// Bottom is bit 40 whatever the limits: state 24 is a state, and a return over it on the empty stack is dead.
+fn state_24(c: &mut Cases) {
+    let mut table = silent(&[vec![1], vec![2; 24]].concat());
+    table.symbols = vec![1, 2];
+    table.returns = vec![[0, 1, 24, 1]];
+    let apart: Vec<u8> = (0..25).collect();
+    for limits in [Limits { states: 25, symbols: 2 }, LARGEST] {
+        c.limits = limits;
+        let (words, found) = c.tops(&table.bytes()).unwrap();
+        assert_eq!((words[0], found), (1 << 40, 1));
+        let dropped = Table { returns: vec![], ..table.clone() };
+        assert_eq!(c.quotient(&table.bytes(), &apart, 60), Ok(dropped.bytes()));
+        let mut called = table.clone();
+        called.states[24] = 1;
+        called.calls = vec![[24, 0, 0]];
+        assert_eq!(c.tops(&called.bytes()).unwrap().0[0], (1 << 40) + (1 << 24));
+        assert_eq!(c.quotient(&called.bytes(), &apart, 60), Ok(called.bytes()));
+    }
+    c.limits = STANDARD;
+    assert_eq!(c.tops(&table.bytes()), Err(4));
+}
+
+/// Reductions at other limits: T at its own counts and at the largest, and 30 states whose list is too long for the buffer.
+fn reduced_within(c: &mut Cases, r: &mut Random) {
+    for limits in [Limits { states: 4, symbols: 3 }, LARGEST] {
+        c.limits = limits;
+        let (answer, map, out) = c.reduce(&named::T, 1, Room { list: 72, map: 4, out: 31 });
+        assert_eq!(answer, Ok((3, 1, 72, 31)));
+        assert_eq!((&map[..], &out[..]), (&[0, 1, 1, 2][..], &named::T_REDUCED[..]));
+        assert_eq!(c.clauses(&named::T, 72), Ok((23, 72)));
+    }
+    for limits in [Limits { states: 3, symbols: 3 }, Limits { states: 4, symbols: 2 }] {
+        c.limits = limits;
+        assert_eq!(c.reduce(&named::T, 1, Room { list: 72, map: 4, out: 31 }).0, Err(4));
+        assert_eq!(c.clauses(&named::T, 72), Err(4));
+    }
+    c.limits = LARGEST;
+    let b = large_table(r, 30, false, 900).bytes();
+    assert_eq!(c.reduce(&b, 9, Room { list: 60, map: 30, out: 12 }).0, Err(10));
+    assert_eq!(c.reduce(&b, 9, Room { list: 60, map: 29, out: 12 }).0, Err(22));
+    c.limits = STANDARD;
+}
+
 /// Writes the cases and their lines.
 fn main() {
     let root = std::env::args().nth(1).expect("the repository's folder");
-    let mut c = Cases::default();
+    let mut c = Cases::new();
     let mut r = Random::new(1);
     reading(&mut c, &mut r);
     searching(&mut c, &mut r);
@@ -396,6 +486,10 @@ fn main() {
     undone_guesses(&mut c);
     random_tables(&mut c, &mut r);
     large_tables(&mut c, &mut r);
+    no_limits(&mut c);
+    at_limits(&mut c);
+    state_24(&mut c);
+    reduced_within(&mut c, &mut r);
     println!("cases of the operations 1 to 7: {:?}; {} bytes", &c.counts[1..], c.input.len() + c.output.len());
     std::fs::write(format!("{root}/crates/cases/stdin"), &c.input).unwrap();
     std::fs::write(format!("{root}/crates/cases/stdout"), &c.output).unwrap();

@@ -9,17 +9,20 @@ use borrow.Author.Needs.{needs}
 use Rattle.basilvault.proofs.reduce_lent.Statement.{statement}
 use Rattle.basilvault.proofs.reduce_lent.Tie as tie
 
-slice-aggregate-reduce : tie.Need-slice-aggregate-reduce
-slice-aggregate-reduce c = search needs
+slice-aggregate-reduce-within : tie.Need-slice-aggregate-reduce-within
+slice-aggregate-reduce-within c = search needs
 
-slice-aggregate-reduce-2 : tie.Need-slice-aggregate-reduce-2
-slice-aggregate-reduce-2 c = search needs
+slice-aggregate-reduce-within-2 : tie.Need-slice-aggregate-reduce-within-2
+slice-aggregate-reduce-within-2 c = search needs
 
-slice-aggregate-reduce-3 : tie.Need-slice-aggregate-reduce-3
-slice-aggregate-reduce-3 c = search needs
+slice-aggregate-reduce-within-3 : tie.Need-slice-aggregate-reduce-within-3
+slice-aggregate-reduce-within-3 c = search needs
 
-reduce-requires : tie.Need-reduce-requires
-reduce-requires c κs = search needs
+widest-requires : tie.Need-widest-requires
+widest-requires c κs = search needs
+
+reduce-within-requires : tie.Need-reduce-within-requires
+reduce-within-requires c κs = search needs
 
 enum-known-answer : tie.Need-enum-known-answer
 enum-known-answer c = search needs
@@ -34,16 +37,16 @@ array-share-prefix-map : tie.Need-array-share-prefix-map
 array-share-prefix-map c = search needs
 
 slice-aggregate-say-map : tie.Need-slice-aggregate-say-map
-slice-aggregate-say-map c = sym (length-take-le _ _ (omega (arith, c .before .before .state-count .ensures .0, c .before .before .before .before .before .before .before .before .before .reduce .kept .1 .1 .1 .0, length-replicate {A = ℕ} 24 0)))
+slice-aggregate-say-map c = sym (length-take-le _ _ (omega (arith, c .before .before .state-count .ensures .0, c .before .before .before .before .before .before .before .before .before .reduce-within .kept .1 .1 .1 .1 .0, length-replicate {A = ℕ} 40 0)))
 
 say-map-requires : tie.Need-say-map-requires
 say-map-requires c κs = search needs
 
 array-share-prefix-out : tie.Need-array-share-prefix-out
-array-share-prefix-out c = omega (arith, delivered-fits _ 100000 _ _ _ (c .before .before .before .before .before .before .before .before .before .before .reduce .ensures .0) (c .before .before .before .before .before .answer .given .1), length-replicate {A = ℕ} 22596 0, c .before .before .before .before .before .before .before .before .before .before .reduce .kept .1 .1 .1 .1 .0)
+array-share-prefix-out c = omega (arith, delivered-fits _ _ 100000 _ _ _ (c .before .before .before .before .before .before .before .before .before .before .reduce-within .ensures .0) (c .before .before .before .before .before .answer .given .1), length-replicate {A = ℕ} 22644 0, c .before .before .before .before .before .before .before .before .before .before .reduce-within .kept .1 .1 .1 .1 .1 .0)
 
 slice-aggregate-say-table : tie.Need-slice-aggregate-say-table
-slice-aggregate-say-table c = sym (length-take-le _ _ (omega (arith, delivered-fits _ 100000 _ _ _ (c .before .before .before .before .before .before .before .before .before .before .before .reduce .ensures .0) (c .before .before .before .before .before .before .answer .given .1), length-replicate {A = ℕ} 22596 0, c .before .before .before .before .before .before .before .before .before .before .before .reduce .kept .1 .1 .1 .1 .0)))
+slice-aggregate-say-table c = sym (length-take-le _ _ (omega (arith, delivered-fits _ _ 100000 _ _ _ (c .before .before .before .before .before .before .before .before .before .before .before .reduce-within .ensures .0) (c .before .before .before .before .before .before .answer .given .1), length-replicate {A = ℕ} 22644 0, c .before .before .before .before .before .before .before .before .before .before .before .reduce-within .kept .1 .1 .1 .1 .1 .0)))
 
 say-table-requires : tie.Need-say-table-requires
 say-table-requires c κs = search needs
@@ -76,10 +79,11 @@ pub reduce-lent-spec : {M : Type 1} → statement M
 reduce-lent-spec =
     tie.close
     (tie.spec
-    slice-aggregate-reduce
-    slice-aggregate-reduce-2
-    slice-aggregate-reduce-3
-    reduce-requires
+    widest-requires
+    slice-aggregate-reduce-within
+    slice-aggregate-reduce-within-2
+    slice-aggregate-reduce-within-3
+    reduce-within-requires
     enum-known-answer
     state-count-requires
     say-counts-requires

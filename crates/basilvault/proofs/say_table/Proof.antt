@@ -10,7 +10,7 @@ use Rattle.basilvault.proofs.say_table.Statement.{statement}
 use Rattle.basilvault.proofs.say_table.Tie as tie
 
 returns : tie.Need-returns
-returns c = sym (lt-leb _ 22596 (c .if1 .taken))
+returns c = sym (lt-leb _ 22644 (c .if1 .taken))
 
 slice-aggregate-put-hex : tie.Need-slice-aggregate-put-hex
 slice-aggregate-put-hex c = search needs
@@ -31,7 +31,7 @@ array-share-prefix-text : tie.Need-array-share-prefix-text
 array-share-prefix-text c = search needs
 
 slice-aggregate-say-2 : tie.Need-slice-aggregate-say-2
-slice-aggregate-say-2 c = sym (length-take-le _ _ (omega (arith, c .before .before .before .before .before .before .if1 .left, c .before .before .before .before .put-hex .kept .1 .0, length-replicate {A = ℕ} 67788 0)))
+slice-aggregate-say-2 c = sym (length-take-le _ _ (omega (arith, c .before .before .before .before .before .before .if1 .left, c .before .before .before .before .put-hex .kept .1 .0, length-replicate {A = ℕ} 67932 0)))
 
 say-requires-2 : tie.Need-say-requires-2
 say-requires-2 c κs = search needs
@@ -43,7 +43,7 @@ say-requires-3 : tie.Need-say-requires-3
 say-requires-3 c κs = search needs
 
 returns-2 : tie.Need-returns-2
-returns-2 c = sym (le-leb _ 22596 (c .before .before .before .before .before .before .before .before .before .if1 .left))
+returns-2 c = sym (le-leb _ 22644 (c .before .before .before .before .before .before .before .before .before .if1 .left))
 
 pub say-table-spec : {M : Type 1} → statement M
 say-table-spec =

@@ -1,15 +1,18 @@
 -- `basilvault::state_count` meets its contract. Assumes nothing.
 use mathlib.Core.Path.{sym, _∙_}
 use native.Mathlib.Omega.{arith}
-use Rattle.table.specs.Limits.{standard}
+use Rattle.basilvault.specs.Program.{widest}
 use Rattle.table.proofs.Handed.{read-as, read-refused}
 use Rattle.reduce.proofs.Stages.{states-count, states-few}
 use borrow.Author.Needs.{needs}
 use Rattle.basilvault.proofs.state_count.Statement.{statement}
 use Rattle.basilvault.proofs.state_count.Tie as tie
 
-read-requires : tie.Need-read-requires
-read-requires c κs = search needs
+widest-requires : tie.Need-widest-requires
+widest-requires c κs = search needs
+
+read-within-requires : tie.Need-read-within-requires
+read-within-requires c κs = search needs
 
 enum-known-reading : tie.Need-enum-known-reading
 enum-known-reading c = search needs
@@ -22,14 +25,17 @@ enum-told c = search needs
 
 returns : tie.Need-returns
 returns c =
-    let h = read-as standard (c .before .before .before .before .before .before .args .table .now) _ (sym (c .before .before .before .before .read .ensures) ∙ c .before .before .reading .given .1) in
-    (omega (arith, states-count h (c .part .ensures), states-few (c .before .before .before .before .before .before .args .table .now) (h .readable)), λ _. states-count h (c .part .ensures))
+    let b = c .before .before .before .before .before .before .before .args .table .now in
+    let e = rw (c .before .before .before .before .before .widest .ensures) at (c .before .before .before .before .read-within .ensures) in
+    let h = read-as widest b _ (sym e ∙ c .before .before .reading .given .1) in
+    (omega (arith, states-count h (c .part .ensures), states-few widest b (h .readable)), λ _. states-count h (c .part .ensures))
 
 returns-2 : tie.Need-returns-2
 returns-2 c =
-    let r = read-refused standard (c .before .before .before .before .args .table .now) _ (sym (c .before .before .read .ensures) ∙ c .enum-told .given .1) in
+    let e = rw (c .before .before .before .widest .ensures) at (c .before .before .read-within .ensures) in
+    let r = read-refused widest (c .before .before .before .before .before .args .table .now) _ (sym e ∙ c .enum-told .given .1) in
     (omega arith, λ e. absurd (r .1 (sym (r .0) ∙ e)))
 
 pub state-count-spec : {M : Type 1} → statement M
 state-count-spec =
-    tie.close (tie.spec read-requires enum-known-reading part-requires enum-told returns returns-2)
+    tie.close (tie.spec widest-requires read-within-requires enum-known-reading part-requires enum-told returns returns-2)

@@ -1,57 +1,16 @@
--- `capi::basilvault_check` meets its contract: the answer as a number, buffers and values. Assumes nothing.
+-- `capi::basilvault_check` meets its contract: the same at the limits of a caller that gives none. Assumes nothing.
 use borrow.Author.Needs.{needs}
-use mathlib.Core.Path.{ap, _∙_}
-use Rattle.maps.specs.Check.{checkedNumber, checkedValues}
-use Rattle.capi.specs.Answers.{checkOut}
-use Rattle.capi.proofs.Answering.{answered, refused}
 use Rattle.capi.proofs.basilvault_check.Statement.{statement}
 use Rattle.capi.proofs.basilvault_check.Tie as tie
 
-check-requires : tie.Need-check-requires
-check-requires c κs = search needs
-
-enum-known-checked : tie.Need-enum-known-checked
-enum-known-checked c = search needs
-
-slice-aggregate-store : tie.Need-slice-aggregate-store
-slice-aggregate-store c = search needs
-
-store-requires : tie.Need-store-requires
-store-requires c κs = search needs
-
-enum-known-checked-2 : tie.Need-enum-known-checked-2
-enum-known-checked-2 c = search needs
-
-cast-result : tie.Need-cast-result
-cast-result c = search needs
+basilvault-check-within-requires : tie.Need-basilvault-check-within-requires
+basilvault-check-within-requires c κs = search needs
 
 same-length : tie.Need-same-length
 same-length c = search needs
 
 returns : tie.Need-returns
-unfolding checkOut checkedNumber checkedValues
-returns c =
-    let f = c .before .before .before .before .before .before .checked .given .1 in
-    answered _ (ap checkedNumber f) (ap checkedValues f) (c .before .before .store .ensures)
-    ∙ ap (checkOut _) (c .before .before .before .before .before .before .before .before .check .ensures .0)
-
-returns-2 : tie.Need-returns-2
-unfolding checkOut checkedNumber checkedValues
-returns-2 c =
-    let f = c .before .checked2 .given .1 in
-    refused _ (ap checkedNumber f) (ap checkedValues f)
-    ∙ ap (checkOut _) (c .before .before .before .check .ensures .0)
+returns c = c .before .before .basilvault-check-within .ensures
 
 pub basilvault-check-spec : {M : Type 1} → statement M
-basilvault-check-spec =
-    tie.close
-    (tie.spec
-    check-requires
-    enum-known-checked
-    slice-aggregate-store
-    store-requires
-    enum-known-checked-2
-    cast-result
-    same-length
-    returns
-    returns-2)
+basilvault-check-spec = tie.close (tie.spec basilvault-check-within-requires same-length returns)

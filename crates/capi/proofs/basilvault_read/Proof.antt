@@ -1,57 +1,16 @@
--- `capi::basilvault_read` meets its contract: the answer as a number, buffers and values. Assumes nothing.
+-- `capi::basilvault_read` meets its contract: the same at the limits of a caller that gives none. Assumes nothing.
 use borrow.Author.Needs.{needs}
-use mathlib.Core.Path.{ap, _∙_}
-use Rattle.table.specs.Reading.{readingNumber, readingValues}
-use Rattle.capi.specs.Answers.{readOut}
-use Rattle.capi.proofs.Answering.{answered, refused}
 use Rattle.capi.proofs.basilvault_read.Statement.{statement}
 use Rattle.capi.proofs.basilvault_read.Tie as tie
 
-read-requires : tie.Need-read-requires
-read-requires c κs = search needs
-
-enum-known-reading : tie.Need-enum-known-reading
-enum-known-reading c = search needs
-
-slice-aggregate-store : tie.Need-slice-aggregate-store
-slice-aggregate-store c = search needs
-
-store-requires : tie.Need-store-requires
-store-requires c κs = search needs
-
-enum-known-reading-2 : tie.Need-enum-known-reading-2
-enum-known-reading-2 c = search needs
-
-cast-result : tie.Need-cast-result
-cast-result c = search needs
+basilvault-read-within-requires : tie.Need-basilvault-read-within-requires
+basilvault-read-within-requires c κs = search needs
 
 same-length : tie.Need-same-length
 same-length c = search needs
 
 returns : tie.Need-returns
-unfolding readOut readingNumber readingValues
-returns c =
-    let f = c .before .before .before .before .before .before .reading .given .1 in
-    answered _ (ap readingNumber f) (ap readingValues f) (c .before .before .store .ensures)
-    ∙ ap (readOut _) (c .before .before .before .before .before .before .before .before .read .ensures)
-
-returns-2 : tie.Need-returns-2
-unfolding readOut readingNumber readingValues
-returns-2 c =
-    let f = c .before .reading2 .given .1 in
-    refused _ (ap readingNumber f) (ap readingValues f)
-    ∙ ap (readOut _) (c .before .before .before .read .ensures)
+returns c = c .before .before .basilvault-read-within .ensures
 
 pub basilvault-read-spec : {M : Type 1} → statement M
-basilvault-read-spec =
-    tie.close
-    (tie.spec
-    read-requires
-    enum-known-reading
-    slice-aggregate-store
-    store-requires
-    enum-known-reading-2
-    cast-result
-    same-length
-    returns
-    returns-2)
+basilvault-read-spec = tie.close (tie.spec basilvault-read-within-requires same-length returns)

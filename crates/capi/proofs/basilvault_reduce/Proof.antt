@@ -1,29 +1,10 @@
--- `capi::basilvault_reduce` meets its contract: the answer as a number, buffers and values. Assumes nothing.
+-- `capi::basilvault_reduce` meets its contract: the same at the limits of a caller that gives none. Assumes nothing.
 use borrow.Author.Needs.{needs}
-use mathlib.Core.Path.{ap, _∙_}
-use Rattle.reduce.specs.Reduce.{reductionNumber, reductionValues}
-use Rattle.capi.specs.Answers.{reduceOut}
-use Rattle.capi.proofs.Answering.{answered, refused}
 use Rattle.capi.proofs.basilvault_reduce.Statement.{statement}
 use Rattle.capi.proofs.basilvault_reduce.Tie as tie
 
-reduce-requires : tie.Need-reduce-requires
-reduce-requires c κs = search needs
-
-enum-known-reduction : tie.Need-enum-known-reduction
-enum-known-reduction c = search needs
-
-slice-aggregate-store : tie.Need-slice-aggregate-store
-slice-aggregate-store c = search needs
-
-store-requires : tie.Need-store-requires
-store-requires c κs = search needs
-
-enum-known-reduction-2 : tie.Need-enum-known-reduction-2
-enum-known-reduction-2 c = search needs
-
-cast-result : tie.Need-cast-result
-cast-result c = search needs
+basilvault-reduce-within-requires : tie.Need-basilvault-reduce-within-requires
+basilvault-reduce-within-requires c κs = search needs
 
 same-length : tie.Need-same-length
 same-length c = search needs
@@ -38,45 +19,7 @@ same-length-4 : tie.Need-same-length-4
 same-length-4 c = search needs
 
 returns : tie.Need-returns
-unfolding reduceOut reductionNumber reductionValues
-returns c =
-    let e = c .before .before .before .before .before .before in
-    let f = e .reduction .given .1 in
-    answered _ (ap reductionNumber f) (ap reductionValues f) (c .before .before .store .ensures)
-    ∙ ap (reduceOut _) (e .before .before .before .before .before .before .before .before .reduce .ensures .0)
-
-same-length-5 : tie.Need-same-length-5
-same-length-5 c = search needs
-
-same-length-6 : tie.Need-same-length-6
-same-length-6 c = search needs
-
-same-length-7 : tie.Need-same-length-7
-same-length-7 c = search needs
-
-returns-2 : tie.Need-returns-2
-unfolding reduceOut reductionNumber reductionValues
-returns-2 c =
-    let f = c .before .reduction2 .given .1 in
-    refused _ (ap reductionNumber f) (ap reductionValues f)
-    ∙ ap (reduceOut _) (c .before .before .before .before .before .before .before .before .before .reduce .ensures .0)
+returns c = c .before .before .before .before .before .before .before .before .basilvault-reduce-within .ensures
 
 pub basilvault-reduce-spec : {M : Type 1} → statement M
-basilvault-reduce-spec =
-    tie.close
-    (tie.spec
-    reduce-requires
-    enum-known-reduction
-    slice-aggregate-store
-    store-requires
-    enum-known-reduction-2
-    cast-result
-    same-length
-    same-length-2
-    same-length-3
-    same-length-4
-    returns
-    same-length-5
-    same-length-6
-    same-length-7
-    returns-2)
+basilvault-reduce-spec = tie.close (tie.spec basilvault-reduce-within-requires same-length same-length-2 same-length-3 same-length-4 returns)

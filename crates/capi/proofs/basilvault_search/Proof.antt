@@ -1,29 +1,10 @@
--- `capi::basilvault_search` meets its contract: the answer as a number, buffers and values. Assumes nothing.
+-- `capi::basilvault_search` meets its contract: the same at the limits of a caller that gives none. Assumes nothing.
 use borrow.Author.Needs.{needs}
-use mathlib.Core.Path.{ap, _∙_}
-use Rattle.search.specs.Answers.{solutionNumber, solutionValues}
-use Rattle.capi.specs.Answers.{searchOut}
-use Rattle.capi.proofs.Answering.{answered, refused}
 use Rattle.capi.proofs.basilvault_search.Statement.{statement}
 use Rattle.capi.proofs.basilvault_search.Tie as tie
 
-search-requires : tie.Need-search-requires
-search-requires c κs = search needs
-
-enum-known-solution : tie.Need-enum-known-solution
-enum-known-solution c = search needs
-
-slice-aggregate-store : tie.Need-slice-aggregate-store
-slice-aggregate-store c = search needs
-
-store-requires : tie.Need-store-requires
-store-requires c κs = search needs
-
-enum-known-solution-2 : tie.Need-enum-known-solution-2
-enum-known-solution-2 c = search needs
-
-cast-result : tie.Need-cast-result
-cast-result c = search needs
+basilvault-search-within-requires : tie.Need-basilvault-search-within-requires
+basilvault-search-within-requires c κs = search needs
 
 same-length : tie.Need-same-length
 same-length c = search needs
@@ -32,34 +13,7 @@ same-length-2 : tie.Need-same-length-2
 same-length-2 c = search needs
 
 returns : tie.Need-returns
-unfolding searchOut solutionNumber solutionValues
-returns c =
-    let f = c .before .before .before .before .before .before .solution .given .1 in
-    answered _ (ap solutionNumber f) (ap solutionValues f) (c .before .before .store .ensures)
-    ∙ ap (searchOut _) (c .before .before .before .before .before .before .before .before .before .before .search .ensures .0)
-
-same-length-3 : tie.Need-same-length-3
-same-length-3 c = search needs
-
-returns-2 : tie.Need-returns-2
-unfolding searchOut solutionNumber solutionValues
-returns-2 c =
-    let f = c .before .solution2 .given .1 in
-    refused _ (ap solutionNumber f) (ap solutionValues f)
-    ∙ ap (searchOut _) (c .before .before .before .before .before .search .ensures .0)
+returns c = c .before .before .before .before .basilvault-search-within .ensures
 
 pub basilvault-search-spec : {M : Type 1} → statement M
-basilvault-search-spec =
-    tie.close
-    (tie.spec
-    search-requires
-    enum-known-solution
-    slice-aggregate-store
-    store-requires
-    enum-known-solution-2
-    cast-result
-    same-length
-    same-length-2
-    returns
-    same-length-3
-    returns-2)
+basilvault-search-spec = tie.close (tie.spec basilvault-search-within-requires same-length same-length-2 returns)

@@ -1,49 +1,16 @@
--- `capi::basilvault_tops` meets its contract: the answer as a number and values. Assumes nothing.
+-- `capi::basilvault_tops` meets its contract: the same at the limits of a caller that gives none. Assumes nothing.
 use borrow.Author.Needs.{needs}
-use mathlib.Core.Path.{refl, sym, ap, _∙_}
-use Rattle.capi.specs.Answers.{topsOut}
-use Rattle.capi.proofs.Answering.{answered, refused, tops-found, tops-refused}
 use Rattle.capi.proofs.basilvault_tops.Statement.{statement}
 use Rattle.capi.proofs.basilvault_tops.Tie as tie
 
-tops-requires : tie.Need-tops-requires
-tops-requires c κs = search needs
-
-cast-result : tie.Need-cast-result
-cast-result c = search needs
-
-returns : tie.Need-returns
-unfolding topsOut
-returns c = refused _ refl (tops-refused (c .before .tops .result) (c .if1 .taken)) ∙ ap (topsOut _) (c .before .tops .ensures .0)
-
-words-and-count-requires : tie.Need-words-and-count-requires
-words-and-count-requires c κs = search needs
-
-slice-aggregate-store : tie.Need-slice-aggregate-store
-slice-aggregate-store c = search needs
-
-store-requires : tie.Need-store-requires
-store-requires c κs = search needs
+basilvault-tops-within-requires : tie.Need-basilvault-tops-within-requires
+basilvault-tops-within-requires c κs = search needs
 
 same-length : tie.Need-same-length
 same-length c = search needs
 
-returns-2 : tie.Need-returns-2
-unfolding topsOut
-returns-2 c =
-    let e = c .before .before .before .before .before .before .before in
-    let f = tops-found (e .before .tops .result) (e .if1 .left) ∙ sym (c .before .before .before .before .before .words-and-count .ensures) in
-    answered _ (e .if1 .left) f (c .before .before .store .ensures) ∙ ap (topsOut _) (e .before .tops .ensures .0)
+returns : tie.Need-returns
+returns c = c .before .before .basilvault-tops-within .ensures
 
 pub basilvault-tops-spec : {M : Type 1} → statement M
-basilvault-tops-spec =
-    tie.close
-    (tie.spec
-    tops-requires
-    cast-result
-    returns
-    words-and-count-requires
-    slice-aggregate-store
-    store-requires
-    same-length
-    returns-2)
+basilvault-tops-spec = tie.close (tie.spec basilvault-tops-within-requires same-length returns)

@@ -9,10 +9,10 @@ use Rattle.capi.proofs.words_and_count.Statement.{statement}
 use Rattle.capi.proofs.words_and_count.Tie as tie
 
 abbrev Inv-words : tie.InvT-words
-Inv-words found words all₀ q₀ all q = Writing words (replicate 25 found) all q
+Inv-words found words all₀ q₀ all q = Writing words (replicate 41 found) all q
 
 abbrev μ-words : tie.MeasureT-words
-μ-words found words all₀ q₀ all q = 24 - q
+μ-words found words all₀ q₀ all q = 40 - q
 
 words-holds : tie.Need-words-holds Inv-words μ-words
 words-holds c = writing (search needs)
@@ -22,9 +22,6 @@ mul-all c = search needs
 
 array-read-all : tie.Need-array-read-all Inv-words μ-words
 array-read-all c = search needs
-
-cast-all : tie.Need-cast-all Inv-words μ-words
-cast-all c = search needs
 
 mul-all-2 : tie.Need-mul-all-2 Inv-words μ-words
 mul-all-2 c = search needs
@@ -53,7 +50,6 @@ words-and-count-spec =
     words-holds
     mul-all
     array-read-all
-    cast-all
     mul-all-2
     array-write-all
     add-q

@@ -1,5 +1,4 @@
 -- `cases::next_case` is safe and ends. Assumes nothing.
-use Prim.Native.Nat.{_-_}
 use native.Mathlib.Omega.{arith}
 use lib.ListN.{length-take}
 use borrow.Author.Needs.{needs}
@@ -26,6 +25,18 @@ array-read-wide-2 c = search needs
 
 wide-requires-2 : tie.Need-wide-requires-2
 wide-requires-2 c κs = search needs
+
+array-read-wide-3 : tie.Need-array-read-wide-3
+array-read-wide-3 c = search needs
+
+wide-requires-3 : tie.Need-wide-requires-3
+wide-requires-3 c κs = search needs
+
+array-read-wide-4 : tie.Need-array-read-wide-4
+array-read-wide-4 c = search needs
+
+wide-requires-4 : tie.Need-wide-requires-4
+wide-requires-4 c κs = search needs
 
 mul-n : tie.Need-mul-n
 mul-n c = search needs
@@ -65,6 +76,10 @@ next-case-spec =
     wide-requires
     array-read-wide-2
     wide-requires-2
+    array-read-wide-3
+    wide-requires-3
+    array-read-wide-4
+    wide-requires-4
     mul-n
     add-n
     returns-2

@@ -1,5 +1,4 @@
 -- `cases::say_found` is safe and ends. Assumes nothing.
-use Prim.Native.Nat.{_-_}
 use native.Mathlib.Omega.{arith}
 use lib.ListN.{length-take}
 use borrow.Author.Needs.{needs}
@@ -30,11 +29,11 @@ slice-relend-prefix-answer c = search needs
 slice-aggregate-answer : tie.Need-slice-aggregate-answer
 slice-aggregate-answer c = simp length-take (omega arith)
 
-slice-aggregate-search : tie.Need-slice-aggregate-search
-slice-aggregate-search c = simp length-take (omega arith)
+slice-aggregate-search-within : tie.Need-slice-aggregate-search-within
+slice-aggregate-search-within c = simp length-take (omega arith)
 
-search-requires : tie.Need-search-requires
-search-requires c κs = search needs
+search-within-requires : tie.Need-search-within-requires
+search-within-requires c κs = search needs
 
 enum-known-solution : tie.Need-enum-known-solution
 enum-known-solution c = search needs
@@ -81,8 +80,8 @@ say-found-spec =
     returns-2
     slice-relend-prefix-answer
     slice-aggregate-answer
-    slice-aggregate-search
-    search-requires
+    slice-aggregate-search-within
+    search-within-requires
     enum-known-solution
     number-requires
     number-requires-2

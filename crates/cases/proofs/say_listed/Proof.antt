@@ -20,8 +20,8 @@ slice-relend-prefix-list c = search needs
 slice-aggregate-list : tie.Need-slice-aggregate-list
 slice-aggregate-list c = simp length-take (omega arith)
 
-clauses-requires : tie.Need-clauses-requires
-clauses-requires c κs = search needs
+clauses-within-requires : tie.Need-clauses-within-requires
+clauses-within-requires c κs = search needs
 
 enum-known-listed : tie.Need-enum-known-listed
 enum-known-listed c = search needs
@@ -68,7 +68,7 @@ say-listed-spec =
     returns
     slice-relend-prefix-list
     slice-aggregate-list
-    clauses-requires
+    clauses-within-requires
     enum-known-listed
     number-requires
     number-requires-2

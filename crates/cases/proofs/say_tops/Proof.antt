@@ -5,10 +5,10 @@ use Rattle.cases.proofs.say_tops.Statement.{statement}
 use Rattle.cases.proofs.say_tops.Tie as tie
 
 abbrev Inv-words : tie.InvT-words
-Inv-words table t q₀ t5 q = q ≤ 24
+Inv-words limits table t q₀ q = q ≤ 40
 
 abbrev μ-words : tie.MeasureT-words
-μ-words table t q₀ t5 q = 24 - q
+μ-words limits table t q₀ q = 40 - q
 
 slice-aggregate-say : tie.Need-slice-aggregate-say Inv-words μ-words
 slice-aggregate-say c = search needs
@@ -16,8 +16,8 @@ slice-aggregate-say c = search needs
 say-requires : tie.Need-say-requires Inv-words μ-words
 say-requires c κs = search needs
 
-tops-requires : tie.Need-tops-requires Inv-words μ-words
-tops-requires c κs = search needs
+tops-within-requires : tie.Need-tops-within-requires Inv-words μ-words
+tops-within-requires c κs = search needs
 
 cast-number : tie.Need-cast-number Inv-words μ-words
 cast-number c = search needs
@@ -39,9 +39,6 @@ mul-number c = search needs
 
 element-copy-out-number : tie.Need-element-copy-out-number Inv-words μ-words
 element-copy-out-number c = search needs
-
-cast-number-3 : tie.Need-cast-number-3 Inv-words μ-words
-cast-number-3 c = search needs
 
 number-requires-3 : tie.Need-number-requires-3 Inv-words μ-words
 number-requires-3 c κs = search needs
@@ -72,7 +69,7 @@ say-tops-spec =
     μ-words
     slice-aggregate-say
     say-requires
-    tops-requires
+    tops-within-requires
     cast-number
     number-requires
     cast-number-2
@@ -80,7 +77,6 @@ say-tops-spec =
     words-holds
     mul-number
     element-copy-out-number
-    cast-number-3
     number-requires-3
     add-q
     words-less

@@ -20,8 +20,8 @@ slice-relend-prefix-out c = search needs
 slice-aggregate-out : tie.Need-slice-aggregate-out
 slice-aggregate-out c = simp length-take (omega arith)
 
-quotient-requires : tie.Need-quotient-requires
-quotient-requires c κs = search needs
+quotient-within-requires : tie.Need-quotient-within-requires
+quotient-within-requires c κs = search needs
 
 enum-known-written : tie.Need-enum-known-written
 enum-known-written c = search needs
@@ -65,7 +65,7 @@ say-written-spec =
     returns
     slice-relend-prefix-out
     slice-aggregate-out
-    quotient-requires
+    quotient-within-requires
     enum-known-written
     number-requires
     number-requires-2

@@ -18,7 +18,7 @@ part-requires-4 c κs = search needs
 
 list-sections-requires : tie.Need-list-sections-requires
 list-sections-requires c κs =
-    parts-ready _ (c .before .before .before .before .before .before .before .pre .0) (c .before .before .before .before .before .before .before .pre .1)
+    parts-ready (c .before .before .before .before .before .before .before .pre)
     (c .before .before .before .before .part .ensures) (c .before .before .before .part2 .ensures) (c .before .before .part3 .ensures) (c .before .part4 .ensures)
 
 same-length : tie.Need-same-length
@@ -26,9 +26,9 @@ same-length c = search needs
 
 returns : tie.Need-returns
 returns c =
-    parts-listed _ (c .before .before .before .before .before .before .before .before .before .before .pre .0) (c .before .before .before .before .before .before .before .before .before .before .pre .1)
+    parts-listed (c .before .before .before .before .before .before .before .before .before .before .pre)
     (c .before .before .before .before .before .before .before .part .ensures) (c .before .before .before .before .before .before .part2 .ensures) (c .before .before .before .before .before .part3 .ensures) (c .before .before .before .before .part4 .ensures)
-    _ (c .before .before .before .before .before .before .before .before .before .before .pre .2) (c .before .before .list-sections .ensures)
+    _ (c .before .before .list-sections .ensures)
 
 pub list-read-spec : {M : Type 1} → statement M
 list-read-spec =

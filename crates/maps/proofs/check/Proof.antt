@@ -1,20 +1,16 @@
--- `maps::check` meets its contract: refused or accepted. Assumes nothing.
-use Rattle.maps.proofs.Checking.{checked-number, check-refused, check-accepted, checked}
+-- `maps::check` meets its contract: the check at the limits of a caller that gives none. Assumes nothing.
 use borrow.Author.Needs.{needs}
 use Rattle.maps.proofs.check.Statement.{statement}
 use Rattle.maps.proofs.check.Tie as tie
 
-examine-requires : tie.Need-examine-requires
-examine-requires c κs = search needs
+standard-requires : tie.Need-standard-requires
+standard-requires c κs = search needs
+
+check-within-requires : tie.Need-check-within-requires
+check-within-requires c κs = search needs
 
 returns : tie.Need-returns
-returns c = checked _ _ (check-refused _ _ (checked-number _ _ (c .before .before .examine .ensures)) (c .if1 .taken))
-
-class-count-requires : tie.Need-class-count-requires
-class-count-requires c κs = search needs
-
-returns-2 : tie.Need-returns-2
-returns-2 c = checked _ _ (check-accepted _ _ (checked-number _ _ (c .before .before .before .examine .ensures)) (c .before .if1 .left) (c .class-count .ensures))
+returns c = rw (c .before .standard .ensures) at (c .check-within .ensures)
 
 pub check-spec : {M : Type 1} → statement M
-check-spec = tie.close (tie.spec examine-requires returns class-count-requires returns-2)
+check-spec = tie.close (tie.spec standard-requires check-within-requires returns)

@@ -1,28 +1,19 @@
--- `quotient::quotient` meets its contract: refused by the check, or by its length, or written. Assumes nothing.
-use Rattle.maps.proofs.Checking.{checked-number, checked-known}
-use Rattle.quotient.proofs.Quotienting.{quotient-refused, quotient-written, quotiented}
-use mathlib.Core.Path.{_∙_}
+-- `quotient::quotient` meets its contract: the quotient at the limits of a caller that gives none. Assumes nothing.
 use borrow.Author.Needs.{needs}
 use Rattle.quotient.proofs.quotient.Statement.{statement}
 use Rattle.quotient.proofs.quotient.Tie as tie
 
-examine-requires : tie.Need-examine-requires
-examine-requires c κs = search needs
+standard-requires : tie.Need-standard-requires
+standard-requires c κs = search needs
 
-returns : tie.Need-returns
-returns c = quotiented _ _ _ (quotient-refused _ _ _ (checked-number _ _ (c .before .before .examine .ensures)) (c .if1 .taken))
-
-slice-aggregate-write-read : tie.Need-slice-aggregate-write-read
-slice-aggregate-write-read c = search needs
-
-write-read-requires : tie.Need-write-read-requires
-write-read-requires c κs = checked-known _ _ (c .before .before .before .before .before .before .examine .ensures) (c .before .before .before .before .if1 .left)
+quotient-within-requires : tie.Need-quotient-within-requires
+quotient-within-requires c κs = search needs
 
 same-length : tie.Need-same-length
 same-length c = search needs
 
-returns-2 : tie.Need-returns-2
-returns-2 c = quotiented _ _ _ (c .before .before .write-read .ensures ∙ quotient-written _ _ _ (checked-number _ _ (c .before .before .before .before .before .before .before .before .before .examine .ensures) ∙ c .before .before .before .before .before .before .before .if1 .left))
+returns : tie.Need-returns
+returns c = rw (c .before .before .before .before .standard .ensures) at (c .before .before .quotient-within .ensures)
 
 pub quotient-spec : {M : Type 1} → statement M
-quotient-spec = tie.close (tie.spec examine-requires returns slice-aggregate-write-read write-read-requires same-length returns-2)
+quotient-spec = tie.close (tie.spec standard-requires quotient-within-requires same-length returns)

@@ -1,46 +1,13 @@
--- `reduce::reduce` meets its contract: reading, then the map buffer, then the rest; and what is promised of a delivery. Assumes nothing.
-use mathlib.Core.Path.{sym, _∙_}
-use native.Mathlib.Omega.{arith}
-use Rattle.table.specs.Limits.{standard}
-use Rattle.table.proofs.Handed.{read-as}
-use Rattle.reduce.proofs.Theorems.{promised}
-use Rattle.reduce.proofs.Stages as laws
+-- `reduce::reduce` meets its contract: the reduction at the limits of a caller that gives none. Assumes nothing.
 use borrow.Author.Needs.{needs}
 use Rattle.reduce.proofs.reduce.Statement.{statement}
 use Rattle.reduce.proofs.reduce.Tie as tie
 
-read-requires : tie.Need-read-requires
-read-requires c κs = search needs
+standard-requires : tie.Need-standard-requires
+standard-requires c κs = search needs
 
-enum-known-reading : tie.Need-enum-known-reading
-enum-known-reading c = search needs
-
-enum-known-reading-2 : tie.Need-enum-known-reading-2
-enum-known-reading-2 c = search needs
-
-part-requires : tie.Need-part-requires
-part-requires c κs = search needs
-
-returns : tie.Need-returns
-returns c =
-    let h = read-as standard (c .before .before .before .before .before .before .before .before .before .before .args .table .now) _ (sym (c .before .before .before .before .before .read .ensures) ∙ c .before .before .before .reading2 .given .1) in
-    promised (c .before .before .before .before .before .before .before .before .before .before .args .table .now) (c .before .before .before .before .before .before .before .before .before .before .args .budget) (c .before .before .before .before .before .before .before .before .before .before .args .list .now) (c .before .before .before .before .before .before .before .before .before .before .args .map .now) (c .before .before .before .before .before .before .before .before .before .before .args .out .now)
-    (laws.map-short standard (c .before .before .before .before .before .before .before .before .before .before .args .table .now) (c .before .before .before .before .before .before .before .before .before .before .args .budget) (c .before .before .before .before .before .before .before .before .before .before .args .list .now) (c .before .before .before .before .before .before .before .before .before .before .args .map .now) (c .before .before .before .before .before .before .before .before .before .before .args .out .now) (h .readable) (omega (arith, laws.states-count h (c .before .part .ensures), c .if1 .taken)))
-
-cast-reduce-read : tie.Need-cast-reduce-read
-cast-reduce-read c =
-    let h = read-as standard (c .before .before .before .before .before .before .before .before .before .before .args .table .now) _ (sym (c .before .before .before .before .before .read .ensures) ∙ c .before .before .before .reading2 .given .1) in
-    omega (arith, laws.states-count h (c .before .part .ensures), laws.states-few (c .before .before .before .before .before .before .before .before .before .before .args .table .now) (h .readable))
-
-reduce-read-requires : tie.Need-reduce-read-requires
-reduce-read-requires c κs =
-    let h = read-as standard (c .before .before .before .before .before .before .before .before .before .before .before .before .before .args .table .now) _ (sym (c .before .before .before .before .before .before .before .before .read .ensures) ∙ c .before .before .before .before .before .before .reading2 .given .1) in
-    (h .readable, laws.states-count h (c .before .before .before .before .part .ensures), c .before .before .before .if1 .left)
-
-returns-2 : tie.Need-returns-2
-returns-2 c =
-    promised (c .before .before .before .before .before .before .before .before .args .table .now) (c .before .before .before .before .before .before .before .before .args .budget) (c .before .before .before .before .before .before .before .before .args .list .now) (c .before .before .before .before .before .before .before .before .args .map .now) (c .before .before .before .before .before .before .before .before .args .out .now)
-    (laws.not-read standard (c .before .before .before .before .before .before .before .before .args .table .now) (c .before .before .before .before .before .before .before .before .args .budget) (c .before .before .before .before .before .before .before .before .args .list .now) (c .before .before .before .before .before .before .before .before .args .map .now) (c .before .before .before .before .before .before .before .before .args .out .now) (sym (c .before .before .before .read .ensures) ∙ c .before .reading .given .1))
+reduce-within-requires : tie.Need-reduce-within-requires
+reduce-within-requires c κs = search needs
 
 same-length : tie.Need-same-length
 same-length c = search needs
@@ -51,22 +18,8 @@ same-length-2 c = search needs
 same-length-3 : tie.Need-same-length-3
 same-length-3 c = search needs
 
-returns-3 : tie.Need-returns-3
-returns-3 c = promised (c .before .before .before .before .before .before .before .before .before .before .before .before .before .before .before .before .before .before .before .before .args .table .now) (c .before .before .before .before .before .before .before .before .before .before .before .before .before .before .before .before .before .before .before .before .args .budget) (c .before .before .before .before .before .before .before .before .before .before .before .before .before .before .before .before .before .before .before .before .args .list .now) (c .before .before .before .before .before .before .before .before .before .before .before .before .before .before .before .before .before .before .before .before .args .map .now) (c .before .before .before .before .before .before .before .before .before .before .before .before .before .before .before .before .before .before .before .before .args .out .now) (c .before .before .before .before .before .before .reduce-read .ensures)
+returns : tie.Need-returns
+returns c = rw (c .before .before .before .before .before .before .before .before .before .before .standard .ensures) at (c .before .before .before .before .before .before .reduce-within .ensures)
 
 pub reduce-spec : {M : Type 1} → statement M
-reduce-spec =
-    tie.close
-    (tie.spec
-    read-requires
-    enum-known-reading
-    enum-known-reading-2
-    part-requires
-    returns
-    cast-reduce-read
-    reduce-read-requires
-    returns-2
-    same-length
-    same-length-2
-    same-length-3
-    returns-3)
+reduce-spec = tie.close (tie.spec standard-requires reduce-within-requires same-length same-length-2 same-length-3 returns)

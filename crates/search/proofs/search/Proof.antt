@@ -1,170 +1,19 @@
--- `search::search` meets its contract: each way out by its refusal or its outcome.
--- Assumes nothing.
+-- `search::search` meets its contract: the search at the limits of a caller that gives none. Assumes nothing.
 use borrow.Author.Needs.{needs}
-use native.Mathlib.Omega.{arith}
-use mathlib.Core.List.{List, _++_}
-use Prim.Native.Nat.{ℕ}
-use borrow.Author.Tests.{not-true, not-false}
-use mathlib.Core.Bool.{true, false}
-use mathlib.Core.Path.{sym, ap, _∙_}
-use Rattle.search.proofs.Answering as laws
-use Rattle.lists.specs.Lists.{over}
-use lib.ListN.{take, drop}
-use Rattle.lists.proofs.Copying.{copied}
 use Rattle.search.proofs.search.Statement.{statement}
 use Rattle.search.proofs.search.Tie as tie
 
-returns : tie.Need-returns
-returns c =
-    let l = c .before .before .before .args .list .now in
-    let n = c .before .before .before .args .variables in
-    let b = c .before .before .before .args .budget in
-    let a = c .before .before .before .args .answer .now in
-    laws.promised 276 l n b a (laws.refuse-list 276 l n b a (laws.list-many 276 n l (c .if1 .taken)))
+standard-requires : tie.Need-standard-requires
+standard-requires c κs = search needs
 
-list-fits-requires : tie.Need-list-fits-requires
-list-fits-requires c κs = search needs
-
-returns-2 : tie.Need-returns-2
-returns-2 c =
-    let l = c .before .before .before .before .before .args .list .now in
-    let n = c .before .before .before .before .before .args .variables in
-    let b = c .before .before .before .before .before .args .budget in
-    let a = c .before .before .before .before .before .args .answer .now in
-    let most = c .before .before .if1 .left in
-    let unfit = laws.list-as 276 n l most false (sym (c .before .list-fits .ensures) ∙ not-true _ (c .if2 .taken)) in
-    laws.promised 276 l n b a (laws.refuse-list 276 l n b a unfit)
-
-returns-3 : tie.Need-returns-3
-returns-3 c =
-    let l = c .before .before .before .before .before .before .args .list .now in
-    let n = c .before .before .before .before .before .before .args .variables in
-    let b = c .before .before .before .before .before .before .args .budget in
-    let a = c .before .before .before .before .before .before .args .answer .now in
-    let most = c .before .before .before .if1 .left in
-    let fits = laws.list-as 276 n l most true (sym (c .before .before .list-fits .ensures) ∙ not-false _ (c .before .if2 .left)) in
-    laws.promised 276 l n b a (laws.refuse-short 276 l n b a fits (c .if3 .taken))
-
-none-set-requires : tie.Need-none-set-requires
-none-set-requires c κs = search needs
-
-array-borrow-prefix-values : tie.Need-array-borrow-prefix-values
-array-borrow-prefix-values c = search needs
-
-slice-aggregate-solve : tie.Need-slice-aggregate-solve
-slice-aggregate-solve c = sym (laws.prefix-length (c .before .before .before .before .before .before .before .before .args .variables) (c .before .before .before .before .before .if1 .left) (c .before .none-set .ensures))
-
-solve-requires : tie.Need-solve-requires
-solve-requires c κs =
-    let l = c .before .before .before .before .before .before .before .before .args .list .now in
-    let n = c .before .before .before .before .before .before .before .before .args .variables in
-    let most = c .before .before .before .before .before .if1 .left in
-    let fits = laws.list-as 276 n l most true (sym (c .before .before .before .before .list-fits .ensures) ∙ not-false _ (c .before .before .before .if2 .left)) in
-    let f = laws.list-formed 276 n l fits in
-    laws.fresh n most (c .before .none-set .ensures) (f .1) (f .2)
-
-enum-known-end : tie.Need-enum-known-end
-enum-known-end c = search needs
-
-array-share-prefix-values : tie.Need-array-share-prefix-values
-array-share-prefix-values c =
-    let n = c .before .before .before .before .before .before .before .before .before .before .before .before .before .args .variables in
-    let most = c .before .before .before .before .before .before .before .before .before .before .if1 .left in
-    let none = c .before .before .before .before .before .before .none-set .ensures in
-    let v = c .before .before .before .before .solve .last .1 .0 in
-    let long = c .before .before .before .before .solve .kept .1 .0 in
-    laws.prefix-room n most none v long
-
-slice-aggregate-copy : tie.Need-slice-aggregate-copy
-slice-aggregate-copy c =
-    let n = c .before .before .before .before .before .before .before .before .before .before .before .before .before .before .args .variables in
-    let most = c .before .before .before .before .before .before .before .before .before .before .before .if1 .left in
-    let none = c .before .before .before .before .before .before .before .none-set .ensures in
-    let v = c .before .before .before .before .before .solve .last .1 .0 in
-    let long = c .before .before .before .before .before .solve .kept .1 .0 in
-    sym (laws.prefix-size n most none v long)
-
-copy-requires : tie.Need-copy-requires
-copy-requires c κs =
-    let n = c .before .before .before .before .before .before .before .before .before .before .before .before .before .before .before .args .variables in
-    let most = c .before .before .before .before .before .before .before .before .before .before .before .before .if1 .left in
-    let none = c .before .before .before .before .before .before .before .before .none-set .ensures in
-    let v = c .before .before .before .before .before .before .solve .last .1 .0 in
-    let long = c .before .before .before .before .before .before .solve .kept .1 .0 in
-    omega (arith, laws.prefix-size n most none v long, c .before .before .before .before .before .before .before .before .before .if3 .left)
-
-enum-told : tie.Need-enum-told
-enum-told c = search needs
-
-enum-told-2 : tie.Need-enum-told-2
-enum-told-2 c = search needs
+search-within-requires : tie.Need-search-within-requires
+search-within-requires c κs = search needs
 
 same-length : tie.Need-same-length
 same-length c = search needs
 
-returns-4 : tie.Need-returns-4
-returns-4 c =
-    let l = c .before .before .before .before .before .before .before .before .before .before .before .before .before .before .before .before .before .before .args .list .now in
-    let n = c .before .before .before .before .before .before .before .before .before .before .before .before .before .before .before .before .before .before .args .variables in
-    let b = c .before .before .before .before .before .before .before .before .before .before .before .before .before .before .before .before .before .before .args .budget in
-    let a = c .before .before .before .before .before .before .before .before .before .before .before .before .before .before .before .before .before .before .args .answer .now in
-    let most = c .before .before .before .before .before .before .before .before .before .before .before .before .before .before .before .if1 .left in
-    let fits = laws.list-as 276 n l most true (sym (c .before .before .before .before .before .before .before .before .before .before .before .before .before .before .list-fits .ensures) ∙ not-false _ (c .before .before .before .before .before .before .before .before .before .before .before .before .before .if2 .left)) in
-    let none = c .before .before .before .before .before .before .before .before .before .before .before .none-set .ensures in
-    let v = c .before .before .before .before .before .before .before .before .before .solve .last .1 .0 in
-    let long = c .before .before .before .before .before .before .before .before .before .solve .kept .1 .0 in
-    let size = laws.prefix-length n most none in
-    let found = laws.is-found l n b (c .before .before .before .before .before .before .before .before .before .solve .result) v size (c .before .before .before .before .before .before .before .before .before .solve .ensures) (c .before .before .before .before .before .before .end .given .1) in
-    let written = copied (take n (c .before .before .before .before .before .before .before .before .before .solve .last .1 .0 ++ drop n (c .before .before .before .before .before .before .before .before .before .before .before .none-set .result))) a (c .before .before .copy .ensures .1) ∙ ap (λ (u : List ℕ). over u a) (laws.prefix-values n most none v long) in
-    laws.promised 276 l n b a (laws.answer-found 276 l n b a fits (c .before .before .before .before .before .before .before .before .before .before .before .before .if3 .left) found written)
-
-returns-5 : tie.Need-returns-5
-returns-5 c =
-    let l = c .before .before .before .before .before .before .before .before .before .before .before .before .args .list .now in
-    let n = c .before .before .before .before .before .before .before .before .before .before .before .before .args .variables in
-    let b = c .before .before .before .before .before .before .before .before .before .before .before .before .args .budget in
-    let a = c .before .before .before .before .before .before .before .before .before .before .before .before .args .answer .now in
-    let most = c .before .before .before .before .before .before .before .before .before .if1 .left in
-    let fits = laws.list-as 276 n l most true (sym (c .before .before .before .before .before .before .before .before .list-fits .ensures) ∙ not-false _ (c .before .before .before .before .before .before .before .if2 .left)) in
-    let none = c .before .before .before .before .before .none-set .ensures in
-    let v = c .before .before .before .solve .last .1 .0 in
-    let size = laws.prefix-length n most none in
-    let absent = laws.is-absent l n b (c .before .before .before .solve .result) v size (c .before .before .before .solve .ensures) (c .enum-told .given .1) in
-    laws.promised 276 l n b a (laws.answer-absent 276 l n b a fits (c .before .before .before .before .before .before .if3 .left) absent)
-
-returns-6 : tie.Need-returns-6
-returns-6 c =
-    let l = c .before .before .before .before .before .before .before .before .before .before .before .before .args .list .now in
-    let n = c .before .before .before .before .before .before .before .before .before .before .before .before .args .variables in
-    let b = c .before .before .before .before .before .before .before .before .before .before .before .before .args .budget in
-    let a = c .before .before .before .before .before .before .before .before .before .before .before .before .args .answer .now in
-    let most = c .before .before .before .before .before .before .before .before .before .if1 .left in
-    let fits = laws.list-as 276 n l most true (sym (c .before .before .before .before .before .before .before .before .list-fits .ensures) ∙ not-false _ (c .before .before .before .before .before .before .before .if2 .left)) in
-    let none = c .before .before .before .before .before .none-set .ensures in
-    let v = c .before .before .before .solve .last .1 .0 in
-    let size = laws.prefix-length n most none in
-    let spent = laws.is-spent l n b (c .before .before .before .solve .result) v size (c .before .before .before .solve .ensures) (c .enum-told2 .given .1) in
-    laws.promised 276 l n b a (laws.answer-spent 276 l n b a fits (c .before .before .before .before .before .before .if3 .left) spent)
+returns : tie.Need-returns
+returns c = rw (c .before .before .before .before .standard .ensures) at (c .before .before .search-within .ensures)
 
 pub search-spec : {M : Type 1} → statement M
-search-spec =
-    tie.close
-    (tie.spec
-    returns
-    list-fits-requires
-    returns-2
-    returns-3
-    none-set-requires
-    array-borrow-prefix-values
-    slice-aggregate-solve
-    solve-requires
-    enum-known-end
-    array-share-prefix-values
-    slice-aggregate-copy
-    copy-requires
-    enum-told
-    enum-told-2
-    same-length
-    returns-4
-    returns-5
-    returns-6)
+search-spec = tie.close (tie.spec standard-requires search-within-requires same-length returns)

@@ -1,57 +1,16 @@
--- `table::read` meets its contract: the first refusal that applies, or the starts. Assumes nothing.
-use mathlib.Core.Path.{sym, _∙_}
-use native.Mathlib.Omega.{arith}
-use borrow.Author.Tests.{not-true, not-false}
-use Rattle.table.proofs.Numbers as numbers
+-- `table::read` meets its contract: reading at the limits of a caller that gives none. Assumes nothing.
 use borrow.Author.Needs.{needs}
 use Rattle.table.proofs.read.Statement.{statement}
 use Rattle.table.proofs.read.Tie as tie
 
+standard-requires : tie.Need-standard-requires
+standard-requires c κs = search needs
+
+read-within-requires : tie.Need-read-within-requires
+read-within-requires c κs = search needs
+
 returns : tie.Need-returns
-returns c = numbers.file-short _ (c .if1 .taken)
-
-returns-2 : tie.Need-returns-2
-returns-2 c = numbers.file-long _ (c .before .if1 .left) (c .if2 .taken)
-
-add-word-at : tie.Need-add-word-at
-add-word-at c = search needs
-
-word-at-requires : tie.Need-word-at-requires
-word-at-requires c κs = search needs
-
-returns-3 : tie.Need-returns-3
-returns-3 c = numbers.file-version _ (c .before .before .before .if1 .left) (c .before .before .if2 .left) (rw (c .before .word-at .ensures) at (c .if3 .taken))
-
-distances-fit-requires : tie.Need-distances-fit-requires
-distances-fit-requires c κs = search needs
-
-returns-4 : tie.Need-returns-4
-returns-4 c = numbers.file-distances _ (c .before .before .before .before .before .if1 .left) (c .before .before .before .before .if2 .left) (sym (c .before .before .before .word-at .ensures) ∙ (c .before .before .if3 .left)) (sym (c .before .distances-fit .ensures) ∙ not-true _ (c .if4 .taken))
-
-starts-at-requires : tie.Need-starts-at-requires
-starts-at-requires c κs = (omega arith, sym (c .before .distances-fit .ensures) ∙ not-false _ (c .if4 .left))
-
-sections-number-requires : tie.Need-sections-number-requires
-sections-number-requires c κs = (omega arith, sym (c .before .before .distances-fit .ensures) ∙ not-false _ (c .before .if4 .left), (c .starts-at .ensures))
-
-returns-5 : tie.Need-returns-5
-returns-5 c = numbers.table-refused _ (c .before .before .before .before .before .before .before .before .if1 .left) (c .before .before .before .before .before .before .before .if2 .left) (sym (c .before .before .before .before .before .before .word-at .ensures) ∙ (c .before .before .before .before .before .if3 .left)) (sym (c .before .before .before .before .distances-fit .ensures) ∙ not-false _ (c .before .before .before .if4 .left)) _ (c .before .sections-number .ensures) (c .if5 .taken)
-
-returns-6 : tie.Need-returns-6
-returns-6 c = numbers.table-read _ (c .before .before .before .before .before .before .before .before .if1 .left) (c .before .before .before .before .before .before .before .if2 .left) (sym (c .before .before .before .before .before .before .word-at .ensures) ∙ (c .before .before .before .before .before .if3 .left)) (sym (c .before .before .before .before .distances-fit .ensures) ∙ not-false _ (c .before .before .before .if4 .left)) _ _ (c .before .sections-number .ensures) (c .if5 .left) (c .before .before .starts-at .ensures)
+returns c = rw (c .before .standard .ensures) at (c .read-within .ensures)
 
 pub read-spec : {M : Type 1} → statement M
-read-spec =
-    tie.close
-    (tie.spec
-    returns
-    returns-2
-    add-word-at
-    word-at-requires
-    returns-3
-    distances-fit-requires
-    returns-4
-    starts-at-requires
-    sections-number-requires
-    returns-5
-    returns-6)
+read-spec = tie.close (tie.spec standard-requires read-within-requires returns)

@@ -6,14 +6,11 @@ use lib.Pow.{shl-exact}
 use Rattle.tops.proofs.bit.Statement.{statement}
 use Rattle.tops.proofs.bit.Tie as tie
 
-cast-result : tie.Need-cast-result
-cast-result c = search needs
-
 shl-result : tie.Need-shl-result
 shl-result c = search needs
 
 returns : tie.Need-returns
-returns c = shl-exact {a = 1} 1 (c .args .x) 32 (omega arith) (omega (arith, c .pre)) ∙ omega arith
+returns c = shl-exact {a = 1} 1 (c .args .x) 64 (omega arith) (omega (arith, c .pre)) ∙ omega arith
 
 pub bit-spec : {M : Type 1} → statement M
-bit-spec = tie.close (tie.spec cast-result shl-result returns)
+bit-spec = tie.close (tie.spec shl-result returns)

@@ -1,18 +1,19 @@
 -- `tops::count_tops` meets its contract. The invariant: what was found, and the ones of the words from here on. Assumes nothing.
 use borrow.Author.Needs.{needs}
 use Prim.Native.Nat.{_-_}
+use native.Mathlib.Omega.{arith}
 use Rattle.tops.proofs.Loops.{Summing, summing, sum-on, sum-fits, summed}
 use Rattle.tops.proofs.count_tops.Statement.{statement}
 use Rattle.tops.proofs.count_tops.Tie as tie
 
 abbrev Inv-words : tie.InvT-words
-Inv-words words found₀ q₀ found q = Summing words found q
+Inv-words n words found₀ q₀ found q = Summing words n found q
 
 abbrev μ-words : tie.MeasureT-words
-μ-words words found₀ q₀ found q = 24 - q
+μ-words n words found₀ q₀ found q = n - q
 
 words-holds : tie.Need-words-holds Inv-words μ-words
-words-holds c = summing _ (c .good .0 .1 .0 .1)
+words-holds c = summing _ _ (omega (arith, c .pre, c .good .0 .1 .0 .1))
 
 mul-tops-in : tie.Need-mul-tops-in Inv-words μ-words
 mul-tops-in c = search needs
@@ -24,7 +25,7 @@ tops-in-requires : tie.Need-tops-in-requires Inv-words μ-words
 tops-in-requires c κs = search needs
 
 add-found : tie.Need-add-found Inv-words μ-words
-add-found c = record { fits = sum-fits (c .before .before .words .inv) _ (c .before .words-test .taken) (c .tops-in .ensures) }
+add-found c = record { fits = sum-fits (c .before .before .words .inv) _ (c .before .before .before .pre) (c .before .words-test .taken) (c .tops-in .ensures) }
 
 add-q : tie.Need-add-q Inv-words μ-words
 add-q c = search needs

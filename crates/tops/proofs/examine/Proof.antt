@@ -1,33 +1,33 @@
 -- `tops::examine` meets its contract: the starts and the tops of a table that was read, or the refusal's number. Assumes nothing.
 use mathlib.Core.Path.{sym, _∙_}
-use Rattle.tops.proofs.Read.{read-sections, examined, examined-refused}
+use Rattle.tops.proofs.Read.{read-handed, examined, examined-refused}
 use borrow.Author.Needs.{needs}
 use Rattle.tops.proofs.examine.Statement.{statement}
 use Rattle.tops.proofs.examine.Tie as tie
 
-read-requires : tie.Need-read-requires
-read-requires c κs = search needs
+read-within-requires : tie.Need-read-within-requires
+read-within-requires c κs = search needs
 
 enum-known-reading : tie.Need-enum-known-reading
 enum-known-reading c = search needs
 
 tops-read-requires : tie.Need-tops-read-requires
-tops-read-requires c κs = read-sections _ (sym (c .before .reading .given .1) ∙ c .before .before .before .read .ensures)
+tops-read-requires c κs = read-handed _ _ (sym (c .before .reading .given .1) ∙ c .before .before .before .read-within .ensures)
 
 enum-known-reading-2 : tie.Need-enum-known-reading-2
 enum-known-reading-2 c = search needs
 
 returns : tie.Need-returns
-returns c = examined _ (sym (c .before .before .before .reading .given .1) ∙ c .before .before .before .before .before .read .ensures) (c .before .tops-read .ensures)
+returns c = examined _ _ (sym (c .before .before .before .reading .given .1) ∙ c .before .before .before .before .before .read-within .ensures) (c .before .tops-read .ensures)
 
 returns-2 : tie.Need-returns-2
-returns-2 c = examined-refused _ (sym (c .before .reading2 .given .1) ∙ c .before .before .before .read .ensures)
+returns-2 c = examined-refused _ _ (sym (c .before .reading2 .given .1) ∙ c .before .before .before .read-within .ensures)
 
 pub examine-spec : {M : Type 1} → statement M
 examine-spec =
     tie.close
     (tie.spec
-    read-requires
+    read-within-requires
     enum-known-reading
     tops-read-requires
     enum-known-reading-2

@@ -10,9 +10,6 @@ mul-result c = search needs
 element-copy-out-result : tie.Need-element-copy-out-result
 element-copy-out-result c = search needs
 
-cast-result : tie.Need-cast-result
-cast-result c = search needs
-
 shr-result : tie.Need-shr-result
 shr-result c = search needs
 
@@ -22,4 +19,4 @@ returns c = search needs
 
 pub has-top-spec : {M : Type 1} → statement M
 has-top-spec =
-    tie.close (tie.spec mul-result element-copy-out-result cast-result shr-result returns)
+    tie.close (tie.spec mul-result element-copy-out-result shr-result returns)

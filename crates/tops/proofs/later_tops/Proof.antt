@@ -14,23 +14,26 @@ use Rattle.tops.proofs.later_tops.Lts as lts
 abbrev Start : Type 0
 Start = lts.Start reads.Pre reads.Post
 
-lowest : (c : Start) → c .args .word ≢ 0 → (trailingZeros 32 (c .args .word) < 32) × Lowest (c .args .word) (trailingZeros 32 (c .args .word))
-lowest c n = trailing-lowest 32 (c .args .word) (c .good .0 .1) n
+lowest : (c : Start) → c .args .word ≢ 0 → (trailingZeros 64 (c .args .word) < 64) × Lowest (c .args .word) (trailingZeros 64 (c .args .word))
+lowest c n = trailing-lowest 64 (c .args .word) (c .good .0 .1) n
 
-power : (c : Start) → c .args .word ≢ 0 → 1 * 2 ^ trailingZeros 32 (c .args .word) % 4294967296 ≡ 2 ^ trailingZeros 32 (c .args .word)
-power c n = shl-exact {a = 1} 1 (trailingZeros 32 (c .args .word)) 32 (omega arith) (omega (arith, lowest c n .0)) ∙ omega arith
+power : (c : Start) → c .args .word ≢ 0 → 1 * 2 ^ trailingZeros 64 (c .args .word) % 18446744073709551616 ≡ 2 ^ trailingZeros 64 (c .args .word)
+power c n = shl-exact {a = 1} 1 (trailingZeros 64 (c .args .word)) 64 (omega arith) (omega (arith, lowest c n .0)) ∙ omega arith
 
 returns : tie.Need-returns
 returns c = omega (arith, c .if1 .taken)
+
+cast-result : tie.Need-cast-result
+cast-result c = record { fits = omega (arith, lowest (c .before) (c .if1 .left) .0) }
 
 shl-result : tie.Need-shl-result
 shl-result c = lowest (c .before) (c .if1 .left) .0
 
 sub-result : tie.Need-sub-result
-sub-result c = rw (power (c .before) (c .if1 .left)) (bit-le (c .before .args .word) (trailingZeros 32 (c .before .args .word)) (lowest (c .before) (c .if1 .left) .1 .own))
+sub-result c = rw (power (c .before) (c .if1 .left)) (bit-le (c .before .args .word) (trailingZeros 64 (c .before .args .word)) (lowest (c .before) (c .if1 .left) .1 .own))
 
 returns-2 : tie.Need-returns-2
 returns-2 c = rw (power (c .before) (c .if1 .left))
 
 pub later-tops-spec : {M : Type 1} → statement M
-later-tops-spec = tie.close (tie.spec returns shl-result sub-result returns-2)
+later-tops-spec = tie.close (tie.spec returns cast-result shl-result sub-result returns-2)

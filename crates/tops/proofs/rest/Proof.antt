@@ -8,6 +8,7 @@ use lib.ListN.{length}
 use Rattle.tops.specs.Tops.{rounds}
 use Rattle.table.specs.Sections.{sectioned}
 use Rattle.tops.proofs.Loops.{Resting, resting, rest-on, rested, rounded, spent, few-rounds, section-within}
+use Rattle.tops.proofs.Padded.{round-told}
 use Rattle.tops.proofs.rest.Statement.{statement}
 use Rattle.tops.proofs.rest.Tie as tie
 
@@ -48,7 +49,7 @@ returns c =
     let b = r .before .before in
     let i = b .before .before in
     let a = i .before .before .before in
-    rested (a .before .rounds .inv) (a .rounds-test .taken) (rounded _ _ (i .by-records .ensures) (b .by-records2 .ensures) (r .by-records3 .ensures)) (sym (c .before .same-words .ensures) ∙ c .if1 .taken)
+    rested (a .before .rounds .inv) (a .rounds-test .taken) (rounded _ _ (i .by-records .ensures) (b .by-records2 .ensures) (r .by-records3 .ensures)) (round-told _ (a .before .before .before .before .before .before .pre) (rounded _ _ (i .by-records .ensures) (b .by-records2 .ensures) (r .by-records3 .ensures)) (sym (c .before .same-words .ensures) ∙ c .if1 .taken))
 
 sub-left : tie.Need-sub-left Inv-rounds μ-rounds
 sub-left c = search needs
@@ -63,7 +64,7 @@ rounds-again c =
     let b = r .before .before in
     let i = b .before .before in
     let a = i .before .before .before in
-    rest-on (a .before .rounds .inv) (a .rounds-test .taken) (rounded _ _ (i .by-records .ensures) (b .by-records2 .ensures) (r .by-records3 .ensures)) (sym (c .before .same-words .ensures) ∙ c .if1 .left)
+    rest-on (a .before .rounds .inv) (a .rounds-test .taken) (rounded _ _ (i .by-records .ensures) (b .by-records2 .ensures) (r .by-records3 .ensures)) (round-told _ (a .before .before .before .before .before .before .pre) (rounded _ _ (i .by-records .ensures) (b .by-records2 .ensures) (r .by-records3 .ensures)) (sym (c .before .same-words .ensures) ∙ c .if1 .left))
 
 returns-2 : tie.Need-returns-2 Inv-rounds μ-rounds
 returns-2 c = spent (c .before .rounds .inv) (omega (arith, c .rounds-test .left))

@@ -1,18 +1,19 @@
 -- `tops::same_words` meets its contract. The invariant: the answer is that of the words from here on. Assumes nothing.
 use borrow.Author.Needs.{needs}
 use Prim.Native.Nat.{_-_}
+use native.Mathlib.Omega.{arith}
 use Rattle.tops.proofs.Loops.{Comparing, comparing, compare-on, differ, compared}
 use Rattle.tops.proofs.same_words.Statement.{statement}
 use Rattle.tops.proofs.same_words.Tie as tie
 
 abbrev Inv-words : tie.InvT-words
-Inv-words a b i₀ i = Comparing a b i
+Inv-words n a b i₀ i = Comparing a b n i
 
 abbrev μ-words : tie.MeasureT-words
-μ-words a b i₀ i = 24 - i
+μ-words n a b i₀ i = n - i
 
 words-holds : tie.Need-words-holds Inv-words μ-words
-words-holds c = comparing _ _ (c .good .0 .1 .0 .1) (c .good .1 .0 .1 .0 .1)
+words-holds c = comparing _ _ _ (omega (arith, c .pre, c .good .0 .1 .0 .1)) (omega (arith, c .pre, c .good .1 .0 .1 .0 .1))
 
 mul-if1 : tie.Need-mul-if1 Inv-words μ-words
 mul-if1 c = search needs

@@ -19,13 +19,13 @@ part-requires-4 c κs = search needs
 
 tops-of-requires : tie.Need-tops-of-requires
 tops-of-requires c κs =
-    parts-sections _ (c .before .before .before .before .before .pre .0) (c .before .before .before .before .before .pre .1)
+    parts-sections _ (c .before .before .before .before .before .pre)
     (c .before .before .before .part .ensures) (c .before .before .part2 .ensures) (c .before .part3 .ensures) (c .part4 .ensures)
 
 returns : tie.Need-returns
 returns c =
     c .tops-of .ensures
-    ∙ parts-tops _ (c .before .before .before .before .before .before .pre .0) (c .before .before .before .before .before .before .pre .1)
+    ∙ parts-tops _ (c .before .before .before .before .before .before .pre)
     (c .before .before .before .before .part .ensures) (c .before .before .before .part2 .ensures) (c .before .before .part3 .ensures) (c .before .part4 .ensures)
 
 pub tops-read-spec : {M : Type 1} → statement M

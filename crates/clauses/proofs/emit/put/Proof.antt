@@ -14,7 +14,7 @@ use Rattle.clauses.proofs.emit.put.Tie as tie
 -- the clause has as many literals as it says
 n-literals : (c : tie.Start) → c .args .clause .n ≡ length (literalsOf (c .args .clause))
 n-literals c =
-    let e : length (c .args .clause .words) ≡ 32 = whole (c .args .clause .words) (c .good .0 .1 .1 .0 .1 .0 .1) in
+    let e : length (c .args .clause .words) ≡ 42 = whole (c .args .clause .words) (c .good .0 .1 .1 .0 .1 .0 .1) in
     let k : c .args .clause .n ≤ length (c .args .clause .words) = omega (arith, c .pre .0) in
     sym (length-take-le (c .args .clause .n) (c .args .clause .words) k)
 

@@ -25,7 +25,7 @@ slice-write-rest c = search needs
 -- src/emit.rt:25:5
 literals-holds : tie.Need-literals-holds Inv-literals μ-literals
 literals-holds c =
-    let e : length (c .args .t1 .words) ≡ 32 = whole (c .args .t1 .words) (c .good .0 .1 .1 .0 .1 .0 .1) in
+    let e : length (c .args .t1 .words) ≡ 42 = whole (c .args .t1 .words) (c .good .0 .1 .1 .0 .1 .0 .1) in
     let k : c .args .t1 .n ≤ length (c .args .t1 .words) = omega (arith, c .pre .0) in
     storing _ _ (c .args .rest .now) k (c .pre .1)
 

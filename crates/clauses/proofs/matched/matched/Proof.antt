@@ -11,7 +11,7 @@ use Rattle.clauses.proofs.matched.matched.Statement.{statement}
 use Rattle.clauses.proofs.matched.matched.Tie as tie
 
 abbrev Inv-targets : tie.InvT-targets
-Inv-targets found width target tally list words₀ n₀ at₀ words n at = Targeting found width target (matchingFrom (take n₀ words₀) target (lastBytes width found)) (record { words = words; n = n }) at × (length words ≡ 32)
+Inv-targets found width target tally list words₀ n₀ at₀ words n at = Targeting found width target (matchingFrom (take n₀ words₀) target (lastBytes width found)) (record { words = words; n = n }) at × (length words ≡ 42)
 
 abbrev μ-targets : tie.MeasureT-targets
 μ-targets found width target tally list words₀ n₀ at₀ words n at = length found - at

@@ -16,9 +16,6 @@ element-copy-out-result c = search needs
 wide-requires-2 : tie.Need-wide-requires-2
 wide-requires-2 c κs = search needs
 
-cast-result : tie.Need-cast-result
-cast-result c = search needs
-
 shr-result : tie.Need-shr-result
 shr-result c = search needs
 
@@ -34,6 +31,5 @@ is-live-spec =
     mul-result
     element-copy-out-result
     wide-requires-2
-    cast-result
     shr-result
     returns)

@@ -1,6 +1,6 @@
 -- `clauses::variables::pairs_of` meets its contract. Assumes nothing.
 use borrow.Author.Needs.{needs}
-use Rattle.clauses.specs.Pairs.{pairs}
+use Rattle.limits.specs.Pairs.{pairs}
 use Rattle.clauses.proofs.Pairs.{product-byte}
 use Rattle.clauses.proofs.variables.pairs_of.Statement.{statement}
 use Rattle.clauses.proofs.variables.pairs_of.Tie as tie

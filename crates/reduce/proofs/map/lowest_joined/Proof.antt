@@ -3,7 +3,7 @@ use Prim.Native.Nat.{_-_}
 use mathlib.Core.Path.{sym, _∙_}
 use native.Mathlib.Omega.{arith}
 use borrow.Author.Needs.{needs}
-use Rattle.clauses.specs.Pairs.{pairs}
+use Rattle.limits.specs.Pairs.{pairs}
 use Rattle.reduce.proofs.Lowest.{Seen, all-own, seen-false, seen-later, seen-lower, high-below, low-below, seen-all}
 use Rattle.reduce.proofs.map.lowest_joined.Statement.{statement}
 use Rattle.reduce.proofs.map.lowest_joined.Tie as tie

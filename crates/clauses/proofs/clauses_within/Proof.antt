@@ -1,0 +1,31 @@
+-- `clauses::clauses_within` meets its contract: reading first, then the list. Assumes nothing.
+use mathlib.Core.Path.{_∙_}
+use Rattle.maps.proofs.Checking.{read-known, read-readable}
+use Rattle.clauses.proofs.Whole.{listed, unread, sound-of}
+use borrow.Author.Needs.{needs}
+use Rattle.clauses.proofs.clauses_within.Statement.{statement}
+use Rattle.clauses.proofs.clauses_within.Tie as tie
+
+examine-requires : tie.Need-examine-requires
+examine-requires c κs = search needs
+
+returns : tie.Need-returns
+returns c = let e = unread _ (c .before .before .before .before .before .args .table .now) (c .before .before .examine .ensures) (c .before .before .before .before .before .args .list .now) (c .if1 .taken) in (e, sound-of _ (c .before .before .before .before .before .args .table .now) (c .before .before .before .before .before .args .list .now) e)
+
+list-read-requires : tie.Need-list-read-requires
+list-read-requires c κs = read-known _ _ (c .before .before .before .before .before .before .examine .ensures) (c .before .before .before .before .if1 .left)
+
+same-length : tie.Need-same-length
+same-length c = search needs
+
+returns-2 : tie.Need-returns-2
+returns-2 c =
+    let b = c .before .before .before .before .before .before .before .before .before .before .before .before .args .table .now in
+    let list = c .before .before .before .before .before .before .before .before .before .before .before .before .args .list .now in
+    let k = read-readable _ b (c .before .before .before .before .before .before .before .before .before .examine .ensures) (c .before .before .before .before .before .before .before .if1 .left) in
+    let e = c .before .before .list-read .ensures ∙ listed _ b k list in
+    (e, sound-of _ b list e)
+
+pub clauses-within-spec : {M : Type 1} → statement M
+clauses-within-spec =
+    tie.close (tie.spec examine-requires returns list-read-requires same-length returns-2)
