@@ -13,6 +13,8 @@ use borrow.Author.Tests.{eqb-true, eqb-false}
 use Rattle.lists.specs.Lists.{upto}
 use Rattle.lists.proofs.Members.{getD-map, length-upto, getD-upto}
 use Rattle.cnf.specs.Clauses.{valueOf, Assignment, Model}
+use Rattle.pairs.specs.Pairs.{pairs, variableOf, pairOf}
+use Rattle.pairs.proofs.Pairs.{variable-sym, variable-below, pair-variable, in-order}
 use Rattle.vpa.specs.Quotients.{Joined, Raq}
 use Rattle.vpa.proofs.Relations.{raq-along, equality-raq}
 use Rattle.limits.specs.declared.Limits.{Limits}
@@ -21,10 +23,7 @@ use Rattle.table.specs.Reading.{WellFormed}
 use Rattle.table.specs.Language.{count, automaton}
 use Rattle.tops.proofs.Bounded.{lawful}
 use Rattle.tops.proofs.Formed.{bounded}
-use Rattle.limits.specs.Pairs.{pairs}
-use Rattle.clauses.specs.Pairs.{variableOf, pairOf}
 use Rattle.clauses.specs.Clauses.{clauseList}
-use Rattle.clauses.proofs.Pairs.{variable-sym, variable-below, pair-variable, in-order}
 use Rattle.clauses.proofs.Related.{Related}
 use Rattle.clauses.proofs.Models.{model-raq}
 

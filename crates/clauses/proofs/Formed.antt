@@ -16,17 +16,17 @@ use Rattle.lists.proofs.Members.{and-true, any-false, all-of, keep-mem, gather-
 use Rattle.cnf.specs.Clauses.{distinct, clauseFits, isPositive, Horn}
 use Rattle.cnf.proofs.Words.{fits-of}
 use Rattle.limits.specs.declared.Limits.{Limits}
+use Rattle.pairs.specs.Pairs.{pairs, variableOf}
+use Rattle.pairs.specs.Triangles.{together, apart, past, triangle, triangles}
+use Rattle.pairs.proofs.Pairs.{variable-below, variable-injective}
+use Rattle.pairs.proofs.Triangles.{past-mem}
 use Rattle.table.specs.File.{Table}
 use Rattle.table.specs.Reading.{WellFormed}
 use Rattle.table.specs.Language.{count, byteOf, look, targets, OneTarget}
 use Rattle.table.proofs.Facts.{Fit, internals-fit, calls-fit, returns-fit, targets-mem}
 use Rattle.tops.specs.Tops.{topWords, live, liveReturns}
-use Rattle.limits.specs.Pairs.{pairs}
-use Rattle.clauses.specs.Pairs.{variableOf}
-use Rattle.clauses.specs.Clauses.{together, apart, opposite, once, tidy, premise, matching, lookClauses, past, triangle, transitivity, moveClause, moveClauses, returnClause, topStates, returnClauses, clauseList}
-use Rattle.clauses.proofs.Pairs.{variable-below, variable-injective}
+use Rattle.clauses.specs.Clauses.{opposite, once, tidy, premise, matching, lookClauses, transitivity, moveClause, moveClauses, returnClause, topStates, returnClauses, clauseList}
 use Rattle.clauses.proofs.Tidy.{opposite-half, opposite-sign, once-mem}
-use Rattle.clauses.proofs.Groups.{past-mem}
 
 -- two literals of one variable are equal or opposite
 same-variable : (l k : ℕ) → l / 2 ≡ k / 2 → (k ≡ l) ⊎ (k ≡ opposite l)
@@ -176,7 +176,7 @@ module _ (t : Table) where
       go (List·Memᴰ·tail (List·Memᴰ·tail (List·Memᴰ·head e))) x y z i j k = of-three (variableOf p s) (variableOf q s) (variableOf p q) z y x (λ f. j (sym f)) (λ f. i (sym f)) (λ f. k (sym f)) e
 
   transitivity-kinds : (c : List ℕ) → List·Memᴰ c (transitivity t) → Kind c
-  unfolding transitivity
+  unfolding transitivity triangles
   transitivity-kinds c m =
       let a = gather-mem _ (upto (count t)) c m in
       let b = gather-mem _ (past (count t) (a .0)) c (a .2) in

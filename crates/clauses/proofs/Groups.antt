@@ -9,19 +9,20 @@ use native.Mathlib.Omega.{arith}
 use native.Mathlib.Decide.{ℕ-discrete}
 use lib.ListN.{length, getD}
 use lib.Dec.{eqb, ltb}
-use borrow.Author.Tests.{eqb-true, eqb-false, eq-eqb, ne-eqb, ltb-true, ltb-false, lt-ltb}
+use borrow.Author.Tests.{eqb-true, eqb-false, eq-eqb, ne-eqb, ltb-true, ltb-false}
 use Rattle.lists.specs.Lists.{gather, upto, mem}
 use Rattle.lists.specs.Bits.{has}
 use Rattle.lists.proofs.Members.{keep-mem, keep-of, gather-mem, gather-of, upto-mem, upto-of, mem-false}
 use Rattle.cnf.specs.Clauses.{valueOf, Right, Assignment}
+use Rattle.pairs.specs.Pairs.{pairs, variableOf}
+use Rattle.pairs.specs.Triangles.{together, apart, past, triangle, triangles}
+use Rattle.pairs.proofs.Pairs.{variable-sym, in-order}
+use Rattle.pairs.proofs.Triangles.{past-mem, past-of}
 use Rattle.table.specs.File.{Table}
 use Rattle.table.specs.Language.{count, byteOf, look, targets}
 use Rattle.table.proofs.Facts.{Fit, three-bytes, four-bytes, targets-mem, mem-targets}
 use Rattle.tops.specs.Tops.{topWords, live, liveReturns}
-use Rattle.limits.specs.Pairs.{pairs}
-use Rattle.clauses.specs.Pairs.{variableOf}
-use Rattle.clauses.specs.Clauses.{together, apart, premise, matching, lookClauses, past, triangle, transitivity, moveClause, moveClauses, returnClause, topStates, returnClauses}
-use Rattle.clauses.proofs.Pairs.{variable-sym, in-order}
+use Rattle.clauses.specs.Clauses.{premise, matching, lookClauses, transitivity, moveClause, moveClauses, returnClause, topStates, returnClauses}
 use Rattle.clauses.proofs.Tidy.{HasRight, Satisfied, Set, Matches, not-all, itself, to, matching-of, of-matching}
 use Rattle.clauses.proofs.Related.{Related, related-refl, related-sym, related-true, variable-bit, related-dec, set-together, premise-set, premise-related, premise-apart, right-positive, positive-right, right-negative, negative-right}
 
@@ -55,14 +56,6 @@ module _ (v : List ℕ) where
   pub unless-satisfied : (t : Bool) (cs : List (List ℕ)) → Satisfied v (elim t [ true ↦ [] | false ↦ cs ]) → t ≡ false → Satisfied v cs
   unless-satisfied true cs h e = absurd (true≢false e)
   unless-satisfied false cs h e = h
-
-pub past-mem : (n p q : ℕ) → List·Memᴰ q (past n p) → (p < q) × (q < n)
-unfolding past
-past-mem n p q m = let r = keep-mem (ltb p) (upto n) q m in (ltb-true p q (r .1), upto-mem n q (r .0))
-
-past-of : (n p q : ℕ) → p < q → q < n → List·Memᴰ q (past n p)
-unfolding past
-past-of n p q l h = keep-of (ltb p) (upto n) q (upto-of n q h) (lt-ltb p q l)
 
 module _ (t : Table) (v : List ℕ) (full : Assignment (pairs (count t)) v) where
   -- ---- 1: joined states look alike
@@ -148,7 +141,7 @@ module _ (t : Table) (v : List ℕ) (full : Assignment (pairs (count t)) v) wher
       go (List·Memᴰ·tail (List·Memᴰ·tail (List·Memᴰ·head e))) = rw e (gives-arrow _ _ _ (bit p s (omega arith) l) (bit q s b l) (h .high))
 
   all-closed : Satisfied v (transitivity t) → (p q s : ℕ) → p < q → q < s → s < count t → Closed3 p q s
-  unfolding transitivity
+  unfolding transitivity triangles
   all-closed h p q s a b l =
       triangle-closed p q s
       (satisfied-at v _ (past (count t) q)
@@ -187,7 +180,7 @@ module _ (t : Table) (v : List ℕ) (full : Assignment (pairs (count t)) v) wher
       }
 
   pub transitive-satisfied : Transitive → Satisfied v (transitivity t)
-  unfolding transitivity
+  unfolding transitivity triangles
   transitive-satisfied h =
       satisfied-each v _ (upto (count t)) (λ p mp. satisfied-each v _ (past (count t) p) (λ q mq. satisfied-each v _ (past (count t) q) (λ s ms.
       let lq = past-mem (count t) p q mq in

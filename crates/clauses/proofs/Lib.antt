@@ -1,4 +1,3 @@
-pub mod Pairs
 pub mod Tidy
 pub mod Related
 pub mod Groups

@@ -3,6 +3,7 @@ use mathlib.Core.Logic.{_↔_}
 use mathlib.Core.List.{List, _++_}
 use Prim.Native.Nat.{ℕ}
 use Rattle.cnf.specs.Clauses.{Assignment, Model}
+use Rattle.pairs.specs.Pairs.{pairs}
 use Rattle.vpa.specs.Quotients.{Equivalence, Raq}
 use Rattle.vpa.proofs.Relations.{Matched, matched-of, raq-of}
 use Rattle.limits.specs.declared.Limits.{Limits}
@@ -11,7 +12,6 @@ use Rattle.table.specs.Reading.{WellFormed}
 use Rattle.table.specs.Language.{count, automaton}
 use Rattle.table.proofs.Facts.{internals-fit, calls-fit, returns-fit, look-accepting, accepting-look}
 use Rattle.tops.proofs.Formed.{told, reachable?}
-use Rattle.limits.specs.Pairs.{pairs}
 use Rattle.clauses.specs.Clauses.{lookClauses, transitivity, moveClauses, clauseList}
 use Rattle.clauses.proofs.Tidy.{Satisfied}
 use Rattle.clauses.proofs.Related.{Related, related-refl, related-sym}

@@ -2,19 +2,23 @@
 use mathlib.Core.Path.{_≡_, sym, ap, _∙_}
 use mathlib.Core.Bool.{Bool, true, false}
 use mathlib.Core.List.{List, [], _∷_}
-use Prim.Native.Nat.{ℕ, _+_, _*_, _/_, _<_}
+use Prim.Native.Nat.{ℕ, _+_, _*_, _/_, _≤_, _<_}
 use native.Mathlib.Omega.{arith}
 use lib.ListN.{length, getD}
 use lib.Dec.{eqb}
 use borrow.Author.Tests.{eq-eqb, ne-eqb}
 use Rattle.lists.specs.Lists.{any, mem, gather, upto}
+use Rattle.limits.specs.Limits.{stateMost}
+use Rattle.pairs.specs.declared.Pair.{Pair}
+use Rattle.pairs.specs.Pairs.{pairs, pairOf}
+use Rattle.pairs.specs.Entries.{pairIn, PairTable}
+use Rattle.pairs.specs.Triangles.{together, apart, triangle}
+use Rattle.pairs.proofs.Pairs.{pair-ordered, pair-below, variable-pair}
+use Rattle.pairs.proofs.Entries.{pair-found}
 use Rattle.table.specs.Language.{look}
 use Rattle.clauses.specs.declared.literals.Literals.{Literals}
-use Rattle.limits.specs.Pairs.{pairs}
-use Rattle.clauses.specs.Pairs.{Pair, pairOf}
-use Rattle.clauses.specs.Clauses.{together, apart, lookClauses, triangle}
+use Rattle.clauses.specs.Clauses.{lookClauses}
 use Rattle.clauses.specs.Emit.{literalsOf, withLiteral, Holds, State, emit, statesOnly, lookClause}
-use Rattle.clauses.proofs.Pairs.{pair-ordered, pair-below, variable-pair}
 use Rattle.clauses.proofs.Stepping.{gather-pairs}
 
 -- ---- group 1
@@ -26,11 +30,12 @@ pub record Placed (n v low high : ℕ) : Type 0 where
   pub low-is : low ≡ pairOf v .low
   pub high-is : high ≡ pairOf v .high
 
-pub placed : {n v low high i j : ℕ} → v < pairs n → record { low = low; high = high } ≡ pairOf v → i ≡ low → j ≡ high → Placed n v i j
-placed {n} {v} {low} {high} h e f g =
-    let a : low ≡ pairOf v .low = ap (λ (p : Pair). p .low) e in
-    let b : high ≡ pairOf v .high = ap (λ (p : Pair). p .high) e in
-    record { low-below = omega (arith, pair-ordered v, pair-below n v h); high-below = omega (arith, pair-below n v h); low-is = f ∙ a; high-is = g ∙ b }
+pub placed : {n v i j : ℕ} {t : List ℕ} {x : Pair} {R : Type 0} → (n ≤ stateMost) × PairTable t × (v < pairs n) × R → x ≡ pairIn t v → i ≡ x .low → j ≡ x .high → Placed n v i j
+placed {n} {v} (l, k, h, _) e f g =
+    let w = pair-found n v l k h e in
+    let a = f ∙ ap (λ (p : Pair). p .low) w in
+    let b = g ∙ ap (λ (p : Pair). p .high) w in
+    record { low-below = omega (arith, a, pair-ordered v, pair-below n v h); high-below = omega (arith, b, pair-below n v h); low-is = a; high-is = b }
 
 -- a clause of one literal
 pub alone : {none c : Literals} {l : ℕ} → Holds none [] → Holds c (withLiteral (literalsOf none) l) → Holds c (l ∷ [])

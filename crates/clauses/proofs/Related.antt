@@ -9,10 +9,10 @@ use native.Mathlib.Decide.{ℕ-discrete}
 use lib.Dec.{eqb}
 use borrow.Author.Tests.{eqb-false, ne-eqb}
 use Rattle.cnf.specs.Clauses.{valueOf, Right, Assignment, positive, negative}
-use Rattle.limits.specs.Pairs.{pairs}
-use Rattle.clauses.specs.Pairs.{variableOf}
-use Rattle.clauses.specs.Clauses.{together, apart, premise}
-use Rattle.clauses.proofs.Pairs.{variable-sym, variable-below}
+use Rattle.pairs.specs.Pairs.{pairs, variableOf}
+use Rattle.pairs.specs.Triangles.{together, apart}
+use Rattle.pairs.proofs.Pairs.{variable-sym, variable-below}
+use Rattle.clauses.specs.Clauses.{premise}
 use Rattle.clauses.proofs.Tidy.{HasRight, Set}
 
 -- what a literal says

@@ -4,41 +4,19 @@ use mathlib.Core.List.{List, [], _∷_, _++_, append-nil, append-assoc, List·Me
 use Prim.Native.Nat.{ℕ, zero, suc, _+_, _-_, _≤_, _<_}
 use native.Mathlib.Omega.{arith}
 use native.Mathlib.Nat.{add-zero, add-suc}
-use native.Mathlib.Decide.{decLt}
-use lib.ListN.{length, take, drop, drop-of-length-le}
-use lib.Seq.{drop-append-le}
-use lib.Dec.{ltb}
-use borrow.Author.Tests.{lt-ltb, le-ltb}
-use Rattle.lists.specs.Lists.{keep, gather, upto}
-use Rattle.lists.proofs.Members.{upto-mem, length-upto}
-use Rattle.lists.proofs.Upto.{upto-on}
-use Rattle.lists.proofs.Counts.{keep-append, gather-append}
+use lib.ListN.{length, take, drop}
+use Rattle.lists.specs.Lists.{gather, upto}
+use Rattle.lists.proofs.Members.{upto-mem}
+use Rattle.lists.proofs.Upto.{upto-on, upto-end}
+use Rattle.lists.proofs.Counts.{gather-append}
+use Rattle.pairs.specs.Pairs.{pairs, pairOf}
+use Rattle.pairs.specs.Triangles.{past}
+use Rattle.pairs.proofs.Pairs.{pairs-suc, variable-lt, pair-variable}
+use Rattle.pairs.proofs.Triangles.{past-from}
 use Rattle.table.specs.File.{records}
 use Rattle.table.proofs.Walks.{records-cons, records-end}
-use Rattle.limits.specs.Pairs.{pairs}
-use Rattle.clauses.specs.Pairs.{pairOf}
-use Rattle.clauses.specs.Clauses.{past}
 use Rattle.clauses.specs.Emit.{State, Ordered, emit}
-use Rattle.limits.proofs.Pairs.{pairs-suc}
-use Rattle.clauses.proofs.Pairs.{variable-lt, pair-variable}
 use Rattle.clauses.proofs.Emitting.{Coming, coming, come-on, come-as, come}
-
--- ---- the numbers from q on
-
-pub from-end : (n q : ℕ) → n ≤ q → drop q (upto n) ≡ []
-from-end n q h = drop-of-length-le (upto n) {i = q} (omega (arith, length-upto n))
-
--- those past p
-pub past-from : (n p : ℕ) → past n p ≡ drop (p + 1) (upto n)
-unfolding past keep upto
-past-from zero p = sym (from-end 0 (p + 1) (omega arith))
-past-from (suc n) p = keep-append (ltb p) (upto n) (n ∷ []) ∙ go (decLt p n) (past-from n p)
-  where
-    go : Dec (p < n) → keep (ltb p) (upto n) ≡ drop (p + 1) (upto n) → keep (ltb p) (upto n) ++ keep (ltb p) (n ∷ []) ≡ drop (p + 1) (upto n ++ (n ∷ []))
-    go (yes l) e = rw (lt-ltb p n l, keep) (ap (λ xs. xs ++ (n ∷ [])) e ∙ sym (drop-append-le (p + 1) (upto n) (n ∷ []) (omega (arith, length-upto n))))
-    go (no l) e =
-        let k : n ≤ p = omega arith in
-        rw (le-ltb p n k, keep) (append-nil _ ∙ e ∙ from-end n (p + 1) (omega arith) ∙ sym (from-end (suc n) (p + 1) (omega arith)))
 
 -- ---- a loop over the numbers below n
 
@@ -60,7 +38,7 @@ module _ {f : ℕ → List (List ℕ)} {n : ℕ} {all : List (List ℕ)} {start 
 
   pub over-done : n ≤ q → now ≡ emit all start
   unfolding gather
-  over-done h = come (come-as (ap (gather f) (from-end n q h)) (w .coming))
+  over-done h = come (come-as (ap (gather f) (upto-end n q h)) (w .coming))
 
 -- ---- a loop over the records of a section
 

@@ -8,6 +8,8 @@ use native.Mathlib.Omega.{arith}
 use native.Mathlib.Decide.{decLt}
 use lib.ListN.{List·getD-eq-default}
 use Rattle.cnf.specs.Clauses.{valueOf, Assignment, Model, Maximal}
+use Rattle.pairs.specs.Pairs.{pairs, pairOf}
+use Rattle.pairs.proofs.Pairs.{variable-pair, pair-ordered, pair-below}
 use Rattle.vpa.specs.Quotients.{Joined}
 use Rattle.vpa.proofs.Relations.{raq-along}
 use Rattle.limits.specs.declared.Limits.{Limits}
@@ -18,11 +20,8 @@ use Rattle.table.specs.Maps.{JoinedBy, Proper, RaqMap, NoneCoarser}
 use Rattle.table.proofs.Bytes.{read-well-formed}
 use Rattle.maps.specs.Check.{checkNumber}
 use Rattle.maps.proofs.Accepted.{accepts}
-use Rattle.limits.specs.Pairs.{pairs}
-use Rattle.clauses.specs.Pairs.{pairOf}
 use Rattle.clauses.specs.Clauses.{clauseList}
 use Rattle.clauses.specs.Maps.{mapOf}
-use Rattle.clauses.proofs.Pairs.{variable-pair, pair-ordered, pair-below}
 use Rattle.clauses.proofs.Related.{Related, related-true}
 use Rattle.clauses.proofs.Models.{satisfied-transitive, model-raq}
 use Rattle.clauses.proofs.Maps.{map-long, map-numbered, map-joins}

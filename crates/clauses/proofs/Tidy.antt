@@ -11,7 +11,8 @@ use borrow.Author.Tests.{eqb-true, eqb-false}
 use Rattle.lists.specs.Lists.{any, mem}
 use Rattle.lists.proofs.Members.{any-true, mem-true, mem-false}
 use Rattle.cnf.specs.Clauses.{valueOf, Right}
-use Rattle.clauses.specs.Clauses.{opposite, once, tidy, together, matching}
+use Rattle.pairs.specs.Triangles.{together}
+use Rattle.clauses.specs.Clauses.{opposite, once, tidy, matching}
 
 -- the same variable, the other way
 pub opposite-half : (l : ℕ) → opposite l / 2 ≡ l / 2

@@ -9,7 +9,8 @@ use lib.Dec.{eqb}
 use borrow.Author.Tests.{eq-eqb, ne-eqb}
 use Rattle.lists.specs.Lists.{any, mem}
 use Rattle.lists.proofs.Members.{any-true, any-false, mem-true, mem-false, mem-snoc}
-use Rattle.clauses.specs.Clauses.{together, apart, opposite, once, tidy, premise, matching}
+use Rattle.pairs.specs.Triangles.{together, apart}
+use Rattle.clauses.specs.Clauses.{opposite, once, tidy, premise, matching}
 use Rattle.clauses.specs.Emit.{withLiteral, withAll, tidyFrom, matchingFrom}
 use Rattle.clauses.proofs.Tidy.{opposite-half, opposite-sign}
 

@@ -15,6 +15,7 @@ use Rattle.cnf.specs.Clauses.{Model, clausesIn, wordsOf}
 use Rattle.cnf.proofs.Words.{clauses-words}
 use Rattle.limits.specs.declared.Limits.{Limits}
 use Rattle.limits.specs.Limits.{stateMost}
+use Rattle.pairs.specs.Pairs.{pairs}
 use Rattle.table.specs.File.{trailer, start, tableOf, records}
 use Rattle.table.specs.Reading.{readNumber, Readable, startsOf}
 use Rattle.table.specs.Language.{count}
@@ -32,7 +33,6 @@ use Rattle.tops.proofs.Read.{sections-read}
 use Rattle.maps.specs.Sections.{Known}
 use Rattle.clauses.specs.declared.Listed.{Listed}
 use Rattle.clauses.specs.declared.Listed.the-variants.{Refused}
-use Rattle.limits.specs.Pairs.{pairs}
 use Rattle.clauses.specs.Clauses.{lookClauses, transitivity, moveClauses, returnClauses, clauseList, clauseWords, clausesNumber, ClausesDone, clausesOf}
 use Rattle.clauses.specs.Emit.{State, emit, statesOnly, returnClausesBy, Ready, listBy, listedBy}
 use Rattle.clauses.specs.Demands.{ListSound}

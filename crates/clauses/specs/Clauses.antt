@@ -3,25 +3,18 @@ use mathlib.Core.Bool.{true, false, _&&_}
 use mathlib.Core.List.{List, [], _∷_, _++_, map}
 use Prim.Native.Nat.{ℕ, _+_, _-_, _%_}
 use lib.ListN.{length, getD}
-use lib.Dec.{eqb, ltb, leb}
+use lib.Dec.{eqb, leb}
 use Rattle.lists.specs.Lists.{any, keep, gather, upto, mem, over}
 use Rattle.lists.specs.Bits.{has}
-use Rattle.cnf.specs.Clauses.{positive, negative, wordsOf}
+use Rattle.cnf.specs.Clauses.{wordsOf}
 use Rattle.limits.specs.declared.Limits.{Limits}
+use Rattle.pairs.specs.Triangles.{together, apart, triangles}
 use Rattle.table.specs.File.{Table, tableOf}
 use Rattle.table.specs.Reading.{readNumber}
 use Rattle.table.specs.Language.{count, byteOf, look, targets}
 use Rattle.tops.specs.Tops.{topWords, liveReturns}
-use Rattle.clauses.specs.Pairs.{variableOf}
 use Rattle.clauses.specs.declared.Listed.{Listed}
 use Rattle.clauses.specs.declared.Listed.the-variants.{List as Words, Refused}
-
--- "{p,q} true", "{p,q} false", for two different states
-abbrev pub together : ℕ → ℕ → ℕ
-together p q = positive (variableOf p q)
-
-abbrev pub apart : ℕ → ℕ → ℕ
-apart p q = negative (variableOf p q)
 
 -- the same variable the other way
 unfoldable pub opposite : ℕ → ℕ
@@ -40,21 +33,9 @@ tidy ls = elim (any (λ l. mem (opposite l) ls) ls) [ true ↦ [] | false ↦ on
 unfoldable pub lookClauses : Table → List (List ℕ)
 lookClauses t = gather (λ q. gather (λ p. elim (eqb (look (byteOf t p)) (look (byteOf t q))) [ true ↦ [] | false ↦ (apart p q ∷ []) ∷ [] ]) (upto q)) (upto (count t))
 
--- the states past p
-unfoldable pub past : ℕ → ℕ → List ℕ
-past n p = keep (ltb p) (upto n)
-
--- "pq and qs give ps; pq and ps give qs; ps and qs give pq; literals in that order, premises false"
-unfoldable pub triangle : ℕ → ℕ → ℕ → List (List ℕ)
-triangle p q s =
-    (apart p q ∷ apart q s ∷ together p s ∷ [])
-    ∷ (apart p q ∷ apart p s ∷ together q s ∷ [])
-    ∷ (apart p s ∷ apart q s ∷ together p q ∷ [])
-    ∷ []
-
 -- 2. "For p < q < s ascending by p, then q, then s"
 unfoldable pub transitivity : Table → List (List ℕ)
-transitivity t = gather (λ p. gather (λ q. gather (λ s. triangle p q s) (past (count t) q)) (past (count t) p)) (upto (count t))
+transitivity t = triangles (count t)
 
 -- "{p,q} false unless p = q": "Pair {p,p} counts as true"
 unfoldable pub premise : ℕ → ℕ → List ℕ

@@ -1,5 +1,5 @@
--- What the code that writes the clause list is stated with: the pair of a variable, the literals of one clause, and clauses counted and
--- written one behind the other. Only contracts of functions within the crate cite it. Assumes nothing.
+-- What the code that writes the clause list is stated with: the literals of one clause, and clauses counted and written one behind the
+-- other. Only contracts of functions within the crate cite it. Assumes nothing.
 use mathlib.Core.Path.{_≡_}
 use mathlib.Core.Bool.{true, false, _&&_}
 use mathlib.Core.List.{List, [], _∷_, _++_, map}
@@ -9,6 +9,7 @@ use lib.Dec.{ltb, leb, eqb}
 use Rattle.lists.specs.Lists.{mem, over, gather, keep, upto}
 use Rattle.lists.specs.Bits.{has}
 use Rattle.limits.specs.Limits.{stateMost}
+use Rattle.pairs.specs.Triangles.{together, apart}
 use Rattle.table.specs.File.{Table, records}
 use Rattle.table.specs.Reading.{ascend}
 use Rattle.table.specs.Language.{byteOf, look}
@@ -17,14 +18,9 @@ use Rattle.tops.specs.Sections.{Section}
 use Rattle.cnf.specs.Clauses.{wordsOf}
 use Rattle.clauses.specs.declared.Listed.the-variants.{List as Words, Refused}
 use Rattle.clauses.specs.declared.returns.Return.{Return}
-use Rattle.clauses.specs.declared.variables.Found.{Found}
 use Rattle.clauses.specs.declared.literals.Literals.{Literals}
 use Rattle.clauses.specs.declared.emit.Tally.{Tally}
-use Rattle.clauses.specs.Pairs.{Pair}
-use Rattle.clauses.specs.Clauses.{together, apart, opposite, lookClauses, transitivity, moveClauses, returnClause, topStates, ClausesDone}
-
-abbrev pub pairFound : Found → Pair
-pairFound f = record { low = f .low; high = f .high }
+use Rattle.clauses.specs.Clauses.{opposite, lookClauses, transitivity, moveClauses, returnClause, topStates, ClausesDone}
 
 -- ---- the literals of a clause
 

@@ -1,4 +1,3 @@
-pub mod Pairs
 pub mod Clauses
 pub mod Maps
 pub mod Emit

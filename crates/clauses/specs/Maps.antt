@@ -6,8 +6,8 @@ use lib.ListN.{getD}
 use lib.Dec.{eqb}
 use Rattle.lists.specs.Lists.{keep, upto}
 use Rattle.cnf.specs.Clauses.{valueOf}
+use Rattle.pairs.specs.Pairs.{variableOf}
 use Rattle.table.specs.Maps.{classes}
-use Rattle.clauses.specs.Pairs.{variableOf}
 
 -- two different states are joined: "true means joined"
 unfoldable pub joinedBy : List ℕ → ℕ → ℕ → Bool

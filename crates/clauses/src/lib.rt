@@ -21,11 +21,6 @@ mod matched;
 mod moves;
 mod returns;
 mod states;
-mod variables;
-
-pub use variables::Found;
-pub use variables::pair_of;
-pub use variables::pairs_of;
 
 // What writing the clause list answers.
 pub enum Listed {

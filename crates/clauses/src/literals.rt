@@ -4,9 +4,10 @@ ghost use mathlib.Core.List.{[]};
 ghost use Prim.Native.Nat.{_<_, _≤_};
 ghost use lib.ListN.{length, take};
 ghost use Rattle.lists.specs.Lists.{mem};
-ghost use Rattle.clauses.specs.Clauses.{together, apart, opposite};
+ghost use Rattle.pairs.specs.Triangles.{together, apart};
+ghost use Rattle.clauses.specs.Clauses.{opposite};
 ghost use Rattle.clauses.specs.Emit.{literalsOf, withLiteral, Holds};
-use super::variables::variable_of;
+use pairs::variable_of;
 
 // The first n words; a clause has at most 42 literals: two premises, and a target for each state.
 pub struct Literals {

@@ -4,9 +4,11 @@ ghost use mathlib.Core.List.{[], _∷_};
 ghost use Prim.Native.Nat.{_<_, _≤_};
 ghost use lib.ListN.{length};
 ghost use Rattle.lists.specs.Lists.{gather};
-ghost use Rattle.limits.specs.Pairs.{pairs};
-ghost use Rattle.clauses.specs.Pairs.{pairOf};
-ghost use Rattle.clauses.specs.Clauses.{lookClauses, triangle, past, transitivity};
+ghost use Rattle.limits.specs.Limits.{stateMost};
+ghost use Rattle.pairs.specs.Pairs.{pairs, pairOf};
+ghost use Rattle.pairs.specs.Entries.{PairTable};
+ghost use Rattle.pairs.specs.Triangles.{triangle, past};
+ghost use Rattle.clauses.specs.Clauses.{lookClauses, transitivity};
 ghost use Rattle.clauses.specs.Emit.{Holds, state, Ordered, emit, statesOnly, lookClause};
 use super::emit::Tally;
 use super::emit::put;
@@ -15,21 +17,22 @@ use super::literals::joined;
 use super::literals::no_literals;
 use super::literals::parted;
 use super::literals::with_literal;
-use super::variables::pair_of;
-use super::variables::pairs_of;
+use pairs::pair_of;
+use pairs::pair_table;
+use pairs::pairs_of;
 
-fn wide(x: u16) -> usize
+fn wide(x: u8) -> usize
     ensures { λ r. ⌜ r ≡ x ⌝ }
 {
     x as usize
 }
 
 // The clause of a variable: "false" where exactly one of its states is accepting.
-fn look_apart(states: &[u8], v: u16, tally: Tally, list: &mut [u16]) -> Tally
-    requires { ⌜ (length (now states) ≤ 255) × (v < pairs (length (now states))) × Ordered tally ⌝ }
+fn look_apart(states: &[u8], table: &[u16], v: u16, tally: Tally, list: &mut [u16]) -> Tally
+    requires { ⌜ (length (now states) ≤ stateMost) × PairTable (now table) × (v < pairs (length (now states))) × Ordered tally ⌝ }
     ensures { λ r. ⌜ state r (now (list .exit)) ≡ emit (lookClause (statesOnly (now (states .entry))) (pairOf v .low) (pairOf v .high)) (state tally (now (list .entry))) ⌝ }
 {
-    let pair = pair_of(v);
+    let pair = pair_of(table, v);
     let low = states[wide(pair.low)];
     let high = states[wide(pair.high)];
     if low / 2 == high / 2 {
@@ -40,14 +43,15 @@ fn look_apart(states: &[u8], v: u16, tally: Tally, list: &mut [u16]) -> Tally
 
 // 1. "By ascending variable".
 pub(crate) fn looks_apart(states: &[u8], tally: Tally, list: &mut [u16]) -> Tally
-    requires { ⌜ (length (now states) ≤ 255) × Ordered tally ⌝ }
+    requires { ⌜ (length (now states) ≤ stateMost) × Ordered tally ⌝ }
     ensures { λ r. ⌜ state r (now (list .exit)) ≡ emit (lookClauses (statesOnly (now (states .entry)))) (state tally (now (list .entry))) ⌝ }
 {
+    let table = pair_table();
     let end = pairs_of(states.len() as u8);
     let mut at = tally;
     let mut v: u16 = 0;
     'variables: while v < end {
-        at = look_apart(states, v, at, list);
+        at = look_apart(states, &table, v, at, list);
         v += 1;
     }
     at

@@ -1,7 +1,7 @@
 -- A walk over the numbers below n: what is still to come of `all` and `any`, and a law for each way through a turn. Assumes nothing.
 use mathlib.Core.Path.{_≡_, refl, sym, ap, _∙_}
 use mathlib.Core.Bool.{Bool, true, false}
-use mathlib.Core.List.{List, _∷_}
+use mathlib.Core.List.{List, [], _∷_}
 use Prim.Native.Nat.{ℕ, _+_, _<_, _≤_}
 use native.Mathlib.Omega.{arith}
 use lib.ListN.{drop, drop-of-length-le}
@@ -19,6 +19,9 @@ counting f n = record { inside = omega arith; meets = refl }
 pub upto-on : (n i : ℕ) → i < n → drop i (upto n) ≡ i ∷ drop (i + 1) (upto n)
 upto-on n i h = one-on (upto n) i (omega (arith, length-upto n)) ∙ ap (λ x. x ∷ drop (i + 1) (upto n)) (getD-upto n i 0 h)
 
+pub upto-end : (n i : ℕ) → n ≤ i → drop i (upto n) ≡ []
+upto-end n i h = drop-of-length-le (upto n) {i = i} (omega (arith, length-upto n))
+
 module _ (g : ℕ → Bool) {n i : ℕ} where
   pub all-passed : Counting (all g) n i → i < n → g i ≡ true → Counting (all g) n (i + 1)
   unfolding all
@@ -30,7 +33,7 @@ module _ (g : ℕ → Bool) {n i : ℕ} where
 
   pub all-done : Counting (all g) n i → n ≤ i → true ≡ all g (upto n)
   unfolding all
-  all-done w h = sym (w .meets ∙ rw (drop-of-length-le (upto n) {i = i} (omega (arith, length-upto n))))
+  all-done w h = sym (w .meets ∙ rw (upto-end n i h))
 
   pub any-passed : Counting (any g) n i → i < n → g i ≡ false → Counting (any g) n (i + 1)
   unfolding any
@@ -42,4 +45,4 @@ module _ (g : ℕ → Bool) {n i : ℕ} where
 
   pub any-done : Counting (any g) n i → n ≤ i → false ≡ any g (upto n)
   unfolding any
-  any-done w h = sym (w .meets ∙ rw (drop-of-length-le (upto n) {i = i} (omega (arith, length-upto n))))
+  any-done w h = sym (w .meets ∙ rw (upto-end n i h))

@@ -1,7 +1,7 @@
 -- The lowest state joined to each state, variable by variable, and the map that it gives. Assumes nothing.
 use mathlib.Core.Path.{_≡_, refl, sym, ap, _∙_, subst}
 use mathlib.Core.Logic.{_≢_, _⊎_, inl, inr}
-use mathlib.Core.List.{List, [], _∷_}
+use mathlib.Core.List.{List}
 use Prim.Native.Nat.{ℕ, suc, _+_, _≤_, _<_}
 use native.Mathlib.Numerals.{add-one}
 use native.Mathlib.Omega.{arith}
@@ -12,9 +12,11 @@ use Rattle.lists.specs.Lists.{upto}
 use Rattle.lists.proofs.Members.{getD-any, getD-upto}
 use Rattle.cnf.specs.Clauses.{valueOf}
 use Rattle.limits.specs.Limits.{stateMost}
-use Rattle.limits.specs.Pairs.{pairs}
-use Rattle.clauses.specs.Pairs.{variableOf, Pair, pairOf}
-use Rattle.clauses.proofs.Pairs.{variable-lt, variable-pair, pair-variable, pair-ordered, pair-below}
+use Rattle.pairs.specs.declared.Pair.{Pair}
+use Rattle.pairs.specs.Pairs.{pairs, variableOf, pairOf}
+use Rattle.pairs.specs.Entries.{pairIn, PairTable}
+use Rattle.pairs.proofs.Pairs.{variable-lt, variable-pair, pair-variable, pair-ordered, pair-below}
+use Rattle.pairs.proofs.Entries.{pair-found}
 use Rattle.reduce.specs.Lowest.{Lowest, LowestJoined}
 
 -- ---- variable by variable
@@ -23,7 +25,7 @@ use Rattle.reduce.specs.Lowest.{Lowest, LowestJoined}
 own : (v : List ℕ) (q : ℕ) → Lowest v 0 q q
 own v q = record { within = omega arith; earlier = λ n. absurd (n refl); joined = λ n. absurd (n refl); least = λ p l h. absurd (omega arith) }
 
-pub all-own : (v : List ℕ) → LowestJoined v 0 (0 ∷ 1 ∷ 2 ∷ 3 ∷ 4 ∷ 5 ∷ 6 ∷ 7 ∷ 8 ∷ 9 ∷ 10 ∷ 11 ∷ 12 ∷ 13 ∷ 14 ∷ 15 ∷ 16 ∷ 17 ∷ 18 ∷ 19 ∷ 20 ∷ 21 ∷ 22 ∷ 23 ∷ 24 ∷ 25 ∷ 26 ∷ 27 ∷ 28 ∷ 29 ∷ 30 ∷ 31 ∷ 32 ∷ 33 ∷ 34 ∷ 35 ∷ 36 ∷ 37 ∷ 38 ∷ 39 ∷ [])
+pub all-own : (v : List ℕ) → LowestJoined v 0 (upto stateMost)
 unfolding upto
 all-own v = record { long = refl; each = λ q h. subst (λ (l : ℕ). Lowest v 0 q l) (sym (getD-upto stateMost q 0 h)) (own v q) }
 
@@ -100,28 +102,31 @@ module _ {v low : List ℕ} {n x : ℕ} (fits : (n ≤ stateMost) × (pairs n �
   pub seen-false : getD v x 0 ≢ 1 → Seen v n (x + 1) low
   seen-false e = one-on (passed-false (h .lowest) (λ f. e (getD-any v x 0 2 (omega arith) ∙ f)))
 
-  module _ {a b : ℕ} (found : record { low = a; high = b } ≡ pairOf x) where
-    high-is : b ≡ pairOf x .high
-    high-is = ap (λ (p : Pair). p .high) found
+  module _ {a b q : ℕ} {t : List ℕ} (table : PairTable t) (found : record { low = a; high = b } ≡ pairIn t x) (widened : q ≡ b) where
+    is-pair : record { low = a; high = b } ≡ pairOf x
+    is-pair = pair-found n x (fits .0) table l found
 
     low-is : a ≡ pairOf x .low
-    low-is = ap (λ (p : Pair). p .low) found
+    low-is = ap (λ (p : Pair). p .low) is-pair
 
-    pub high-below : b < stateMost
-    high-below = omega (arith, high-is, pair-below n x l)
+    high-is : b ≡ pairOf x .high
+    high-is = ap (λ (p : Pair). p .high) is-pair
 
-    pub low-below : a < stateMost
-    low-below = omega (arith, low-is, high-is, high-below, pair-ordered x)
+    place-is : q ≡ pairOf x .high
+    place-is = widened ∙ high-is
 
-    pub seen-later : getD low b 0 ≢ b → Seen v n (x + 1) low
-    seen-later e = one-on (passed-later (h .lowest) (λ f. e (ap (λ (y : ℕ). getD low y 0) high-is ∙ f ∙ sym high-is)))
+    pub high-below : q < stateMost
+    high-below = omega (arith, place-is, pair-below n x l)
 
-    pub seen-lower : getD v x 0 ≡ 1 → getD low b 0 ≡ b → Seen v n (x + 1) (set low b a)
+    pub seen-later : getD low q 0 ≢ b → Seen v n (x + 1) low
+    seen-later e = one-on (passed-later (h .lowest) (λ f. e (ap (λ (y : ℕ). getD low y 0) place-is ∙ f ∙ sym high-is)))
+
+    pub seen-lower : getD v x 0 ≡ 1 → getD low q 0 ≡ b → Seen v n (x + 1) (set low q a)
     seen-lower is e =
         one-on
-        (subst (λ (y : ℕ). LowestJoined v (suc x) (set low b y)) (sym low-is)
-        (subst (λ (y : ℕ). LowestJoined v (suc x) (set low y (pairOf x .low))) (sym high-is)
-        (lower (h .lowest) (omega (arith, high-is, high-below)) (ap (λ (y : ℕ). getD low y 0) (sym high-is) ∙ e ∙ high-is) (getD-any v x 2 0 (omega arith) ∙ is))))
+        (subst (λ (y : ℕ). LowestJoined v (suc x) (set low q y)) (sym low-is)
+        (subst (λ (y : ℕ). LowestJoined v (suc x) (set low y (pairOf x .low))) (sym place-is)
+        (lower (h .lowest) (omega (arith, place-is, high-below)) (ap (λ (y : ℕ). getD low y 0) (sym place-is) ∙ e ∙ high-is) (getD-any v x 2 0 (omega arith) ∙ is))))
 
 pub seen-all : {v low : List ℕ} {n x : ℕ} → Seen v n x low → pairs n ≤ x → LowestJoined v (pairs n) low
 seen-all {v} {low} {n} {x} h l = subst (λ (y : ℕ). LowestJoined v y low) (omega (arith, h .inside)) (h .lowest)

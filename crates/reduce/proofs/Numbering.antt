@@ -13,13 +13,12 @@ use borrow.Author.Tests.{eq-eqb, ne-eqb}
 use Rattle.lists.specs.Lists.{keep, upto}
 use Rattle.lists.proofs.Counts.{keep-append}
 use Rattle.cnf.specs.Clauses.{valueOf}
+use Rattle.pairs.specs.Pairs.{pairs, variableOf}
+use Rattle.pairs.proofs.Pairs.{variable-below}
 use Rattle.table.specs.Maps.{classes}
 use Rattle.maps.proofs.Numbered.{class-below}
 use Rattle.limits.specs.Limits.{stateMost}
-use Rattle.limits.specs.Pairs.{pairs}
-use Rattle.clauses.specs.Pairs.{variableOf}
 use Rattle.clauses.specs.Maps.{joinedBy, nextClass, mapOf}
-use Rattle.clauses.proofs.Pairs.{variable-below}
 use Rattle.reduce.specs.Lowest.{Lowest, LowestJoined, MapOf}
 
 -- ---- the first state that passes a test

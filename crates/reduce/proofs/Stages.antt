@@ -3,7 +3,7 @@
 use mathlib.Core.Path.{_≡_, refl, sym, ap, _∙_, subst}
 use mathlib.Core.Bool.{Bool, true, false}
 use mathlib.Core.List.{List, _++_}
-use Prim.Native.Nat.{ℕ, _+_, _≤_, _<_}
+use Prim.Native.Nat.{ℕ, _≤_, _<_}
 use native.Mathlib.Omega.{arith}
 use lib.ListN.{length, take, drop, length-append}
 use lib.Seq.{length-take-le, take-at}
@@ -17,6 +17,8 @@ use Rattle.cnf.proofs.Words.{fit-formed, clauses-words, whole-words}
 use Rattle.cnf.proofs.Theorems.{satisfies}
 use Rattle.limits.specs.declared.Limits.{Limits}
 use Rattle.limits.specs.Limits.{stateMost}
+use Rattle.pairs.specs.Pairs.{pairs}
+use Rattle.pairs.proofs.Pairs.{pairs-mono, most-pairs}
 use Rattle.table.specs.File.{tableOf}
 use Rattle.table.specs.Reading.{readNumber, Readable, readOf}
 use Rattle.table.specs.Sections.{ReadAs, partOf}
@@ -29,13 +31,11 @@ use Rattle.table.proofs.Bytes.{read-well-formed}
 use Rattle.table.proofs.Facts.{few-states, most-states}
 use Rattle.table.proofs.Handed.{read-refused}
 use Rattle.table.proofs.Parts.{states-read}
-use Rattle.limits.specs.Pairs.{pairs}
 use Rattle.clauses.specs.Clauses.{clauseList, clauseWords, clausesNumber, ClausesDone, clausesOf}
 use Rattle.clauses.specs.Maps.{mapOf}
 use Rattle.clauses.specs.declared.Listed.{Listed}
 use Rattle.clauses.specs.declared.Listed.the-variants.{List as Words, Refused as NotListed}
 use Rattle.clauses.proofs.Formed.{list-fits}
-use Rattle.limits.proofs.Pairs.{pairs-mono, most-pairs}
 use Rattle.search.specs.Answers.{listFits, searchNumber, Searched, searched, searchAt, searchOf}
 use Rattle.search.specs.declared.Solution.{Solution}
 use Rattle.search.specs.declared.Solution.the-variants.{Solved, Refused as NotSolved}

@@ -13,13 +13,13 @@ use Rattle.cnf.proofs.Words.{fit-formed}
 use Rattle.cnf.proofs.Horn.{madeOf}
 use Rattle.cnf.proofs.Theorems.{horn}
 use Rattle.limits.specs.declared.Limits.{Limits}
+use Rattle.pairs.specs.Pairs.{pairs}
 use Rattle.table.specs.File.{tableOf}
 use Rattle.table.specs.Language.{count, SameWords}
 use Rattle.table.specs.Maps.{classes, NoneCoarser}
 use Rattle.table.proofs.Bytes.{read-well-formed}
 use Rattle.maps.specs.Check.{checkNumber, checkOf}
 use Rattle.maps.specs.declared.Checked.the-variants.{Accepted}
-use Rattle.limits.specs.Pairs.{pairs}
 use Rattle.clauses.specs.Clauses.{clauseList}
 use Rattle.clauses.specs.Maps.{mapOf}
 use Rattle.clauses.proofs.Formed.{list-fits, list-horn}

@@ -16,6 +16,7 @@ use Rattle.cnf.proofs.Values.{Formed}
 use Rattle.cnf.proofs.Words.{fit-formed}
 use Rattle.cnf.proofs.Theorems.{satisfies, maximal, never-none, ends}
 use Rattle.limits.specs.declared.Limits.{Limits}
+use Rattle.pairs.specs.Pairs.{pairs}
 use Rattle.table.specs.File.{tableOf}
 use Rattle.table.specs.Reading.{readNumber, Readable}
 use Rattle.table.specs.Language.{count}
@@ -23,7 +24,6 @@ use Rattle.table.specs.Maps.{classes}
 use Rattle.table.proofs.Passed.{read-within}
 use Rattle.table.proofs.Bytes.{read-well-formed}
 use Rattle.maps.specs.Check.{checkNumber}
-use Rattle.limits.specs.Pairs.{pairs}
 use Rattle.clauses.specs.Clauses.{clauseList, clauseWords}
 use Rattle.clauses.specs.Maps.{mapOf}
 use Rattle.clauses.proofs.Formed.{list-fits}

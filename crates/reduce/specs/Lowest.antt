@@ -6,8 +6,8 @@ use Prim.Native.Nat.{ℕ, _≤_, _<_}
 use lib.ListN.{length, getD, take}
 use Rattle.cnf.specs.Clauses.{valueOf}
 use Rattle.limits.specs.Limits.{stateMost}
+use Rattle.pairs.specs.Pairs.{variableOf}
 use Rattle.table.specs.Maps.{classes}
-use Rattle.clauses.specs.Pairs.{variableOf}
 use Rattle.clauses.specs.Maps.{mapOf}
 use Rattle.reduce.specs.declared.map.Classes.{Classes}
 

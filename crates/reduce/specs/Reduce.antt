@@ -8,11 +8,11 @@ use lib.Dec.{eqb, leb}
 use Rattle.lists.specs.Lists.{over}
 use Rattle.cnf.specs.Search.{Outcome, solved, none-exists, spent, unfinished, searchFrom}
 use Rattle.limits.specs.declared.Limits.{Limits}
+use Rattle.pairs.specs.Pairs.{pairs}
 use Rattle.table.specs.File.{tableOf}
 use Rattle.table.specs.Reading.{readNumber}
 use Rattle.table.specs.Language.{count}
 use Rattle.table.specs.Maps.{classes}
-use Rattle.limits.specs.Pairs.{pairs}
 use Rattle.clauses.specs.Clauses.{clauseList, clauseWords}
 use Rattle.clauses.specs.Maps.{mapOf}
 use Rattle.quotient.specs.Quotient.{quotientBytes, quotientNumber}

@@ -5,10 +5,10 @@ ghost use Prim.Native.Nat.{ℕ, _≤_};
 ghost use lib.ListN.{length};
 ghost use Rattle.lists.specs.Lists.{over};
 ghost use Rattle.limits.specs.Limits.{standard};
+ghost use Rattle.pairs.specs.Pairs.{pairs};
 ghost use Rattle.table.specs.File.{tableOf};
 ghost use Rattle.table.specs.Reading.{Readable};
 ghost use Rattle.table.specs.Language.{count};
-ghost use Rattle.limits.specs.Pairs.{pairs};
 ghost use Rattle.clauses.specs.Clauses.{clauseWords};
 ghost use Rattle.clauses.specs.Maps.{mapOf};
 ghost use Rattle.reduce.specs.Reduce.{Reduced, searchOfTable, deliver, afterSearch, reduceOf};
@@ -80,7 +80,7 @@ fn solve_listed(
     requires { ⌜ Readable limits (now table) × (n ≡ count (tableOf (now table))) × (n ≤ length (now map)) × (now list ≡ clauseWords (tableOf (now table))) ⌝ }
     ensures { λ r. ⌜ ((before : List ℕ) → _≡_ {A = Reduced} (record { answer = r; list = over (clauseWords (tableOf (now (table .entry)))) before; map = now (map .exit); out = now (out .exit) }) (afterSearch limits (now (table .entry)) before (now (map .entry)) (now (out .entry)) (searchOfTable (now (table .entry)) budget))) ⌝ }
 {
-    let variables = clauses::pairs_of(n) as usize;
+    let variables = pairs::pairs_of(n) as usize;
     let mut values = [0u8; 780];
     let solution = search::search_within(limits, list, variables, budget, &mut values);
     match solution {

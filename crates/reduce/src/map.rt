@@ -2,7 +2,7 @@
 ghost use mathlib.Core.Path.{_≡_};
 ghost use Prim.Native.Nat.{_≤_};
 ghost use lib.ListN.{length};
-ghost use Rattle.limits.specs.Pairs.{pairs};
+ghost use Rattle.pairs.specs.Pairs.{pairs};
 ghost use Rattle.reduce.specs.Lowest.{LowestJoined, MapOf};
 
 // A class for each of the first states, and how many classes there are.
@@ -67,7 +67,8 @@ fn lowest_joined(values: &[u8], n: u8) -> [u8; 40]
     ensures { λ r. ⌜ LowestJoined (now (values .entry)) (pairs n) r ⌝ }
 {
     let mut low = ITSELF;
-    let count = clauses::pairs_of(n);
+    let table = pairs::pair_table();
+    let count = pairs::pairs_of(n);
     let mut v: u16 = 0;
     'variables: while v < count {
         let x = v;
@@ -75,12 +76,12 @@ fn lowest_joined(values: &[u8], n: u8) -> [u8; 40]
         if values[x as usize] != 1 {
             continue 'variables;
         }
-        let pair = clauses::pair_of(x);
-        let q = pair.high as usize;
-        if wide(low[q]) != q {
+        let pair = pairs::pair_of(&table, x);
+        let q = wide(pair.high);
+        if low[q] != pair.high {
             continue 'variables;
         }
-        low[q] = pair.low as u8;
+        low[q] = pair.low;
     }
     low
 }

@@ -3,7 +3,7 @@ use mathlib.Core.Path.{_≡_, refl, sym, ap, _∙_}
 use mathlib.Core.Logic.{_≢_}
 use mathlib.Core.Bool.{Bool, true, false, _&&_}
 use mathlib.Core.List.{List, [], _∷_, _++_}
-use Prim.Native.Nat.{ℕ, zero, suc, _+_, _-_, _*_, _≤_, _<_}
+use Prim.Native.Nat.{ℕ, zero, suc, _-_, _*_, _≤_, _<_}
 use native.Mathlib.Nat.{mul-le-mul}
 use native.Mathlib.Omega.{arith}
 use lib.ListN.{length, take, drop, replicate, length-append, length-replicate}
@@ -18,6 +18,7 @@ use Rattle.cnf.specs.Search.{Outcome, solved, none-exists, spent, unfinished, s
 use Rattle.cnf.proofs.Values.{Formed}
 use Rattle.cnf.proofs.Words.{fit-formed}
 use Rattle.cnf.proofs.Theorems as theorems
+use Rattle.pairs.specs.Pairs.{pairs}
 use Rattle.search.specs.declared.Solution.{Solution}
 use Rattle.search.specs.declared.Solution.the-variants.{Solved, Refused}
 use Rattle.search.specs.declared.solve.Ending.{Ending}
@@ -27,7 +28,6 @@ use Rattle.search.specs.Answers.{listFits, searchNumber, Searched, searc
 use Rattle.search.specs.Demands.{SearchSound}
 use Rattle.limits.specs.declared.Limits.{Limits}
 use Rattle.limits.specs.Limits.{limitsFit}
-use Rattle.limits.specs.Pairs.{pairs}
 
 -- ---- the refusals, in order
 

@@ -8,9 +8,9 @@ use lib.Dec.{eqb, leb}
 use Rattle.lists.specs.Lists.{all, over, firstFailed}
 use Rattle.limits.specs.declared.Limits.{Limits}
 use Rattle.limits.specs.Limits.{limitsFit}
-use Rattle.limits.specs.Pairs.{pairs}
 use Rattle.cnf.specs.Clauses.{clausesIn, whole, clauseFits}
 use Rattle.cnf.specs.Search.{Outcome, solved, none-exists, spent, unfinished, searchFrom}
+use Rattle.pairs.specs.Pairs.{pairs}
 use Rattle.search.specs.declared.Solution.{Solution}
 use Rattle.search.specs.declared.Solution.the-variants.{Solved, Refused}
 

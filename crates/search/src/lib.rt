@@ -3,7 +3,7 @@ ghost use mathlib.Core.Path.{_≡_};
 ghost use mathlib.Core.Bool.{true};
 ghost use Prim.Native.Nat.{_≤_};
 ghost use Rattle.limits.specs.Limits.{standard, limitsFit};
-ghost use Rattle.limits.specs.Pairs.{pairs};
+ghost use Rattle.pairs.specs.Pairs.{pairs};
 ghost use Rattle.search.specs.Answers.{Searched, searchAt, searchOf};
 ghost use Rattle.search.specs.Demands.{SearchSound};
 ghost use Rattle.search.specs.Turns.{noneSet};

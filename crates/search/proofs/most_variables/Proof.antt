@@ -1,8 +1,8 @@
 -- `search::most_variables` meets its contract. Assumes nothing.
 use mathlib.Core.Path.{refl}
 use native.Mathlib.Omega.{arith}
-use Rattle.limits.specs.Pairs.{pairs}
 use Rattle.limits.proofs.Within.{limits-within}
+use Rattle.pairs.specs.Pairs.{pairs}
 use Rattle.search.proofs.Answering.{few-product}
 use Rattle.search.proofs.most_variables.Statement.{statement}
 use Rattle.search.proofs.most_variables.Tie as tie

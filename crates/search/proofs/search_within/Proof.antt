@@ -3,7 +3,7 @@ use mathlib.Core.Path.{sym, _∙_}
 use native.Mathlib.Omega.{arith}
 use borrow.Author.Needs.{needs}
 use borrow.Author.Tests.{not-true, not-false}
-use Rattle.limits.proofs.Pairs.{few-pairs}
+use Rattle.pairs.proofs.Pairs.{few-pairs}
 use Rattle.search.proofs.Answering as laws
 use Rattle.search.proofs.search_within.Statement.{statement}
 use Rattle.search.proofs.search_within.Tie as tie

@@ -1,7 +1,7 @@
 -- `clauses::literals::parted` meets its contract. Assumes nothing.
 use native.Mathlib.Omega.{arith}
 use borrow.Author.Needs.{needs}
-use Rattle.clauses.proofs.Pairs.{variable-byte}
+use Rattle.pairs.proofs.Pairs.{variable-byte}
 use Rattle.clauses.proofs.literals.parted.Statement.{statement}
 use Rattle.clauses.proofs.literals.parted.Tie as tie
 

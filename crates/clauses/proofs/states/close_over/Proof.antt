@@ -2,7 +2,7 @@
 use Prim.Native.Nat.{_-_}
 use borrow.Author.Needs.{needs}
 use Rattle.lists.specs.Lists.{gather}
-use Rattle.clauses.specs.Clauses.{triangle, past}
+use Rattle.pairs.specs.Triangles.{triangle, past}
 use Rattle.clauses.specs.Emit.{state}
 use Rattle.clauses.proofs.Stepping.{Over, over-past, over-on, over-done}
 use Rattle.clauses.proofs.states.close_over.Statement.{statement}

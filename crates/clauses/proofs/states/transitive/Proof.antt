@@ -2,7 +2,8 @@
 use Prim.Native.Nat.{_-_}
 use borrow.Author.Needs.{needs}
 use Rattle.lists.specs.Lists.{gather, upto}
-use Rattle.clauses.specs.Clauses.{triangle, past, transitivity}
+use Rattle.pairs.specs.Triangles.{triangle, past, triangles}
+use Rattle.clauses.specs.Clauses.{transitivity}
 use Rattle.clauses.specs.Emit.{state}
 use Rattle.clauses.proofs.Stepping.{Over, over-all, over-on, over-done}
 use Rattle.clauses.proofs.states.transitive.Statement.{statement}
@@ -36,7 +37,7 @@ same-length : tie.Need-same-length Inv-states μ-states
 same-length c = c .before .states .inv .coming .long
 
 returns : tie.Need-returns Inv-states μ-states
-unfolding transitivity
+unfolding transitivity triangles
 returns c = over-done (c .before .states .inv) (c .states-test .left)
 
 pub transitive-spec : {M : Type 1} → statement M

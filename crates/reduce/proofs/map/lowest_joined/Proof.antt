@@ -1,88 +1,71 @@
 -- `reduce::map::lowest_joined` meets its contract: each state has its lowest joined state among the variables so far. Assumes nothing.
 use Prim.Native.Nat.{_-_}
-use mathlib.Core.Path.{sym, _∙_}
 use native.Mathlib.Omega.{arith}
 use borrow.Author.Needs.{needs}
-use Rattle.limits.specs.Pairs.{pairs}
-use Rattle.reduce.proofs.Lowest.{Seen, all-own, seen-false, seen-later, seen-lower, high-below, low-below, seen-all}
+use Rattle.pairs.specs.Pairs.{pairs}
+use Rattle.lists.specs.Lists.{upto}
+use Rattle.reduce.proofs.Lowest.{Seen, all-own, seen-false, seen-later, seen-lower, high-below, seen-all}
 use Rattle.reduce.proofs.map.lowest_joined.Statement.{statement}
 use Rattle.reduce.proofs.map.lowest_joined.Tie as tie
 
 abbrev Inv-variables : tie.InvT-variables
-Inv-variables values n low₀ count v₀ low v = Seen values n v low
+Inv-variables values n low₀ table count v₀ low v = Seen values n v low
 
 abbrev μ-variables : tie.MeasureT-variables
-μ-variables values n low₀ count v₀ low v = pairs n - v
+μ-variables values n low₀ table count v₀ low v = pairs n - v
 
--- src/map.rt:26:9
+pair-table-requires : tie.Need-pair-table-requires Inv-variables μ-variables
+pair-table-requires c κs = search needs
+
 pairs-of-requires : tie.Need-pairs-of-requires Inv-variables μ-variables
 pairs-of-requires c κs = search needs
 
--- src/map.rt:28:5
 variables-holds : tie.Need-variables-holds Inv-variables μ-variables
+unfolding upto
 variables-holds c = record { inside = omega arith; lowest = all-own _ }
 
--- src/map.rt:30:9
 add-v : tie.Need-add-v Inv-variables μ-variables
 add-v c = search needs
 
--- src/map.rt:31:19
 cast-if1 : tie.Need-cast-if1 Inv-variables μ-variables
 cast-if1 c = search needs
 
--- src/map.rt:31:12
 shared-slice-read-if1 : tie.Need-shared-slice-read-if1 Inv-variables μ-variables
 shared-slice-read-if1 c = search needs
 
--- src/map.rt:28:5
 variables-less : tie.Need-variables-less Inv-variables μ-variables
 variables-less c = search needs
 
--- src/map.rt:28:5
 variables-again : tie.Need-variables-again Inv-variables μ-variables
-variables-again c = seen-false (c .before .before .before .before .before .before .pre) (c .before .before .before .variables .inv) (omega (arith, c .before .before .before .before .pairs-of .ensures, c .before .before .variables-test .taken)) (c .if1 .taken)
+variables-again c = let a = c .before .before in seen-false (a .before .before .before .before .before .pre) (a .before .variables .inv) (omega (arith, a .before .before .pairs-of .ensures, a .variables-test .taken)) (c .if1 .taken)
 
--- src/map.rt:34:13
+slice-aggregate-pair-of : tie.Need-slice-aggregate-pair-of Inv-variables μ-variables
+slice-aggregate-pair-of c = search needs
+
 pair-of-requires : tie.Need-pair-of-requires Inv-variables μ-variables
 pair-of-requires c κs = search needs
 
--- src/map.rt:35:17
-cast-q : tie.Need-cast-q Inv-variables μ-variables
-cast-q c = search needs
-
--- src/map.rt:36:17
-array-read-wide : tie.Need-array-read-wide Inv-variables μ-variables
-array-read-wide c = high-below (c .before .before .before .before .before .before .before .before .pre) (c .before .before .before .before .before .variables .inv) (omega (arith, c .before .before .before .before .before .before .pairs-of .ensures, c .before .before .before .before .variables-test .taken)) (c .before .pair-of .ensures)
-
--- src/map.rt:36:12
 wide-requires : tie.Need-wide-requires Inv-variables μ-variables
 wide-requires c κs = search needs
 
--- src/map.rt:28:5
+array-read-if2 : tie.Need-array-read-if2 Inv-variables μ-variables
+array-read-if2 c = let a = c .before .before .before .before .before in high-below (a .before .before .before .before .before .pre) (a .before .variables .inv) (omega (arith, a .before .before .pairs-of .ensures, a .variables-test .taken)) (a .before .before .before .pair-table .ensures) (c .before .pair-of .ensures) (c .wide .ensures)
+
 variables-less-2 : tie.Need-variables-less-2 Inv-variables μ-variables
 variables-less-2 c = search needs
 
--- src/map.rt:28:5
 variables-again-2 : tie.Need-variables-again-2 Inv-variables μ-variables
-variables-again-2 c = seen-later (c .before .before .before .before .before .before .before .before .before .before .pre) (c .before .before .before .before .before .before .before .variables .inv) (omega (arith, c .before .before .before .before .before .before .before .before .pairs-of .ensures, c .before .before .before .before .before .before .variables-test .taken)) (c .before .before .before .pair-of .ensures) (λ e. c .if2 .taken (c .before .wide .ensures ∙ e))
+variables-again-2 c = let a = c .before .before .before .before .before .before .before in seen-later (a .before .before .before .before .before .pre) (a .before .variables .inv) (omega (arith, a .before .before .pairs-of .ensures, a .variables-test .taken)) (a .before .before .before .pair-table .ensures) (c .before .before .before .pair-of .ensures) (c .before .before .wide .ensures) (c .if2 .taken)
 
--- src/map.rt:39:18
-cast-low : tie.Need-cast-low Inv-variables μ-variables
-cast-low c = record { fits = omega (arith, low-below (c .before .before .before .before .before .before .before .before .before .before .before .pre) (c .before .before .before .before .before .before .before .before .variables .inv) (omega (arith, c .before .before .before .before .before .before .before .before .before .pairs-of .ensures, c .before .before .before .before .before .before .before .variables-test .taken)) (c .before .before .before .before .pair-of .ensures)) }
-
--- src/map.rt:39:9
 array-write-low : tie.Need-array-write-low Inv-variables μ-variables
-array-write-low c = high-below (c .before .before .before .before .before .before .before .before .before .before .before .pre) (c .before .before .before .before .before .before .before .before .variables .inv) (omega (arith, c .before .before .before .before .before .before .before .before .before .pairs-of .ensures, c .before .before .before .before .before .before .before .variables-test .taken)) (c .before .before .before .before .pair-of .ensures)
+array-write-low c = let a = c .before .before .before .before .before .before .before in high-below (a .before .before .before .before .before .pre) (a .before .variables .inv) (omega (arith, a .before .before .pairs-of .ensures, a .variables-test .taken)) (a .before .before .before .pair-table .ensures) (c .before .before .before .pair-of .ensures) (c .before .before .wide .ensures)
 
--- src/map.rt:28:5
 variables-less-3 : tie.Need-variables-less-3 Inv-variables μ-variables
 variables-less-3 c = search needs
 
--- src/map.rt:28:5
 variables-again-3 : tie.Need-variables-again-3 Inv-variables μ-variables
-variables-again-3 c = seen-lower (c .before .before .before .before .before .before .before .before .before .before .before .pre) (c .before .before .before .before .before .before .before .before .variables .inv) (omega (arith, c .before .before .before .before .before .before .before .before .before .pairs-of .ensures, c .before .before .before .before .before .before .before .variables-test .taken)) (c .before .before .before .before .pair-of .ensures) (c .before .before .before .before .before .if1 .left) (sym (c .before .before .wide .ensures) ∙ c .before .if2 .left)
+variables-again-3 c = let a = c .before .before .before .before .before .before .before in seen-lower (a .before .before .before .before .before .pre) (a .before .variables .inv) (omega (arith, a .before .before .pairs-of .ensures, a .variables-test .taken)) (a .before .before .before .pair-table .ensures) (c .before .before .before .pair-of .ensures) (c .before .before .wide .ensures) (c .before .before .before .before .before .if1 .left) (c .if2 .left)
 
--- src/map.rt:21:1
 returns : tie.Need-returns Inv-variables μ-variables
 returns c = seen-all (c .before .variables .inv) (omega (arith, c .before .before .pairs-of .ensures, c .variables-test .left))
 
@@ -92,6 +75,7 @@ lowest-joined-spec =
     (tie.spec
     Inv-variables
     μ-variables
+    pair-table-requires
     pairs-of-requires
     variables-holds
     add-v
@@ -99,13 +83,12 @@ lowest-joined-spec =
     shared-slice-read-if1
     variables-less
     variables-again
+    slice-aggregate-pair-of
     pair-of-requires
-    cast-q
-    array-read-wide
     wide-requires
+    array-read-if2
     variables-less-2
     variables-again-2
-    cast-low
     array-write-low
     variables-less-3
     variables-again-3

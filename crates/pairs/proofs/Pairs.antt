@@ -1,15 +1,43 @@
--- The variables of n states are their pairs: the formula and the way back, both ways. Assumes nothing.
+-- The variables of n states are their pairs: how many there are, the formula and the way back, both ways. Assumes nothing.
 use mathlib.Core.Path.{_≡_, refl, sym, ap, _∙_}
 use mathlib.Core.Logic.{_≢_}
 use mathlib.Core.Bool.{Bool, true, false}
 use Prim.Native.Nat.{ℕ, zero, suc, _+_, _-_, _*_, _≤_, _<_}
-use native.Mathlib.Numerals.{add-one}
 use native.Mathlib.Omega.{arith}
 use lib.Dec.{eqb, ltb}
-use borrow.Author.Tests.{eqb-true, eqb-false, ltb-true, ltb-false, lt-ltb, le-ltb}
-use Rattle.limits.specs.Pairs.{pairs}
-use Rattle.limits.proofs.Pairs.{less-one, pairs-suc, pairs-mono}
-use Rattle.clauses.specs.Pairs.{variableOf, pairFrom, pairOf}
+use borrow.Author.Tests.{eqb-true, eqb-false, ltb-true, ltb-false, lt-ltb}
+use Rattle.limits.specs.declared.Limits.{Limits}
+use Rattle.limits.specs.Limits.{stateMost, limitsFit}
+use Rattle.limits.proofs.Within.{limits-within}
+use Rattle.pairs.specs.Pairs.{pairs, variableOf, pairFrom, pairOf}
+
+-- ---- how many pairs there are
+
+less-one : (m : ℕ) → suc m - 1 ≡ m
+less-one m = omega arith
+
+pub pairs-suc : (n : ℕ) → pairs (suc n) ≡ pairs n + n
+unfolding pairs
+pairs-suc zero = refl
+pairs-suc (suc m) = rw (less-one (suc m), less-one m) (omega arith)
+
+pub pairs-mono : (m n : ℕ) → m ≤ n → pairs m ≤ pairs n
+pairs-mono m zero h = let e : m ≡ 0 = omega arith in omega (arith, ap pairs e)
+pairs-mono m (suc n) h = go (eqb m (suc n)) refl (pairs-mono m n)
+  where
+    go : (t : Bool) → eqb m (suc n) ≡ t → (m ≤ n → pairs m ≤ pairs n) → pairs m ≤ pairs (suc n)
+    go true e ih = omega (arith, ap pairs (eqb-true m (suc n) e))
+    go false e ih = omega (arith, pairs-suc n, ih (omega (arith, eqb-false m (suc n) e)))
+
+-- "Variables reach 779" (document 02, request (xiii))
+pub most-pairs : (n : ℕ) → n ≤ stateMost → pairs n ≤ 780
+unfolding pairs
+most-pairs n h = pairs-mono n stateMost h
+
+pub few-pairs : (L : Limits) → limitsFit L ≡ true → pairs (L .states) ≤ 780
+few-pairs L e = most-pairs (L .states) (limits-within e .states)
+
+-- ---- the formula
 
 -- the formula, with the lower state first
 pub variable-lt : (p q : ℕ) → p < q → variableOf p q ≡ pairs q + p
@@ -104,36 +132,6 @@ pairs-byte n h = pairs-mono n 255 (omega arith)
 pub product-byte : (n : ℕ) → n < 256 → n * (n - 1) < 65536
 unfolding pairs
 product-byte n h = omega (arith, pairs-byte n h)
-
--- ---- the way back, turn by turn: as many states on as are left
-
-pub record Finding (v low high : ℕ) : Type 0 where
-  pub some-state : 1 ≤ high
-  pub small : high + low ≤ v + 1
-  pub left : ℕ
-  pub enough : low ≤ left
-  pub meets : pairOf v ≡ pairFrom left high low
-
-pub finding : (v : ℕ) → Finding v v 1
-unfolding pairOf
-finding v = record { some-state = omega arith; small = omega arith; left = v; enough = omega arith; meets = refl }
-
-module _ {v low high : ℕ} (w : Finding v low high) where
-  pub find-on : high ≤ low → Finding v (low - high) (high + 1)
-  unfolding pairFrom
-  find-on h = go (w .left) (w .enough) (w .meets)
-    where
-      go : (k : ℕ) → low ≤ k → pairOf v ≡ pairFrom k high low → Finding v (low - high) (high + 1)
-      go zero l e = absurd (omega (arith, w))
-      go (suc k) l e = record { some-state = omega arith; small = omega (arith, w); left = k; enough = omega (arith, w); meets = e ∙ rw (le-ltb low high h, pairFrom, add-one high) }
-
-  pub found : low < high → record { low = low; high = high } ≡ pairOf v
-  unfolding pairFrom
-  found h = go (w .left) (w .meets)
-    where
-      go : (k : ℕ) → pairOf v ≡ pairFrom k high low → record { low = low; high = high } ≡ pairOf v
-      go zero e = sym e
-      go (suc k) e = sym (e ∙ rw (lt-ltb low high h, pairFrom))
 
 pub variable-byte : (p q : ℕ) → p < 256 → q < 256 → variableOf p q ≤ 32640
 variable-byte p q h k = go (ltb p q) refl

@@ -1,9 +1,9 @@
--- `clauses::variables::pairs_of` meets its contract. Assumes nothing.
+-- `pairs::pairs_of` meets its contract. Assumes nothing.
 use borrow.Author.Needs.{needs}
-use Rattle.limits.specs.Pairs.{pairs}
-use Rattle.clauses.proofs.Pairs.{product-byte}
-use Rattle.clauses.proofs.variables.pairs_of.Statement.{statement}
-use Rattle.clauses.proofs.variables.pairs_of.Tie as tie
+use Rattle.pairs.specs.Pairs.{pairs}
+use Rattle.pairs.proofs.Pairs.{product-byte}
+use Rattle.pairs.proofs.pairs_of.Statement.{statement}
+use Rattle.pairs.proofs.pairs_of.Tie as tie
 
 returns : tie.Need-returns
 unfolding pairs

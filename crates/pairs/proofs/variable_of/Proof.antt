@@ -1,11 +1,11 @@
--- `clauses::variables::variable_of` meets its contract. Assumes nothing.
+-- `pairs::variable_of` meets its contract. Assumes nothing.
 use native.Mathlib.Omega.{arith}
 use borrow.Author.Needs.{needs}
 use borrow.Author.Tests.{lt-ltb, le-ltb}
-use Rattle.clauses.specs.Pairs.{variableOf}
-use Rattle.clauses.proofs.Pairs.{pairs-byte}
-use Rattle.clauses.proofs.variables.variable_of.Statement.{statement}
-use Rattle.clauses.proofs.variables.variable_of.Tie as tie
+use Rattle.pairs.specs.Pairs.{variableOf}
+use Rattle.pairs.proofs.Pairs.{pairs-byte}
+use Rattle.pairs.proofs.variable_of.Statement.{statement}
+use Rattle.pairs.proofs.variable_of.Tie as tie
 
 pairs-of-requires : tie.Need-pairs-of-requires
 pairs-of-requires c κs = search needs
