@@ -1,5 +1,5 @@
-//! What is measured: tables of 4 to 24 states, with at most one target a move and with any number, some of them copies of a smaller one; and for the
-//! search a list with thousands of guesses.
+//! What is measured: tables of 4 to 24 states, with at most one target a move and with any number, some of them copies of a smaller one; three that
+//! take thousands of guesses; and for the search a list with tens of thousands.
 
 use crate::capi;
 use crate::random::{self, Random};
@@ -28,7 +28,11 @@ impl Recipe {
     }
 }
 
-/// A table with what its stages are lent: its clause list and the map that reduce delivers.
+/// Tables of 12, 16 and 24 states with several targets a return, found by changing a few records again and again while the guesses rose.
+const HARD: [&[u8]; 3] =
+    [include_bytes!("../../tables/hard-12.bin"), include_bytes!("../../tables/hard-16.bin"), include_bytes!("../../tables/hard-24.bin")];
+
+/// A table with what its stages are lent: its clause list, all groups of it, and the map that reduce delivers.
 pub struct Input {
     pub label: String,
     pub table: Vec<u8>,
@@ -42,14 +46,18 @@ pub struct Input {
 pub const LABELS: &str = "states targets classes bytes words guesses";
 
 impl Input {
-    /// The input of a recipe, or nothing where reduce refuses the table.
+    /// The input of a recipe, or nothing where the list is longer than the program's.
     fn new(recipe: Recipe) -> Option<Input> {
-        let states = recipe.states;
-        let table = recipe.bytes();
+        Input::of(recipe.bytes(), recipe.states, recipe.one)
+    }
+
+    /// The input of a table.
+    fn of(table: Vec<u8>, states: usize, one: bool) -> Option<Input> {
         let (mut list, mut map, mut out) = (vec![0; WORDS], vec![0; states], vec![0; table.len()]);
-        let [classes, guesses, words, _] = capi::reduce(&table, BUDGET, &mut list, &mut map, &mut out).ok()?;
+        let [classes, guesses, ..] = capi::reduce(&table, BUDGET, &mut list, &mut map, &mut out).ok()?;
+        let [_, words] = capi::clauses(&table, &mut list).ok()?;
         list.truncate(words as usize);
-        let targets = if recipe.one { "one" } else { "any" };
+        let targets = if one { "one" } else { "any" };
         let label = format!("{states:6} {targets:>7} {classes:7} {:5} {words:5} {guesses:7}", table.len());
         Some(Input { label, table, list, variables: states * (states - 1) / 2, map, classes: classes as usize })
     }
@@ -74,7 +82,9 @@ fn recipes() -> impl Iterator<Item = Recipe> {
 
 /// The inputs of the seeds.
 pub fn inputs() -> Vec<Input> {
-    recipes().map(|recipe| Input::new(recipe).expect("reduce delivers")).collect()
+    let random = recipes().map(|recipe| Input::new(recipe).expect("reduce delivers"));
+    let hard = HARD.iter().zip([12, 16, 24]).map(|(table, states)| Input::of(table.to_vec(), states, false).expect("reduce delivers"));
+    random.chain(hard).collect()
 }
 
 /// Prints, for each recipe, the seed below 2,000 with the longest list that the program takes; where states are copies, some merge.

@@ -142,7 +142,7 @@ fn compare_reduce(r: &mut Random, l: Limits, b: &[u8], c: &mut Counts) {
     };
     let parsed = reference::parse(l, b);
     let (words, states) = match &parsed {
-        Ok((t, _)) => (reference::words_of(&reference::clause_list(t)).len(), t.count()),
+        Ok((t, _)) => (reference::words_of(&reference::short_list(t)).len(), t.count()),
         Err(_) => (9, 4),
     };
     let ample = r.chance(70);

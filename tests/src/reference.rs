@@ -235,16 +235,19 @@ fn push(list: &mut Vec<Vec<u16>>, literals: Vec<u16>) {
     list.push(clause);
 }
 
-/// Groups 1 and 2: pairs of which exactly one state is accepting, and transitivity.
-fn pair_clauses(t: &Table, list: &mut Vec<Vec<u16>>) {
-    let n = t.count();
-    for q in 0..n {
+/// Group 1: pairs of which exactly one state is accepting.
+fn look_clauses(t: &Table, list: &mut Vec<Vec<u16>>) {
+    for q in 0..t.count() {
         for p in 0..q {
             if t.accepting(p) != t.accepting(q) {
                 list.push(vec![no(p, q)]);
             }
         }
     }
+}
+
+/// Group 2: transitivity.
+fn transitivity(n: usize, list: &mut Vec<Vec<u16>>) {
     for p in 0..n {
         for q in p + 1..n {
             for s in q + 1..n {
@@ -314,7 +317,18 @@ fn return_clauses(t: &Table, list: &mut Vec<Vec<u16>>) {
 /// The list of a table, group by group.
 pub fn clause_list(t: &Table) -> Vec<Vec<u16>> {
     let mut list = Vec::new();
-    pair_clauses(t, &mut list);
+    look_clauses(t, &mut list);
+    transitivity(t.count(), &mut list);
+    move_clauses(t.count(), &t.internals, &mut list);
+    move_clauses(t.count(), &t.calls, &mut list);
+    return_clauses(t, &mut list);
+    list
+}
+
+/// The list that reduce writes: groups 1, 3, 4 and 5.
+pub fn short_list(t: &Table) -> Vec<Vec<u16>> {
+    let mut list = Vec::new();
+    look_clauses(t, &mut list);
     move_clauses(t.count(), &t.internals, &mut list);
     move_clauses(t.count(), &t.calls, &mut list);
     return_clauses(t, &mut list);
@@ -571,13 +585,12 @@ pub fn reduce(l: Limits, b: &[u8], budget: u64, list: &mut [u16], map: &mut [u8]
     if map.len() < n {
         return Err(22);
     }
-    let all = clause_list(&t);
-    let words = words_of(&all);
+    let words = words_of(&short_list(&t));
     if words.len() > list.len() {
         return Err(10);
     }
     list[..words.len()].copy_from_slice(&words);
-    let (values, made) = match run_search(&all, n * (n - 1) / 2, budget) {
+    let (values, made) = match run_search(&clause_list(&t), n * (n - 1) / 2, budget) {
         Outcome::Spent => return Err(13),
         Outcome::None => unreachable!("the list of a table is satisfiable"),
         Outcome::Solved(values, made) => (values, made),

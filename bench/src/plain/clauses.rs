@@ -170,12 +170,14 @@ fn states_in(word: u64, count: u8) -> impl Iterator<Item = u8> {
     })
 }
 
-/// All five groups: clauses and words.
-fn groups(t: &Table, tops: &Words, words: &mut [u16], write: bool) -> (usize, usize) {
+/// All five groups, or all but the second: clauses and words.
+fn groups(t: &Table, tops: &Words, words: &mut [u16], whole: bool, write: bool) -> (usize, usize) {
     let count = t.count() as u8;
     let mut list = List { words, write, clauses: 0, length: 0 };
     looks_apart(t.states, &mut list);
-    transitive(count, &mut list);
+    if whole {
+        transitive(count, &mut list);
+    }
     moves(t.internals, count, &mut list);
     moves(t.calls, count, &mut list);
     live_returns(t.returns, tops, count, &mut list);
@@ -183,17 +185,17 @@ fn groups(t: &Table, tops: &Words, words: &mut [u16], write: bool) -> (usize, us
 }
 
 /// The list of a table that was read: clauses and words, or 10.
-pub fn list_of(t: &Table, tops: &Words, words: &mut [u16]) -> Result<(usize, usize), u8> {
-    let (_, length) = groups(t, tops, words, false);
+pub fn list_of(t: &Table, tops: &Words, words: &mut [u16], whole: bool) -> Result<(usize, usize), u8> {
+    let (_, length) = groups(t, tops, words, whole, false);
     if length > words.len() {
         return Err(10);
     }
-    Ok(groups(t, tops, words, true))
+    Ok(groups(t, tops, words, whole, true))
 }
 
 /// Clauses and words; the list.
 pub fn clauses(l: Limits, bytes: &[u8], list: &mut [u16]) -> Result<[u64; 2], u8> {
     let (t, _) = parse(l, bytes)?;
-    let (clauses, words) = list_of(&t, &words_of(&t), list)?;
+    let (clauses, words) = list_of(&t, &words_of(&t), list, true)?;
     Ok([clauses as u64, words as u64])
 }

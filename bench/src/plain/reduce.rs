@@ -32,8 +32,8 @@ pub fn reduce(l: Limits, bytes: &[u8], budget: u64, list: &mut [u16], map: &mut 
         return Err(22);
     }
     let tops = words_of(&t);
-    let (_, words) = list_of(&t, &tops, list)?;
-    let (values, guesses) = solve(&list[..words], n * (n - 1) / 2, budget)?;
+    let (_, words) = list_of(&t, &tops, list, false)?;
+    let (values, guesses) = solve(&list[..words], n, n * (n - 1) / 2, budget)?;
     let found = map_of(&values, n);
     let (classes, length) = quotient_read(&t, &tops, &found[..n], out)?;
     map[..n].copy_from_slice(&found[..n]);

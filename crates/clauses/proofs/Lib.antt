@@ -17,3 +17,4 @@ pub mod Moving
 pub mod Returning
 pub mod Writing
 pub mod Whole
+pub mod Short

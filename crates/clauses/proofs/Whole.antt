@@ -3,7 +3,7 @@
 use mathlib.Core.Path.{_≡_, refl, sym, ap, _∙_, subst}
 use mathlib.Core.Logic.{_≢_}
 use mathlib.Core.Bool.{Bool, true, false}
-use mathlib.Core.List.{List, _++_}
+use mathlib.Core.List.{List, _++_, append-nil}
 use Prim.Native.Nat.{ℕ}
 use native.Mathlib.Omega.{arith}
 use lib.ListN.{length, take, drop, replicate}
@@ -33,23 +33,32 @@ use Rattle.tops.proofs.Read.{sections-read}
 use Rattle.maps.specs.Sections.{Known}
 use Rattle.clauses.specs.declared.Listed.{Listed}
 use Rattle.clauses.specs.declared.Listed.the-variants.{Refused}
-use Rattle.clauses.specs.Clauses.{lookClauses, transitivity, moveClauses, returnClauses, clauseList, clauseWords, clausesNumber, ClausesDone, clausesOf}
-use Rattle.clauses.specs.Emit.{State, emit, statesOnly, returnClausesBy, Ready, listBy, listedBy}
+use Rattle.clauses.specs.Clauses.{lookClauses, transitivity, moveClauses, returnClauses, clauseList, shortList, clauseWords, clausesNumber, ClausesDone, clausesOf}
+use Rattle.clauses.specs.Emit.{State, emit, statesOnly, returnClausesBy, Ready, listFor, closureFor, listBy, listedBy}
 use Rattle.clauses.specs.Demands.{ListSound}
 use Rattle.clauses.proofs.Emitting.{emit-append}
 use Rattle.clauses.proofs.Theorems.{model-accepted}
 
+-- ---- group 2, where the list is to be whole
+
+pub closure-left : {whole : Bool} (states : List ℕ) (s : State) → whole ≡ false → s ≡ emit (closureFor whole (statesOnly states)) s
+unfolding emit
+closure-left states s e = rw e refl
+
+pub closure-there : {whole : Bool} (states : List ℕ) (s : State) {s′ : State} → whole ≡ true → s′ ≡ emit (transitivity (statesOnly states)) s → s′ ≡ emit (closureFor whole (statesOnly states)) s
+closure-there states s e h = rw e h
+
 -- ---- the groups in their order
 
-pub groups : (states internals calls returns tops : List ℕ) (s : State) {s1 s2 s3 s4 s5 : State}
-    → s1 ≡ emit (lookClauses (statesOnly states)) s → s2 ≡ emit (transitivity (statesOnly states)) s1
+pub groups : (whole : Bool) (states internals calls returns tops : List ℕ) (s : State) {s1 s2 s3 s4 s5 : State}
+    → s1 ≡ emit (lookClauses (statesOnly states)) s → s2 ≡ emit (closureFor whole (statesOnly states)) s1
     → s3 ≡ emit (moveClauses (records 3 internals) (length states)) s2 → s4 ≡ emit (moveClauses (records 3 calls) (length states)) s3
     → s5 ≡ emit (returnClausesBy tops (records 4 returns) (length states)) s4
-    → s5 ≡ emit (listBy states internals calls returns tops) s
+    → s5 ≡ emit (listBy whole states internals calls returns tops) s
 unfolding listBy
-groups states internals calls returns tops s e1 e2 e3 e4 e5 =
+groups whole states internals calls returns tops s e1 e2 e3 e4 e5 =
     let look = lookClauses (statesOnly states) in
-    let close = transitivity (statesOnly states) in
+    let close = closureFor whole (statesOnly states) in
     let in-moves = moveClauses (records 3 internals) (length states) in
     let call-moves = moveClauses (records 3 calls) (length states) in
     let pops = returnClausesBy tops (records 4 returns) (length states) in
@@ -82,9 +91,10 @@ module _ (L : Limits) (b : List ℕ) (readable : Readable L b) where
         returns-sorted = record { ascends = tested .returns-ascend; names = section-within (s .few) (s .returns-whole) };
       }
 
-  whole : listBy (slice (start b 1) (start b 2) b) (slice (start b 2) (start b 3) b) (slice (start b 3) (start b 4) b) (slice (start b 4) (trailer b) b) (topWords (tableOf b)) ≡ clauseList (tableOf b)
-  unfolding listBy clauseList lookClauses transitivity returnClauses returnClausesBy liveReturns tableOf
-  whole = refl
+  listed-for : (whole : Bool) → listBy whole (slice (start b 1) (start b 2) b) (slice (start b 2) (start b 3) b) (slice (start b 3) (start b 4) b) (slice (start b 4) (trailer b) b) (topWords (tableOf b)) ≡ listFor whole (tableOf b)
+  unfolding listBy clauseList shortList lookClauses transitivity returnClauses returnClausesBy liveReturns tableOf
+  listed-for true = refl
+  listed-for false = rw append-nil refl
 
   -- the answer
   pub listed : (list : List ℕ) → listedBy (clauseList (tableOf b)) list ≡ clausesOf L b list
@@ -106,11 +116,11 @@ module _ {b : List ℕ} {s : Starts} {tops : List ℕ} (k : Known b s tops) {sta
   pub parts-ready : Ready states internals calls returns
   parts-ready = rw (e1 ∙ states-at b starts, e2 ∙ internals-at b starts, e3 ∙ calls-at b starts, e4 ∙ returns-at b starts) (ready (k .limits) b (k .read .readable))
 
-  pub parts-listed : (list : List ℕ) {d : ClausesDone} → d ≡ listedBy (listBy states internals calls returns tops) list → d ≡ listedBy (clauseList (tableOf b)) list
-  parts-listed list f =
+  pub parts-listed : (whole : Bool) (list : List ℕ) {d : ClausesDone} → d ≡ listedBy (listBy whole states internals calls returns tops) list → d ≡ listedBy (listFor whole (tableOf b)) list
+  parts-listed whole list f =
       f
-      ∙ (λ i. listedBy (listBy ((e1 ∙ states-at b starts) i) ((e2 ∙ internals-at b starts) i) ((e3 ∙ calls-at b starts) i) ((e4 ∙ returns-at b starts) i) (k .words i)) list)
-      ∙ ap (λ cs. listedBy cs list) (whole (k .limits) b (k .read .readable))
+      ∙ (λ i. listedBy (listBy whole ((e1 ∙ states-at b starts) i) ((e2 ∙ internals-at b starts) i) ((e3 ∙ calls-at b starts) i) ((e4 ∙ returns-at b starts) i) (k .words i)) list)
+      ∙ ap (λ cs. listedBy cs list) (listed-for (k .limits) b (k .read .readable) whole)
 
 -- ---- reading first
 

@@ -75,6 +75,13 @@ clauseList t = lookClauses t ++ transitivity t ++ moveClauses (t .internals) (co
 unfoldable pub clauseWords : Table → List ℕ
 clauseWords t = wordsOf (clauseList t)
 
+-- the list that reduce writes, without group 2 (document 02, request (ii): "Reduce shall leave that group out")
+unfoldable pub shortList : Table → List (List ℕ)
+shortList t = lookClauses t ++ moveClauses (t .internals) (count t) ++ moveClauses (t .calls) (count t) ++ returnClauses t
+
+unfoldable pub shortWords : Table → List ℕ
+shortWords t = wordsOf (shortList t)
+
 -- 39, 1 to 8, then 10: "list longer than the buffer"; or 0
 unfoldable pub clausesNumber : Limits → List ℕ → List ℕ → ℕ
 clausesNumber L b list = elim (eqb (readNumber L b) 0) [

@@ -1,7 +1,7 @@
 -- What the code that writes the clause list is stated with: the literals of one clause, and clauses counted and written one behind the
 -- other. Only contracts of functions within the crate cite it. Assumes nothing.
 use mathlib.Core.Path.{_≡_}
-use mathlib.Core.Bool.{true, false, _&&_}
+use mathlib.Core.Bool.{Bool, true, false, _&&_}
 use mathlib.Core.List.{List, [], _∷_, _++_, map}
 use Prim.Native.Nat.{ℕ, _+_, _-_, _≤_}
 use lib.ListN.{length, getD, take, drop}
@@ -20,7 +20,7 @@ use Rattle.clauses.specs.declared.Listed.the-variants.{List as Words, Re
 use Rattle.clauses.specs.declared.returns.Return.{Return}
 use Rattle.clauses.specs.declared.literals.Literals.{Literals}
 use Rattle.clauses.specs.declared.emit.Tally.{Tally}
-use Rattle.clauses.specs.Clauses.{opposite, lookClauses, transitivity, moveClauses, returnClause, topStates, ClausesDone}
+use Rattle.clauses.specs.Clauses.{opposite, lookClauses, transitivity, moveClauses, returnClause, topStates, ClausesDone, clauseList, shortList}
 
 -- ---- the literals of a clause
 
@@ -130,11 +130,21 @@ pub record Ready (states internals calls returns : List ℕ) : Type 0 where
   pub calls-sorted : Sorted 3 calls
   pub returns-sorted : Sorted 4 returns
 
+-- the whole list of a table, or the one without group 2
+abbrev pub listFor : Bool → Table → List (List ℕ)
+listFor true t = clauseList t
+listFor false t = shortList t
+
+-- group 2, where the list is to be whole
+abbrev pub closureFor : Bool → Table → List (List ℕ)
+closureFor true t = transitivity t
+closureFor false t = []
+
 -- the list of a table's four sections under its tops
-unfoldable pub listBy : List ℕ → List ℕ → List ℕ → List ℕ → List ℕ → List (List ℕ)
-listBy states internals calls returns tops =
+unfoldable pub listBy : Bool → List ℕ → List ℕ → List ℕ → List ℕ → List ℕ → List (List ℕ)
+listBy whole states internals calls returns tops =
     lookClauses (statesOnly states)
-    ++ transitivity (statesOnly states)
+    ++ closureFor whole (statesOnly states)
     ++ moveClauses (records 3 internals) (length states)
     ++ moveClauses (records 3 calls) (length states)
     ++ returnClausesBy tops (records 4 returns) (length states)

@@ -1,10 +1,12 @@
 // The clauses of a table.
 ghost use mathlib.Core.Path.{_≡_};
-ghost use Rattle.limits.specs.Limits.{standard};
+ghost use Prim.Native.Nat.{_≤_};
+ghost use lib.ListN.{length};
+ghost use Rattle.limits.specs.Limits.{standard, stateMost};
 ghost use Rattle.table.specs.File.{tableOf};
 ghost use Rattle.maps.specs.Sections.{Known};
-ghost use Rattle.clauses.specs.Clauses.{clauseList, clausesOf};
-ghost use Rattle.clauses.specs.Emit.{state, Ordered, emit, Ready, listBy, listedBy};
+ghost use Rattle.clauses.specs.Clauses.{clausesOf};
+ghost use Rattle.clauses.specs.Emit.{state, Ordered, emit, statesOnly, closureFor, Ready, listFor, listBy, listedBy};
 ghost use Rattle.clauses.specs.Demands.{ListSound};
 use emit::Tally;
 use limits::Limits;
@@ -29,8 +31,20 @@ pub enum Listed {
     Refused(u8),
 }
 
-// "The list, in this order".
+// Group 2, where the list is to be whole.
+fn closure(whole: bool, states: &[u8], tally: Tally, list: &mut [u16]) -> Tally
+    requires { ⌜ (length (now states) ≤ stateMost) × Ordered tally ⌝ }
+    ensures { λ r. ⌜ state r (now (list .exit)) ≡ emit (closureFor whole (statesOnly (now (states .entry)))) (state tally (now (list .entry))) ⌝ }
+{
+    if whole {
+        return transitive(states, tally, list);
+    }
+    tally
+}
+
+// "The list, in this order", whole or without group 2.
 fn all_groups(
+    whole: bool,
     states: &[u8],
     internals: &[u8],
     calls: &[u8],
@@ -40,11 +54,11 @@ fn all_groups(
     list: &mut [u16],
 ) -> Tally
     requires { ⌜ Ready (now states) (now internals) (now calls) (now returns) × Ordered tally ⌝ }
-    ensures { λ r. ⌜ state r (now (list .exit)) ≡ emit (listBy (now (states .entry)) (now (internals .entry)) (now (calls .entry)) (now (returns .entry)) (now (tops .entry))) (state tally (now (list .entry))) ⌝ }
+    ensures { λ r. ⌜ state r (now (list .exit)) ≡ emit (listBy whole (now (states .entry)) (now (internals .entry)) (now (calls .entry)) (now (returns .entry)) (now (tops .entry))) (state tally (now (list .entry))) ⌝ }
 {
     let count = states.len() as u8;
     let first = looks_apart(states, tally, list);
-    let second = transitive(states, first, list);
+    let second = closure(whole, states, first, list);
     let third = moves(internals, count, second, list);
     let fourth = moves(calls, count, third, list);
     live_returns(returns, tops, count, fourth, list)
@@ -52,6 +66,7 @@ fn all_groups(
 
 // The list is measured, and written where it fits.
 fn list_sections(
+    whole: bool,
     states: &[u8],
     internals: &[u8],
     calls: &[u8],
@@ -60,14 +75,23 @@ fn list_sections(
     list: &mut [u16],
 ) -> Listed
     requires { ⌜ Ready (now states) (now internals) (now calls) (now returns) ⌝ }
-    ensures { λ r. ⌜ record { answer = r; list = now (list .exit) } ≡ listedBy (listBy (now (states .entry)) (now (internals .entry)) (now (calls .entry)) (now (returns .entry)) (now (tops .entry))) (now (list .entry)) ⌝ }
+    ensures { λ r. ⌜ record { answer = r; list = now (list .exit) } ≡ listedBy (listBy whole (now (states .entry)) (now (internals .entry)) (now (calls .entry)) (now (returns .entry)) (now (tops .entry))) (now (list .entry)) ⌝ }
 {
     let measuring = Tally {
         write: false,
         clauses: 0,
         words: 0,
     };
-    let measured = all_groups(states, internals, calls, returns, tops, measuring, list);
+    let measured = all_groups(
+        whole,
+        states,
+        internals,
+        calls,
+        returns,
+        tops,
+        measuring,
+        list,
+    );
     if list.len() < measured.words {
         return Listed::Refused(10);
     }
@@ -76,19 +100,35 @@ fn list_sections(
         clauses: 0,
         words: 0,
     };
-    let written = all_groups(states, internals, calls, returns, tops, writing, list);
+    let written = all_groups(
+        whole,
+        states,
+        internals,
+        calls,
+        returns,
+        tops,
+        writing,
+        list,
+    );
     Listed::List {
         clauses: written.clauses,
         words: written.words,
     }
 }
 
-// The list of a table that was read: its sections are handed on as parts of the file.
-fn list_read(table: &[u8], starts: Starts, tops: &[u64; 40], list: &mut [u16]) -> Listed
+// The list, whole or without group 2, of a table that was read and whose tops are known: its sections are handed on as parts of the file.
+pub fn list_read(
+    whole: bool,
+    table: &[u8],
+    starts: Starts,
+    tops: &[u64; 40],
+    list: &mut [u16],
+) -> Listed
     requires { ⌜ Known (now table) starts (now tops) ⌝ }
-    ensures { λ r. ⌜ record { answer = r; list = now (list .exit) } ≡ listedBy (clauseList (tableOf (now (table .entry)))) (now (list .entry)) ⌝ }
+    ensures { λ r. ⌜ record { answer = r; list = now (list .exit) } ≡ listedBy (listFor whole (tableOf (now (table .entry)))) (now (list .entry)) ⌝ }
 {
     list_sections(
+        whole,
         table::part(table, starts, Section::States),
         table::part(table, starts, Section::Internals),
         table::part(table, starts, Section::Calls),
@@ -109,7 +149,7 @@ pub fn clauses_within(limits: Limits, table: &[u8], list: &mut [u16]) -> Listed
     }
     let words = e.words;
     let starts = e.starts;
-    list_read(table, starts, &words, list)
+    list_read(true, table, starts, &words, list)
 }
 
 // The clause list of a table, at the limits of a caller that gives none.

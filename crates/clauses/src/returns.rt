@@ -14,8 +14,8 @@ use super::matched::matched;
 use super::matched::with_premise;
 use table::return_key;
 use table::starting;
-use tops::later_tops;
-use tops::next_top;
+use words::later_states;
+use words::next_state;
 
 // A record (p, r, s, p').
 pub struct Return {
@@ -70,12 +70,12 @@ fn return_tops(
     let mut at = tally;
     let mut rest = word;
     'tops: while rest != 0 {
-        let u = next_top(rest);
+        let u = next_state(rest);
         if u >= count as u32 {
             return at;
         }
         at = return_clause(section, x, q, u as u8, at, list);
-        rest = later_tops(rest);
+        rest = later_states(rest);
     }
     at
 }

@@ -120,7 +120,7 @@ module _ (cs : List (List ℕ)) (n b : ℕ) (formed : Formed cs n) where
 -- ---- the same clauses in another list
 
 module _ (cs ds : List (List ℕ)) (to : (c : List ℕ) → List·Memᴰ c cs → List·Memᴰ c ds) (from : (c : List ℕ) → List·Memᴰ c ds → List·Memᴰ c cs) where
-  closes-members : (v : List ℕ) (c : Closed) → Closes cs v c → Closes ds v c
+  pub closes-members : (v : List ℕ) (c : Closed) → Closes cs v c → Closes ds v c
   closes-members v breaks h = λ u p q. h u p (λ c m. q c (to c m))
   closes-members v (rests w) h = record { long = h .long; small = h .small; extends = h .extends; at-rest = λ c m. h .at-rest c (from c m); least = λ u p q. h .least u p (λ c m. q c (to c m)) }
 

@@ -8,3 +8,6 @@ pub mod Order
 pub mod Closure
 pub mod Words
 pub mod Theorems
+pub mod Trying
+pub mod Trials
+pub mod Queue

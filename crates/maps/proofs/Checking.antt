@@ -27,7 +27,7 @@ use Rattle.maps.specs.declared.Checked.{Checked}
 use Rattle.maps.specs.declared.Checked.the-variants.{Accepted, Refused}
 use Rattle.maps.specs.Check.{looksAgree, movesMatched, returnsMatched, mapTests, checkNumber, checkOf}
 use Rattle.maps.proofs.Accepted.{accepted, accepts}
-use Rattle.maps.specs.Accepting.{IsAccepted, AcceptsExactly, examinedFor}
+use Rattle.maps.specs.Accepting.{IsAccepted, AcceptsExactly}
 use Rattle.maps.specs.Sections.{ofStates, recordMatched, recordsMatched, Lent, Known, Parted, partTests}
 
 -- ---- 15 to 20, over the parts of a table
@@ -110,7 +110,7 @@ module _ (L : Limits) (b : List ℕ) where
   known p d e = record { limits = L; read = record { readable = p; starts = d ∙ rw (eq-eqb _ _ p, examinedOf) }; words = e ∙ rw (eq-eqb _ _ p, examinedOf) }
 
   module _ {x : Examined} (e : x ≡ examinedOf L b) where
-    examined-number : x .number ≡ readNumber L b
+    pub examined-number : x .number ≡ readNumber L b
     unfolding examinedOf
     examined-number = ap (λ (y : Examined). y .number) e ∙ go (eqb (readNumber L b) 0) refl
       where
@@ -125,27 +125,14 @@ module _ (L : Limits) (b : List ℕ) where
     read-known n = known (sym examined-number ∙ n) (ap (λ (y : Examined). y .starts) e) (ap (λ (y : Examined). y .words) e)
 
 module _ (L : Limits) (b m : List ℕ) where
-  module _ {x : Examined} (e : x ≡ examinedOf L b) where
-    with-number : {k : ℕ} → k ≡ checkNumber L b m → record { number = k; starts = x .starts; words = x .words; found = x .found } ≡ examinedFor L b m
-    unfolding examinedFor
-    with-number g = λ i. record { number = g i; starts = e i .starts; words = e i .words; found = e i .found }
+  -- the check's number of a table that is not readable, and of one that is
+  pub unread : {x : Examined} → x ≡ examinedOf L b → (x .number ≡ 0 → ⊥) → checkNumber L b m ≡ x .number
+  unfolding checkNumber
+  unread e n = let p = examined-number L b e in rw (ne-eqb (readNumber L b) 0 (λ q. n (p ∙ q)), checkNumber) (sym p)
 
-    pub unread : (x .number ≡ 0 → ⊥) → x ≡ examinedFor L b m
-    unfolding checkNumber
-    unread n = let p = examined-number L b e in with-number (p ∙ rw (ne-eqb (readNumber L b) 0 (λ q. n (p ∙ q)), checkNumber))
-
-    pub tested : {k : ℕ} → x .number ≡ 0 → k ≡ firstFailed (mapTests (tableOf b) m) → record { number = k; starts = x .starts; words = x .words; found = x .found } ≡ examinedFor L b m
-    unfolding checkNumber
-    tested n f = with-number (f ∙ sym (rw (eq-eqb (readNumber L b) 0 (sym (examined-number L b e) ∙ n), checkNumber) refl))
-
-  module _ {y : Examined} (e : y ≡ examinedFor L b m) where
-    pub checked-number : checkNumber L b m ≡ y .number
-    unfolding examinedFor
-    checked-number = ap (λ (z : Examined). z .number) (sym e)
-
-    pub checked-known : y .number ≡ 0 → Known b (y .starts) (y .words)
-    unfolding examinedFor
-    checked-known n = known L b (accepted L b m (checked-number ∙ n) .readable) (ap (λ (z : Examined). z .starts) e) (ap (λ (z : Examined). z .words) e)
+  pub tested : {k : ℕ} → Readable L b → k ≡ firstFailed (mapTests (tableOf b) m) → checkNumber L b m ≡ k
+  unfolding checkNumber
+  tested r f = rw (eq-eqb (readNumber L b) 0 r, checkNumber) (sym f)
 
   pub check-refused : {k : ℕ} → checkNumber L b m ≡ k → (k ≡ 0 → ⊥) → Refused k ≡ checkOf L b m
   unfolding checkOf

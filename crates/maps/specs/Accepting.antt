@@ -1,5 +1,5 @@
--- What the check promises (demand 2): "accepts a properly numbered map exactly when it is a reachability-aware quotienting relation"; and the
--- answer that the quotient goes on with. Assumes nothing.
+-- What the check promises (demand 2): "accepts a properly numbered map exactly when it is a reachability-aware quotienting relation".
+-- Assumes nothing.
 use mathlib.Core.Logic.{_↔_}
 use mathlib.Core.List.{List}
 use Prim.Native.Nat.{ℕ}
@@ -7,9 +7,6 @@ use Rattle.limits.specs.declared.Limits.{Limits}
 use Rattle.table.specs.File.{tableOf}
 use Rattle.table.specs.Reading.{Readable}
 use Rattle.table.specs.Maps.{Proper, RaqMap}
-use Rattle.tops.specs.declared.Examined.{Examined}
-use Rattle.tops.specs.Demands.{examinedOf}
-use Rattle.maps.specs.Check.{checkNumber}
 use Rattle.maps.specs.declared.Checked.{Checked}
 use Rattle.maps.specs.declared.Checked.the-variants.{Accepted, Refused}
 
@@ -20,7 +17,3 @@ IsAccepted (Refused k) = ⊥
 -- of a readable table, a map is accepted exactly when it is properly numbered and its relation meets Definition 1
 abbrev pub AcceptsExactly : Limits → List ℕ → List ℕ → Checked → Type 0
 AcceptsExactly L b m r = Readable L b → IsAccepted r ↔ (Proper (tableOf b) m × RaqMap (tableOf b) m)
-
--- the examined table, with the number of the check
-unfoldable pub examinedFor : Limits → List ℕ → List ℕ → Examined
-examinedFor L b m = let x = examinedOf L b in record { number = checkNumber L b m; starts = x .starts; words = x .words; found = x .found }

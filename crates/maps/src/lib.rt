@@ -4,7 +4,7 @@ ghost use Rattle.lists.specs.Lists.{firstFailed};
 ghost use Rattle.limits.specs.Limits.{standard};
 ghost use Rattle.table.specs.File.{tableOf};
 ghost use Rattle.maps.specs.Check.{mapTests, checkOf};
-ghost use Rattle.maps.specs.Accepting.{examinedFor, AcceptsExactly};
+ghost use Rattle.maps.specs.Accepting.{AcceptsExactly};
 ghost use Rattle.maps.specs.Sections.{Known, Parted, partTests};
 use limits::Limits;
 
@@ -19,7 +19,6 @@ pub use numbering::class_of;
 use numbering::numbered;
 use table::Section;
 use table::Starts;
-use tops::Examined;
 
 // What the check answers.
 pub enum Checked {
@@ -62,8 +61,8 @@ fn tests_number(
     0
 }
 
-// The first of 15 to 20 that applies to a read table: its sections are handed on as parts of the file.
-fn map_number(table: &[u8], starts: Starts, words: &[u64], map: &[u8]) -> u8
+// The first of 15 to 20 that applies to a table that was read and whose tops are known, or 0: its sections are handed on as parts of the file.
+pub fn map_number(table: &[u8], starts: Starts, words: &[u64], map: &[u8]) -> u8
     requires { ⌜ Known (now table) starts (now words) ⌝ }
     ensures { λ r. ⌜ r ≡ firstFailed (mapTests (tableOf (now (table .entry))) (now (map .entry))) ⌝ }
 {
@@ -77,33 +76,20 @@ fn map_number(table: &[u8], starts: Starts, words: &[u64], map: &[u8]) -> u8
     )
 }
 
-// Reads a table at limits, works out its tops and checks a map: the examined table, its number that of the check.
-pub fn examine(limits: Limits, table: &[u8], map: &[u8]) -> Examined
-    ensures { λ r. ⌜ r ≡ examinedFor limits (now (table .entry)) (now (map .entry)) ⌝ }
-{
-    let examined = tops::examine(limits, table);
-    if examined.number != 0 {
-        return examined;
-    }
-    let starts = examined.starts;
-    let words = examined.words;
-    let number = map_number(table, starts, &words, map);
-    Examined {
-        number,
-        starts,
-        words,
-        found: examined.found,
-    }
-}
-
 // Checks a map of a table that is read at limits: the class count, or the first refusal that applies.
 pub fn check_within(limits: Limits, table: &[u8], map: &[u8]) -> Checked
     ensures { λ r. ⌜ r ≡ checkOf limits (now (table .entry)) (now (map .entry)) ⌝ }
     ensures exact { λ r. ⌜ AcceptsExactly limits (now (table .entry)) (now (map .entry)) r ⌝ }
 {
-    let examined = examine(limits, table, map);
+    let examined = tops::examine(limits, table);
     if examined.number != 0 {
         return Checked::Refused(examined.number);
+    }
+    let starts = examined.starts;
+    let words = examined.words;
+    let number = map_number(table, starts, &words, map);
+    if number != 0 {
+        return Checked::Refused(number);
     }
     Checked::Accepted(class_count(map))
 }

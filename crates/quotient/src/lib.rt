@@ -1,7 +1,9 @@
 // Writing the quotient of a table under a map.
 ghost use mathlib.Core.Path.{_≡_};
 ghost use Rattle.limits.specs.Limits.{standard};
+ghost use Rattle.limits.specs.declared.Limits.{Limits};
 ghost use Rattle.table.specs.File.{bytesOf};
+ghost use Rattle.table.specs.Reading.{Readable};
 ghost use Rattle.maps.specs.Sections.{Known};
 ghost use Rattle.quotient.specs.Quotient.{quotientBytes, quotientOf};
 ghost use Rattle.quotient.specs.Demands.{WritesQuotient, WritesSameWords};
@@ -80,19 +82,38 @@ fn write_read(table: &[u8], starts: Starts, words: &[u64], map: &[u8], out: &mut
     )
 }
 
+// The quotient of a table that was read and whose tops are known, at any limits at which it is readable: refused as the check refuses the map, or
+// by 21, or written.
+pub fn quotient_known(
+    table: &[u8],
+    starts: Starts,
+    words: &[u64],
+    map: &[u8],
+    out: &mut [u8],
+) -> Written
+    requires { ⌜ Known (now table) starts (now words) ⌝ }
+    ensures { λ r. ⌜ ((L : Limits) → Readable L (now (table .entry)) → record { answer = r; out = now (out .exit) } ≡ quotientOf L (now (table .entry)) (now (map .entry)) (now (out .entry))) ⌝ }
+{
+    let number = maps::map_number(table, starts, words, map);
+    if number != 0 {
+        return Written::Refused(number);
+    }
+    write_read(table, starts, words, map, out)
+}
+
 // Writes the quotient of a table that is read at limits under a map: its length, or the first refusal that applies, the output then unchanged.
 pub fn quotient_within(limits: Limits, table: &[u8], map: &[u8], out: &mut [u8]) -> Written
     ensures { λ r. ⌜ record { answer = r; out = now (out .exit) } ≡ quotientOf limits (now (table .entry)) (now (map .entry)) (now (out .entry)) ⌝ }
     ensures exact { λ r. ⌜ WritesQuotient limits r (now (table .entry)) (now (map .entry)) (now (out .exit)) ⌝ }
     ensures words { λ r. ⌜ WritesSameWords r (now (table .entry)) (now (out .exit)) ⌝ }
 {
-    let examined = maps::examine(limits, table, map);
+    let examined = tops::examine(limits, table);
     if examined.number != 0 {
         return Written::Refused(examined.number);
     }
     let starts = examined.starts;
     let words = examined.words;
-    write_read(table, starts, &words, map, out)
+    quotient_known(table, starts, &words, map, out)
 }
 
 // Writes the quotient, at the limits of a caller that gives none.

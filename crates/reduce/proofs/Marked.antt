@@ -18,7 +18,7 @@ use Rattle.table.specs.Reading.{lengthFits, distancesFit, countsFit, bytesFit, 
 use Rattle.table.specs.Language.{look, targets}
 use Rattle.table.specs.Maps.{joins, classes, numberedFrom, numbered}
 use Rattle.tops.specs.Tops.{add, byInternals, byCalls, live, byReturns, round, rounds, startWords, topWordsAt, topCount, topsOf, liveReturns}
-use Rattle.clauses.specs.Clauses.{opposite, once, tidy, lookClauses, transitivity, premise, matching, moveClause, moveClauses, returnClause, topStates, returnClauses, clauseList, clauseWords, clausesNumber, clausesOf, listedNumber, listedValues}
+use Rattle.clauses.specs.Clauses.{opposite, once, tidy, lookClauses, transitivity, premise, matching, moveClause, moveClauses, returnClause, topStates, returnClauses, clauseList, clauseWords, shortList, shortWords, clausesNumber, clausesOf, listedNumber, listedValues}
 use Rattle.clauses.specs.Maps.{joinedBy, nextClass, mapOf}
 use Rattle.search.specs.Answers.{listFits, searchNumber, searched, searchAt, searchOf, solutionNumber, solutionValues}
 use Rattle.maps.specs.Check.{looksAgree, moveMatched, movesMatched, returnMatched, returnsMatched, mapTests, checkNumber, checkOf, checkedNumber, checkedValues}
@@ -98,18 +98,18 @@ said =
     ∷ ((0 ∷ 35 ∷ T) ++ replicate 5 7)
     ∷ ((0 ∷ 35 ∷ T) ++ replicate 5 7)
     ∷ (0 ∷ 23 ∷ 72 ∷ [])
-    ∷ ((0 ∷ 3 ∷ 1 ∷ 72 ∷ 31 ∷ 0 ∷ 1 ∷ 1 ∷ 2 ∷ 7 ∷ [])
+    ∷ ((0 ∷ 3 ∷ 1 ∷ 24 ∷ 31 ∷ 0 ∷ 1 ∷ 1 ∷ 2 ∷ 7 ∷ [])
     ++ (0x00 ∷ 0x01 ∷ 0x02 ∷ 0x01 ∷ 0x00 ∷ 0x02 ∷ 0x00 ∷ 0x00 ∷ 0x01 ∷ 0x01 ∷ 0x00 ∷ 0x01 ∷ 0x00 ∷ 0x01 ∷ 0x01 ∷ 0x01 ∷ 0x02 ∷ 0x00 ∷ 0x02
     ∷ 0x13 ∷ 0x00 ∷ 0x10 ∷ 0x00 ∷ 0x0d ∷ 0x00 ∷ 0x07 ∷ 0x00 ∷ 0x04 ∷ 0x00 ∷ 0x01 ∷ 0x00 ∷ 7 ∷ 7 ∷ []))
     ∷ []
 
 -- M1 to M14, the clause count and word count of T, and what the program prints for T
 pub marked : answers ≡ said
-unfolding answers said checked searching writing reducing any all keep gather upto mem same parts flat over firstFailed limitsFit has hasBit onesOver onesIn wordsOf clausesWithin clausesIn wholeWithin whole distinct clauseFits isRight isUnset byUnset seen both scan undo lowestUnset decide act step run searchFrom longest word16 trailer distance version start records tableOf bytes16 fromReturns fromCalls fromInternals fromStates fromSymbols trailerOf bytesOf lengthFits distancesFit countsFit bytesFit isInitial isAccepting startFits recordFits recordsFit before ascendFrom ascend orderFits tableTests readNumber look targets joins classes numberedFrom numbered add byInternals byCalls live byReturns round rounds startWords topWordsAt topCount topsOf liveReturns pairs variableOf opposite once tidy lookClauses past triangle triangles transitivity premise matching moveClause moveClauses returnClause topStates returnClauses clauseList clauseWords clausesNumber clausesOf listedNumber listedValues joinedBy nextClass mapOf listFits searchNumber searched searchAt searchOf solutionNumber solutionValues looksAgree moveMatched movesMatched returnMatched returnsMatched mapTests checkNumber checkOf checkedNumber checkedValues image insert ascending images memberHas bitOf classByte quotientTable quotientBytes quotientNumber quotientOf writtenNumber writtenValues beforeSearch searchOfTable deliver afterSearch reduceOf reductionNumber reductionValues
+unfolding answers said checked searching writing reducing any all keep gather upto mem same parts flat over firstFailed limitsFit has hasBit onesOver onesIn wordsOf clausesWithin clausesIn wholeWithin whole distinct clauseFits isRight isUnset byUnset seen both scan undo lowestUnset decide act step run searchFrom longest word16 trailer distance version start records tableOf bytes16 fromReturns fromCalls fromInternals fromStates fromSymbols trailerOf bytesOf lengthFits distancesFit countsFit bytesFit isInitial isAccepting startFits recordFits recordsFit before ascendFrom ascend orderFits tableTests readNumber look targets joins classes numberedFrom numbered add byInternals byCalls live byReturns round rounds startWords topWordsAt topCount topsOf liveReturns pairs variableOf opposite once tidy lookClauses past triangle triangles transitivity premise matching moveClause moveClauses returnClause topStates returnClauses clauseList clauseWords shortList shortWords clausesNumber clausesOf listedNumber listedValues joinedBy nextClass mapOf listFits searchNumber searched searchAt searchOf solutionNumber solutionValues looksAgree moveMatched movesMatched returnMatched returnsMatched mapTests checkNumber checkOf checkedNumber checkedValues image insert ascending images memberHas bitOf classByte quotientTable quotientBytes quotientNumber quotientOf writtenNumber writtenValues beforeSearch searchOfTable deliver afterSearch reduceOf reductionNumber reductionValues
 marked = refl
 
 -- the order of reduce's refusals: an unreadable table before a short map buffer, that before a short clause buffer, that before a spent budget,
 -- and that before a short output
-pub order : map (λ a. reductionNumber (a .answer)) (reduceOf standard [] 0 [] [] [] ∷ reduceOf standard T 0 [] [] [] ∷ reduceOf standard T 0 (replicate 71 0) (replicate 4 0) [] ∷ reduceOf standard T 0 (replicate 72 0) (replicate 4 0) [] ∷ reduceOf standard T 1 (replicate 72 0) (replicate 4 0) (replicate 30 0) ∷ reduceOf standard T 1 (replicate 72 0) (replicate 4 0) (replicate 31 0) ∷ []) ≡ 1 ∷ 22 ∷ 10 ∷ 13 ∷ 21 ∷ 0 ∷ []
-unfolding any all keep gather upto mem same parts flat over firstFailed limitsFit has hasBit onesOver onesIn wordsOf clausesWithin clausesIn wholeWithin whole distinct clauseFits isRight isUnset byUnset seen both scan undo lowestUnset decide act step run searchFrom longest word16 trailer distance version start records tableOf bytes16 fromReturns fromCalls fromInternals fromStates fromSymbols trailerOf bytesOf lengthFits distancesFit countsFit bytesFit isInitial isAccepting startFits recordFits recordsFit before ascendFrom ascend orderFits tableTests readNumber look targets joins classes numberedFrom numbered add byInternals byCalls live byReturns round rounds startWords topWordsAt topCount topsOf liveReturns pairs variableOf opposite once tidy lookClauses past triangle triangles transitivity premise matching moveClause moveClauses returnClause topStates returnClauses clauseList clauseWords clausesNumber clausesOf listedNumber listedValues joinedBy nextClass mapOf listFits searchNumber searched searchAt searchOf solutionNumber solutionValues looksAgree moveMatched movesMatched returnMatched returnsMatched mapTests checkNumber checkOf checkedNumber checkedValues image insert ascending images memberHas bitOf classByte quotientTable quotientBytes quotientNumber quotientOf writtenNumber writtenValues beforeSearch searchOfTable deliver afterSearch reduceOf reductionNumber reductionValues
+pub order : map (λ a. reductionNumber (a .answer)) (reduceOf standard [] 0 [] [] [] ∷ reduceOf standard T 0 [] [] [] ∷ reduceOf standard T 0 (replicate 23 0) (replicate 4 0) [] ∷ reduceOf standard T 0 (replicate 24 0) (replicate 4 0) [] ∷ reduceOf standard T 1 (replicate 24 0) (replicate 4 0) (replicate 30 0) ∷ reduceOf standard T 1 (replicate 24 0) (replicate 4 0) (replicate 31 0) ∷ []) ≡ 1 ∷ 22 ∷ 10 ∷ 13 ∷ 21 ∷ 0 ∷ []
+unfolding any all keep gather upto mem same parts flat over firstFailed limitsFit has hasBit onesOver onesIn wordsOf clausesWithin clausesIn wholeWithin whole distinct clauseFits isRight isUnset byUnset seen both scan undo lowestUnset decide act step run searchFrom longest word16 trailer distance version start records tableOf bytes16 fromReturns fromCalls fromInternals fromStates fromSymbols trailerOf bytesOf lengthFits distancesFit countsFit bytesFit isInitial isAccepting startFits recordFits recordsFit before ascendFrom ascend orderFits tableTests readNumber look targets joins classes numberedFrom numbered add byInternals byCalls live byReturns round rounds startWords topWordsAt topCount topsOf liveReturns pairs variableOf opposite once tidy lookClauses past triangle triangles transitivity premise matching moveClause moveClauses returnClause topStates returnClauses clauseList clauseWords shortList shortWords clausesNumber clausesOf listedNumber listedValues joinedBy nextClass mapOf listFits searchNumber searched searchAt searchOf solutionNumber solutionValues looksAgree moveMatched movesMatched returnMatched returnsMatched mapTests checkNumber checkOf checkedNumber checkedValues image insert ascending images memberHas bitOf classByte quotientTable quotientBytes quotientNumber quotientOf writtenNumber writtenValues beforeSearch searchOfTable deliver afterSearch reduceOf reductionNumber reductionValues
 order = refl

@@ -2,43 +2,47 @@
 -- of a stage. Assumes nothing.
 use mathlib.Core.Path.{_≡_, refl, sym, ap, _∙_, subst}
 use mathlib.Core.Bool.{Bool, true, false}
-use mathlib.Core.List.{List, _++_}
+use mathlib.Core.List.{List, _++_, Memᴰ·append-left}
 use Prim.Native.Nat.{ℕ, _≤_, _<_}
 use native.Mathlib.Omega.{arith}
-use lib.ListN.{length, take, drop, length-append}
+use lib.ListN.{length, take, drop, replicate, length-append, length-replicate}
 use lib.Seq.{length-take-le, take-at}
 use lib.Dec.{eqb, leb}
-use borrow.Author.Tests.{eq-eqb, ne-eqb, eqb-true, eqb-false, le-leb, lt-leb, leb-true}
-use Rattle.lists.specs.Lists.{all, over, firstFailed}
+use borrow.Author.Tests.{eq-eqb, ne-eqb, le-leb, lt-leb, leb-true, leb-false}
+use Rattle.lists.specs.Lists.{over}
 use Rattle.lists.proofs.Copying.{copied}
-use Rattle.cnf.specs.Clauses.{clauseFits}
-use Rattle.cnf.specs.Search.{Outcome, solved, none-exists, spent, unfinished}
+use Rattle.cnf.specs.Clauses.{wordsOf, clausesIn}
+use Rattle.cnf.specs.Search.{searchFrom}
+use Rattle.cnf.proofs.Values.{Formed}
 use Rattle.cnf.proofs.Words.{fit-formed, clauses-words, whole-words}
-use Rattle.cnf.proofs.Theorems.{satisfies}
 use Rattle.limits.specs.declared.Limits.{Limits}
 use Rattle.limits.specs.Limits.{stateMost}
 use Rattle.pairs.specs.Pairs.{pairs}
-use Rattle.pairs.proofs.Pairs.{pairs-mono, most-pairs}
+use Rattle.pairs.specs.Triangles.{triangles}
+use Rattle.pairs.proofs.Pairs.{most-pairs}
 use Rattle.table.specs.File.{tableOf}
-use Rattle.table.specs.Reading.{readNumber, Readable, readOf}
-use Rattle.table.specs.Sections.{ReadAs, partOf}
+use Rattle.table.specs.Reading.{readNumber, Readable}
 use Rattle.table.specs.Language.{count}
 use Rattle.table.specs.Maps.{classes}
+use Rattle.table.specs.Sections.{ReadAs, partOf}
 use Rattle.table.specs.declared.Starts.{Starts}
 use Rattle.table.specs.declared.view.Section.the-variants.{States}
-use Rattle.table.specs.declared.Reading.the-variants.{Refused as NotRead}
 use Rattle.table.proofs.Bytes.{read-well-formed}
-use Rattle.table.proofs.Facts.{few-states, most-states}
-use Rattle.table.proofs.Handed.{read-refused}
+use Rattle.table.proofs.Facts.{most-states}
 use Rattle.table.proofs.Parts.{states-read}
-use Rattle.clauses.specs.Clauses.{clauseList, clauseWords, clausesNumber, ClausesDone, clausesOf}
+use Rattle.maps.specs.Sections.{Known}
+use Rattle.clauses.specs.Clauses.{clauseList, shortList, shortWords, ClausesDone}
+use Rattle.clauses.specs.Emit.{listedBy}
 use Rattle.clauses.specs.Maps.{mapOf}
 use Rattle.clauses.specs.declared.Listed.{Listed}
 use Rattle.clauses.specs.declared.Listed.the-variants.{List as Words, Refused as NotListed}
 use Rattle.clauses.proofs.Formed.{list-fits}
-use Rattle.search.specs.Answers.{listFits, searchNumber, Searched, searched, searchAt, searchOf}
-use Rattle.search.specs.declared.Solution.{Solution}
-use Rattle.search.specs.declared.Solution.the-variants.{Solved, Refused as NotSolved}
+use Rattle.clauses.proofs.Short.{short-formed, short-same}
+use Rattle.search.specs.Turns.{noneSet, Fresh, outcomeOf}
+use Rattle.search.specs.Conclusions.{withTriangles}
+use Rattle.search.specs.declared.engine.Ending.{Ending}
+use Rattle.search.specs.declared.engine.Ending.the-variants.{Found, Absent, Spent}
+use Rattle.search.proofs.Answering.{prefix-is, prefix-values}
 use Rattle.quotient.specs.Quotient.{quotientNumber, QuotientDone, quotientOf}
 use Rattle.quotient.specs.declared.Written.{Written}
 use Rattle.quotient.specs.declared.Written.the-variants.{Length, Refused as NotWritten}
@@ -57,8 +61,8 @@ prefix-long m n e h = length-take-le n m (omega (arith, e))
 module _ (L : Limits) (b list map out m : List ℕ) (g : ℕ) where
   -- what reduce makes of the quotient's answer
   onWritten : Written → List ℕ → Reduced
-  onWritten (Length l) o = record { answer = Delivered (classes m) g (length (clauseWords (tableOf b))) l; list = over (clauseWords (tableOf b)) list; map = over m map; out = o }
-  onWritten (NotWritten k) o = record { answer = Refused k; list = over (clauseWords (tableOf b)) list; map = map; out = o }
+  onWritten (Length l) o = record { answer = Delivered (classes m) g (length (shortWords (tableOf b))) l; list = over (shortWords (tableOf b)) list; map = over m map; out = o }
+  onWritten (NotWritten k) o = record { answer = Refused k; list = over (shortWords (tableOf b)) list; map = map; out = o }
 
   on-written : onWritten (quotientOf L b m out .answer) (quotientOf L b m out .out) ≡ deliver L b list map out m g
   unfolding onWritten quotientOf deliver
@@ -72,11 +76,11 @@ module _ (L : Limits) (b list map out m : List ℕ) (g : ℕ) where
     on-answer : {x : Written} → r ≡ x → onWritten x o ≡ deliver L b list map out m g
     on-answer {x} f = ap (λ (y : Written). onWritten y o) (sym f) ∙ ap (λ (d : QuotientDone). onWritten (d .answer) (d .out)) e ∙ on-written
 
-    pub deliver-refused : {k : ℕ} → r ≡ NotWritten k → record { answer = Refused k; list = over (clauseWords (tableOf b)) list; map = map; out = o } ≡ deliver L b list map out m g
+    deliver-refused : {k : ℕ} → r ≡ NotWritten k → record { answer = Refused k; list = over (shortWords (tableOf b)) list; map = map; out = o } ≡ deliver L b list map out m g
     unfolding onWritten
     deliver-refused f = on-answer f
 
-    pub deliver-written : {l : ℕ} → r ≡ Length l → record { answer = Delivered (classes m) g (length (clauseWords (tableOf b))) l; list = over (clauseWords (tableOf b)) list; map = over m map; out = o } ≡ deliver L b list map out m g
+    deliver-written : {l : ℕ} → r ≡ Length l → record { answer = Delivered (classes m) g (length (shortWords (tableOf b))) l; list = over (shortWords (tableOf b)) list; map = over m map; out = o } ≡ deliver L b list map out m g
     unfolding onWritten
     deliver-written f = on-answer f
 
@@ -85,171 +89,154 @@ module _ (L : Limits) (b list map out v : List ℕ) (n g : ℕ) {found : Classes
   e' : record { answer = r; out = o } ≡ quotientOf L b (mapOf v n) out
   e' = e ∙ ap (λ (m : List ℕ). quotientOf L b m out) (h .map)
 
-  pub not-delivered : {k : ℕ} → r ≡ NotWritten k → record { answer = Refused k; list = over (clauseWords (tableOf b)) list; map = map; out = o } ≡ deliver L b list map out (mapOf v n) g
+  pub not-delivered : {k : ℕ} → r ≡ NotWritten k → record { answer = Refused k; list = over (shortWords (tableOf b)) list; map = map; out = o } ≡ deliver L b list map out (mapOf v n) g
   not-delivered f = deliver-refused L b list map out (mapOf v n) g e' f
 
-  pub delivered : {l w : ℕ} {m : List ℕ} → r ≡ Length l → w ≡ length (clauseWords (tableOf b)) → m ≡ take (length (take n (found .map))) (take n (found .map)) ++ drop (length (take n (found .map))) map
-      → record { answer = Delivered (found .count) g w l; list = over (clauseWords (tableOf b)) list; map = m; out = o } ≡ deliver L b list map out (mapOf v n) g
+  pub delivered : {l w : ℕ} {m : List ℕ} → r ≡ Length l → w ≡ length (shortWords (tableOf b)) → m ≡ take (length (take n (found .map))) (take n (found .map)) ++ drop (length (take n (found .map))) map
+      → record { answer = Delivered (found .count) g w l; list = over (shortWords (tableOf b)) list; map = m; out = o } ≡ deliver L b list map out (mapOf v n) g
   unfolding over
   delivered {l} {w} {m} f p q =
       let written : m ≡ over (mapOf v n) map = copied (take n (found .map)) map q ∙ ap (λ (x : List ℕ). over x map) (h .map) in
-      (λ i. record { answer = Delivered (h .count i) g (p i) l; list = over (clauseWords (tableOf b)) list; map = written i; out = o }) ∙ deliver-written L b list map out (mapOf v n) g e' f
+      (λ i. record { answer = Delivered (h .count i) g (p i) l; list = over (shortWords (tableOf b)) list; map = written i; out = o }) ∙ deliver-written L b list map out (mapOf v n) g e' f
 
 -- ---- search
 
 pub states-few : (L : Limits) (b : List ℕ) → Readable L b → count (tableOf b) ≤ stateMost
 states-few L b readable = most-states (read-well-formed L b readable)
 
-module _ (L : Limits) (b : List ℕ) (readable : Readable L b) (budget : ℕ) where
-  abbrev n : ℕ
-  n = count (tableOf b)
+-- a table that was read, its number of states, and the values of its pairs, none of which is set
+pub record Solvable (b ws : List ℕ) (n : ℕ) : Type 0 where
+  pub limits : Limits
+  pub readable : Readable limits b
+  pub states : n ≡ count (tableOf b)
+  pub listed : ws ≡ shortWords (tableOf b)
 
-  abbrev cs : List (List ℕ)
-  cs = clauseList (tableOf b)
+pub solvable : {b ws tops : List ℕ} {s : Starts} {n : ℕ} → Known b s tops → n ≡ count (tableOf b) → ws ≡ shortWords (tableOf b) → Solvable b ws n
+solvable k e f = record { limits = k .limits; readable = k .read .readable; states = e; listed = f }
 
-  fits : all (clauseFits (pairs n)) cs ≡ true
-  fits = list-fits (tableOf b) (read-well-formed L b readable)
+module _ {b ws : List ℕ} {n : ℕ} (h : Solvable b ws n) where
+  pub few : n ≤ stateMost
+  few = omega (arith, h .states, states-few (h .limits) b (h .readable))
 
-  -- the variables are no more than the limits permit
-  variables-few : pairs n ≤ pairs (L .states)
-  variables-few = pairs-mono n (L .states) (few-states (read-well-formed L b readable))
+  -- room for the variables
+  pub values-room : {v k : ℕ} → v ≡ pairs n → k ≡ 780 → v ≤ k
+  values-room e f = omega (arith, most-pairs n few)
 
-  -- nothing is refused before the search
-  none-refused : (a : List ℕ) → length a ≡ 780 → searchNumber (pairs (L .states)) (clauseWords (tableOf b)) (pairs n) a ≡ 0
-  unfolding searchNumber listFits clauseWords firstFailed
-  none-refused a long =
-      rw (le-leb (pairs n) (pairs (L .states)) variables-few, whole-words cs, clauses-words cs, fits, long, le-leb (pairs n) 780 (most-pairs n (states-few L b readable)), searchNumber, listFits, clauseWords, firstFailed) refl
+  formed : Formed (clauseList (tableOf b)) (pairs (count (tableOf b)))
+  formed = fit-formed (pairs (count (tableOf b))) (clauseList (tableOf b)) (list-fits (tableOf b) (read-well-formed (h .limits) b (h .readable)))
 
-  -- the search that reduce is defined with is the one over the list's words
-  same-search : (a : List ℕ) → length a ≡ 780 → searchOf L (clauseWords (tableOf b)) (pairs n) budget a ≡ searched a (searchOfTable b budget)
-  unfolding searchOf searchAt searchOfTable clauseWords
-  same-search a long =
-      rw (read-well-formed L b readable .limits, searchOf)
-      (rw (eq-eqb (searchNumber (pairs (L .states)) (clauseWords (tableOf b)) (pairs n) a) 0 (none-refused a long), searchAt) (rw (clauses-words cs, searchOfTable, clauseWords) refl))
+  short-part : Formed (shortList (tableOf b)) (pairs (count (tableOf b)))
+  short-part = record { below = λ c m. short-formed (tableOf b) 0 formed .below c (Memᴰ·append-left (triangles (count (tableOf b))) m) }
 
-  module _ (before map out : List ℕ) where
-    -- what reduce makes of the search's answer
-    onSolution : Solution → List ℕ → Reduced
-    onSolution (Solved k) a = deliver L b before map out (mapOf (take (pairs n) a) n) k
-    onSolution (NotSolved k) a = record { answer = Refused k; list = over (clauseWords (tableOf b)) before; map = map; out = out }
+  words-are : clausesIn ws ≡ shortList (tableOf b)
+  unfolding shortWords
+  words-are = ap clausesIn (h .listed) ∙ clauses-words (shortList (tableOf b))
 
-    on-outcome : (a : List ℕ) (o : Outcome) → o ≡ searchOfTable b budget → onSolution (searched a o .solution) (searched a o .answer) ≡ afterSearch L b before map out o
-    unfolding onSolution searched afterSearch over searchOfTable
-    on-outcome a (solved v k) e =
-        let s = satisfies cs (pairs n) budget (fit-formed (pairs n) cs fits) v k (sym e) in
-        ap (λ (w : List ℕ). deliver L b before map out (mapOf w n) k) (take-at v (drop (length v) a) (pairs n) (s .assigns .long))
-    on-outcome a (none-exists k) e = refl
-    on-outcome a (spent k) e = refl
-    on-outcome a unfinished e = refl
+  pub fresh : {v : List ℕ} → v ≡ replicate (pairs n) 2 → Fresh ws n v
+  unfolding shortWords
+  fresh {v} e =
+      let long : length v ≡ pairs n = ap length e ∙ length-replicate {A = ℕ} (pairs n) 2 in
+      record {
+        all-there = rw (h .listed) (whole-words (shortList (tableOf b)));
+        formed = rw (words-are, long, h .states) short-part;
+        none-set = rw long e;
+        most = omega (arith, long, most-pairs n few);
+        few = few;
+        size = λ z. long;
+      }
 
-    module _ {ws : List ℕ} (a : List ℕ) {o : List ℕ} {v : ℕ} {r : Solution} (w : ws ≡ clauseWords (tableOf b)) (p : v ≡ pairs n) (long : length a ≡ 780) (e : record { solution = r; answer = o } ≡ searchOf L ws v budget a) where
-      on-found : {x : Solution} → r ≡ x → onSolution x o ≡ afterSearch L b before map out (searchOfTable b budget)
-      on-found {x} f =
-          let known : record { solution = r; answer = o } ≡ searched a (searchOfTable b budget) = e ∙ ap (λ (u : List ℕ). searchOf L u v budget a) w ∙ ap (λ (u : ℕ). searchOf L (clauseWords (tableOf b)) u budget a) p ∙ same-search a long in
-          ap (λ (y : Solution). onSolution y o) (sym f) ∙ ap (λ (d : Searched). onSolution (d .solution) (d .answer)) known ∙ on-outcome a (searchOfTable b budget) refl
+  -- the outcome over the short list and the classes is that over the full list
+  -- named: the outcome is `searchFrom` over the full list
+  pub same : (r : Ending) {v : List ℕ} (w : List ℕ) (budget : ℕ) → v ≡ replicate (pairs n) 2 → outcomeOf r w ≡ searchFrom (withTriangles ws n) (length v) budget → outcomeOf r w ≡ searchOfTable b budget
+  unfolding searchOfTable
+  same r w budget e f =
+      f
+      ∙ (λ i. searchFrom (words-are i ++ triangles (h .states i)) ((ap length e ∙ length-replicate {A = ℕ} (pairs n) 2 ∙ ap pairs (h .states)) i) budget)
+      ∙ short-same (tableOf b) budget formed
 
-      pub solve-refused : {k : ℕ} → r ≡ NotSolved k → record { answer = Refused k; list = over (clauseWords (tableOf b)) before; map = map; out = out } ≡ afterSearch L b before map out (searchOfTable b budget)
-      unfolding onSolution
-      solve-refused f = on-found f
+module _ (L : Limits) (b before map out : List ℕ) (budget : ℕ) where
+  -- what reduce makes of the search's end
+  solve-found : {r : Ending} (v : List ℕ) {n k : ℕ} → n ≡ count (tableOf b) → outcomeOf r v ≡ searchOfTable b budget → r ≡ Found k → deliver L b before map out (mapOf v n) k ≡ afterSearch L b before map out (searchOfTable b budget)
+  unfolding afterSearch
+  solve-found v {k = k} c e f = ap (λ (m : ℕ). deliver L b before map out (mapOf v m) k) c ∙ ap (afterSearch L b before map out) (ap (λ (x : Ending). outcomeOf x v) (sym f) ∙ e)
 
-      pub solve-found : {k : ℕ} → r ≡ Solved k → deliver L b before map out (mapOf (take v o) n) k ≡ afterSearch L b before map out (searchOfTable b budget)
-      unfolding onSolution
-      solve-found {k} f = ap (λ (u : ℕ). deliver L b before map out (mapOf (take u o) n) k) p ∙ on-found f
+  solve-absent : {r : Ending} (v : List ℕ) {k : ℕ} → outcomeOf r v ≡ searchOfTable b budget → r ≡ Absent k → record { answer = Refused 12; list = over (shortWords (tableOf b)) before; map = map; out = out } ≡ afterSearch L b before map out (searchOfTable b budget)
+  unfolding afterSearch
+  solve-absent v e f = ap (afterSearch L b before map out) (ap (λ (x : Ending). outcomeOf x v) (sym f) ∙ e)
 
--- the same as the code finds it: n states, v variables, room for 780 values
-module _ (L : Limits) (b : List ℕ) (readable : Readable L b) {n v : ℕ} (counted : n ≡ count (tableOf b)) (numbered : v ≡ pairs n) where
-  variables-are : v ≡ pairs (count (tableOf b))
-  variables-are = numbered ∙ ap pairs counted
+  solve-spent : {r : Ending} (v : List ℕ) {k : ℕ} → outcomeOf r v ≡ searchOfTable b budget → r ≡ Spent k → record { answer = Refused 13; list = over (shortWords (tableOf b)) before; map = map; out = out } ≡ afterSearch L b before map out (searchOfTable b budget)
+  unfolding afterSearch
+  solve-spent v e f = ap (afterSearch L b before map out) (ap (λ (x : Ending). outcomeOf x v) (sym f) ∙ e)
 
-  pub values-room : {k : ℕ} → k ≡ 780 → v ≤ k
-  values-room e = omega (arith, variables-are, most-pairs (count (tableOf b)) (states-few L b readable))
+-- the same as the code finds it: x variables, in the first of room for 780
+module _ {b ws : List ℕ} {n : ℕ} (h : Solvable b ws n) {x : ℕ} (e : x ≡ pairs n) {s : List ℕ} (z : s ≡ noneSet) where
+  pub room : x ≤ 780
+  room = values-room h e refl
 
-  pub values-part : (a : List ℕ) → length a ≡ 780 → length (take v a) ≡ v
-  values-part a e = length-take-le v a (values-room e)
+  pub part-none : take x s ≡ replicate (pairs n) 2
+  part-none = prefix-is x room z ∙ ap (λ (k : ℕ). replicate {A = ℕ} k 2) e
 
-  module _ {ws : List ℕ} (budget : ℕ) (a : List ℕ) {o : List ℕ} {r : Solution} (w : ws ≡ clauseWords (tableOf b)) (long : length a ≡ 780) (e : record { solution = r; answer = o } ≡ searchOf L ws v budget a) (before map out : List ℕ) where
-    pub not-solved : {k : ℕ} → r ≡ NotSolved k → record { answer = Refused k; list = over (clauseWords (tableOf b)) before; map = map; out = out } ≡ afterSearch L b before map out (searchOfTable b budget)
-    not-solved f = solve-refused L b readable budget before map out a w variables-are long e f
+  module _ (L : Limits) (before map out : List ℕ) (budget : ℕ) (r : Ending) (v : List ℕ) (long : length v ≡ length (take x s)) (q : outcomeOf r v ≡ searchFrom (withTriangles ws n) (length (take x s)) budget) where
+    outcome : outcomeOf r v ≡ searchOfTable b budget
+    outcome = same h r v budget part-none q
 
-    pub is-solved : {k : ℕ} → r ≡ Solved k → deliver L b before map out (mapOf (take v o) n) k ≡ afterSearch L b before map out (searchOfTable b budget)
-    is-solved {k} f =
-        ap (λ (c : ℕ). deliver L b before map out (mapOf (take v o) c) k) counted
-        ∙ solve-found L b readable budget before map out a w variables-are long e f
+    pub was-found : {k : ℕ} → r ≡ Found k → deliver L b before map out (mapOf (take x (v ++ drop x s)) n) k ≡ afterSearch L b before map out (searchOfTable b budget)
+    was-found {k} f = ap (λ (w : List ℕ). deliver L b before map out (mapOf w n) k) (prefix-values x room z v long) ∙ solve-found L b before map out budget v (h .states) outcome f
+
+    pub was-absent : {k : ℕ} → r ≡ Absent k → record { answer = Refused 12; list = over (shortWords (tableOf b)) before; map = map; out = out } ≡ afterSearch L b before map out (searchOfTable b budget)
+    was-absent f = solve-absent L b before map out budget v outcome f
+
+    pub was-spent : {k : ℕ} → r ≡ Spent k → record { answer = Refused 13; list = over (shortWords (tableOf b)) before; map = map; out = out } ≡ afterSearch L b before map out (searchOfTable b budget)
+    was-spent f = solve-spent L b before map out budget v outcome f
 
 -- ---- clauses
 
-module _ (L : Limits) (b list : List ℕ) where
+module _ (b list : List ℕ) where
   -- what an answer of the clauses says of the buffer
   ListedAs : Listed → List ℕ → Type 0
-  ListedAs (Words c w) l = (w ≡ length (clauseWords (tableOf b))) × (l ≡ over (clauseWords (tableOf b)) list) × (w ≤ length list)
-  ListedAs (NotListed k) l = l ≡ list
+  ListedAs (Words c w) l = (w ≡ length (shortWords (tableOf b))) × (l ≡ over (shortWords (tableOf b)) list) × (w ≤ length list)
+  ListedAs (NotListed k) l = (k ≡ 10) × (l ≡ list) × (length list < length (shortWords (tableOf b)))
 
-  fits-list : clausesNumber L b list ≡ 0 → length (clauseWords (tableOf b)) ≤ length list
-  unfolding clausesNumber
-  fits-list e = one (eqb (readNumber L b) 0) refl e
+  listed-as : ListedAs (listedBy (shortList (tableOf b)) list .answer) (listedBy (shortList (tableOf b)) list .list)
+  unfolding ListedAs listedBy shortWords
+  listed-as = go (leb (length (wordsOf (shortList (tableOf b)))) (length list)) refl
     where
-      two : (t : Bool) → leb (length (clauseWords (tableOf b))) (length list) ≡ t → _≡_ {A = ℕ} (elim t [ true ↦ 0 | false ↦ 10 ]) 0 → length (clauseWords (tableOf b)) ≤ length list
-      two true p f = leb-true _ _ p
-      two false p f = absurd (omega arith)
+      go : (t : Bool) → leb (length (wordsOf (shortList (tableOf b)))) (length list) ≡ t → ListedAs (listedBy (shortList (tableOf b)) list .answer) (listedBy (shortList (tableOf b)) list .list)
+      go true e = rw (e, listedBy) (refl, refl, leb-true _ _ e)
+      go false e = rw (e, listedBy) (refl, refl, leb-false _ _ e)
 
-      one : (t : Bool) → eqb (readNumber L b) 0 ≡ t → _≡_ {A = ℕ} (elim t [ true ↦ elim (leb (length (clauseWords (tableOf b))) (length list)) [ true ↦ 0 | false ↦ 10 ] | false ↦ readNumber L b ]) 0 → length (clauseWords (tableOf b)) ≤ length list
-      one true p f = two (leb (length (clauseWords (tableOf b))) (length list)) refl f
-      one false p f = absurd (eqb-false (readNumber L b) 0 p f)
-
-  listed-as : ListedAs (clausesOf L b list .answer) (clausesOf L b list .list)
-  unfolding ListedAs clausesOf
-  listed-as = go (eqb (clausesNumber L b list) 0) refl
-    where
-      go : (t : Bool) → eqb (clausesNumber L b list) 0 ≡ t → ListedAs (clausesOf L b list .answer) (clausesOf L b list .list)
-      go true e = rw (e, clausesOf) (refl, refl, fits-list (eqb-true _ _ e))
-      go false e = rw (e, clausesOf) refl
-
-  module _ {r : Listed} {l : List ℕ} (e : record { answer = r; list = l } ≡ clausesOf L b list) where
+  module _ {r : Listed} {l : List ℕ} (e : record { answer = r; list = l } ≡ listedBy (shortList (tableOf b)) list) where
     told : {x : Listed} → r ≡ x → ListedAs x l
     told {x} f = subst (λ (y : Listed). ListedAs y l) f (subst (λ (d : ClausesDone). ListedAs (d .answer) (d .list)) (sym e) listed-as)
 
     -- the list stands at the front of the buffer
-    pub list-there : {c w : ℕ} → r ≡ Words c w → take w l ≡ clauseWords (tableOf b)
+    pub list-there : {c w : ℕ} → r ≡ Words c w → take w l ≡ shortWords (tableOf b)
     unfolding ListedAs over
     list-there {c} {w} f =
         let t = told f in
-        ap (take w) (t .1) ∙ take-at (clauseWords (tableOf b)) (drop (length (clauseWords (tableOf b))) list) w (sym (t .0))
+        ap (take w) (t .1) ∙ take-at (shortWords (tableOf b)) (drop (length (shortWords (tableOf b))) list) w (sym (t .0))
 
     pub list-room : {c w : ℕ} → r ≡ Words c w → w ≤ length l
     unfolding ListedAs over
     list-room {c} {w} f =
         let t = told f in
-        omega (arith, ap length (t .1) ∙ length-append (clauseWords (tableOf b)) (drop (length (clauseWords (tableOf b))) list), t .0)
+        omega (arith, ap length (t .1) ∙ length-append (shortWords (tableOf b)) (drop (length (shortWords (tableOf b))) list), t .0)
 
-    module _ (budget : ℕ) (map out : List ℕ) (readable : Readable L b) (room : count (tableOf b) ≤ length map) where
-      onListed : Listed → List ℕ → Reduced
-      onListed (Words c w) k = afterSearch L b list map out (searchOfTable b budget)
-      onListed (NotListed k) i = record { answer = Refused k; list = i; map = map; out = out }
-
-      same-number : beforeSearch L b list map ≡ clausesNumber L b list
-      unfolding beforeSearch clausesNumber
-      same-number = rw (eq-eqb (readNumber L b) 0 readable, le-leb (count (tableOf b)) (length map) room, beforeSearch, clausesNumber) refl
-
-      on-listed : onListed (clausesOf L b list .answer) (clausesOf L b list .list) ≡ reduceOf L b budget list map out
-      unfolding onListed clausesOf reduceOf
-      on-listed = go (eqb (clausesNumber L b list) 0) refl
-        where
-          go : (t : Bool) → eqb (clausesNumber L b list) 0 ≡ t → onListed (clausesOf L b list .answer) (clausesOf L b list .list) ≡ reduceOf L b budget list map out
-          go true p = rw (same-number, p, clausesOf, reduceOf) refl
-          go false p = rw (same-number, p, clausesOf, reduceOf) (λ i. record { answer = Refused (sym same-number i); list = list; map = map; out = out })
-
-      on-list : {x : Listed} → r ≡ x → onListed x l ≡ reduceOf L b budget list map out
-      on-list {x} f = ap (λ (y : Listed). onListed y l) (sym f) ∙ ap (λ (d : ClausesDone). onListed (d .answer) (d .list)) e ∙ on-listed
-
+    module _ (L : Limits) (budget : ℕ) (map out : List ℕ) (readable : Readable L b) (room : count (tableOf b) ≤ length map) where
       pub list-refused : {k : ℕ} → r ≡ NotListed k → record { answer = Refused k; list = l; map = map; out = out } ≡ reduceOf L b budget list map out
-      unfolding onListed
-      list-refused f = on-list f
+      unfolding ListedAs beforeSearch reduceOf
+      list-refused {k} f =
+          let t = told f in
+          let n : beforeSearch L b list map ≡ 10 = rw (eq-eqb (readNumber L b) 0 readable, le-leb (count (tableOf b)) (length map) room, lt-leb (length (shortWords (tableOf b))) (length list) (t .2), beforeSearch) in
+          (λ i. record { answer = Refused (t .0 i); list = t .1 i; map = map; out = out }) ∙ rw (n, reduceOf) (λ i. record { answer = Refused (sym n i); list = list; map = map; out = out })
 
       -- the list was written, and the rest of reduce gave its answer
-      pub list-solved : {c w : ℕ} {s : Reduction} {m o : List ℕ} → r ≡ Words c w → ((before : List ℕ) → record { answer = s; list = over (clauseWords (tableOf b)) before; map = m; out = o } ≡ afterSearch L b before map out (searchOfTable b budget)) → record { answer = s; list = l; map = m; out = o } ≡ reduceOf L b budget list map out
-      unfolding onListed ListedAs
+      pub list-solved : {c w : ℕ} {s : Reduction} {m o : List ℕ} → r ≡ Words c w → ((before : List ℕ) → record { answer = s; list = over (shortWords (tableOf b)) before; map = m; out = o } ≡ afterSearch L b before map out (searchOfTable b budget)) → record { answer = s; list = l; map = m; out = o } ≡ reduceOf L b budget list map out
+      unfolding ListedAs beforeSearch reduceOf
       list-solved {c} {w} {s} {m} {o} f h =
-          (λ i. record { answer = s; list = told f .1 i; map = m; out = o }) ∙ h list ∙ on-list f
+          let t = told f in
+          let n : beforeSearch L b list map ≡ 0 = rw (eq-eqb (readNumber L b) 0 readable, le-leb (count (tableOf b)) (length map) room, le-leb (length (shortWords (tableOf b))) (length list) (omega (arith, t .0, t .2)), beforeSearch) in
+          (λ i. record { answer = s; list = t .1 i; map = m; out = o }) ∙ h list ∙ rw (n, reduceOf) refl
 
 -- ---- reading
 
@@ -258,12 +245,9 @@ module _ (L : Limits) (b : List ℕ) (budget : ℕ) (list map out : List ℕ) wh
   unfolding reduceOf
   by-number {k} e z = rw (e, ne-eqb k 0 z, reduceOf) (λ i. record { answer = Refused (sym e i); list = list; map = map; out = out })
 
-  pub not-read : {k : ℕ} → readOf L b ≡ NotRead k → record { answer = Refused k; list = list; map = map; out = out } ≡ reduceOf L b budget list map out
+  pub not-read : {k : ℕ} → readNumber L b ≡ k → (k ≡ 0 → ⊥) → record { answer = Refused k; list = list; map = map; out = out } ≡ reduceOf L b budget list map out
   unfolding beforeSearch
-  not-read {k} e = let r = read-refused L b k e in by-number (first r) (r .1)
-    where
-      first : (readNumber L b ≡ k) × (k ≡ 0 → ⊥) → beforeSearch L b list map ≡ k
-      first r = rw (ne-eqb (readNumber L b) 0 (λ z. r .1 (sym (r .0) ∙ z)), beforeSearch) (r .0)
+  not-read {k} e n = by-number (rw (ne-eqb (readNumber L b) 0 (λ z. n (sym e ∙ z)), beforeSearch) e) n
 
   pub map-short : Readable L b → length map < count (tableOf b) → record { answer = Refused 22; list = list; map = map; out = out } ≡ reduceOf L b budget list map out
   unfolding beforeSearch

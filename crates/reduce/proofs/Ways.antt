@@ -24,7 +24,7 @@ use Rattle.table.specs.Maps.{classes}
 use Rattle.table.proofs.Passed.{read-within}
 use Rattle.table.proofs.Bytes.{read-well-formed}
 use Rattle.maps.specs.Check.{checkNumber}
-use Rattle.clauses.specs.Clauses.{clauseList, clauseWords}
+use Rattle.clauses.specs.Clauses.{clauseList, shortWords}
 use Rattle.clauses.specs.Maps.{mapOf}
 use Rattle.clauses.proofs.Formed.{list-fits}
 use Rattle.clauses.proofs.Assignments.{assignmentOf, nothing-joined}
@@ -37,22 +37,22 @@ use Rattle.reduce.specs.declared.Reduction.the-variants.{Delivered, Refu
 pub record Begun (L : Limits) (b list map : List ℕ) : Type 0 where
   pub readable : Readable L b
   pub room : count (tableOf b) ≤ length map
-  pub listed : length (clauseWords (tableOf b)) ≤ length list
+  pub listed : length (shortWords (tableOf b)) ≤ length list
 
 begun : (L : Limits) (b list map : List ℕ) → beforeSearch L b list map ≡ 0 → Begun L b list map
 unfolding beforeSearch
 begun L b list map e = one (eqb (readNumber L b) 0) refl e
   where
-    three : Readable L b → count (tableOf b) ≤ length map → (t : Bool) → leb (length (clauseWords (tableOf b))) (length list) ≡ t → _≡_ {A = ℕ} (elim t [ true ↦ 0 | false ↦ 10 ]) 0 → Begun L b list map
+    three : Readable L b → count (tableOf b) ≤ length map → (t : Bool) → leb (length (shortWords (tableOf b))) (length list) ≡ t → _≡_ {A = ℕ} (elim t [ true ↦ 0 | false ↦ 10 ]) 0 → Begun L b list map
     three r m true p f = record { readable = r; room = m; listed = leb-true _ _ p }
     three r m false p f = absurd (omega arith)
 
-    two : Readable L b → (t : Bool) → leb (count (tableOf b)) (length map) ≡ t → _≡_ {A = ℕ} (elim t [ true ↦ elim (leb (length (clauseWords (tableOf b))) (length list)) [ true ↦ 0 | false ↦ 10 ] | false ↦ 22 ]) 0 → Begun L b list map
-    two r true p f = three r (leb-true _ _ p) (leb (length (clauseWords (tableOf b))) (length list)) refl f
+    two : Readable L b → (t : Bool) → leb (count (tableOf b)) (length map) ≡ t → _≡_ {A = ℕ} (elim t [ true ↦ elim (leb (length (shortWords (tableOf b))) (length list)) [ true ↦ 0 | false ↦ 10 ] | false ↦ 22 ]) 0 → Begun L b list map
+    two r true p f = three r (leb-true _ _ p) (leb (length (shortWords (tableOf b))) (length list)) refl f
     two r false p f = absurd (omega arith)
 
     one : (t : Bool) → eqb (readNumber L b) 0 ≡ t
-        → _≡_ {A = ℕ} (elim t [ true ↦ elim (leb (count (tableOf b)) (length map)) [ true ↦ elim (leb (length (clauseWords (tableOf b))) (length list)) [ true ↦ 0 | false ↦ 10 ] | false ↦ 22 ] | false ↦ readNumber L b ]) 0
+        → _≡_ {A = ℕ} (elim t [ true ↦ elim (leb (count (tableOf b)) (length map)) [ true ↦ elim (leb (length (shortWords (tableOf b))) (length list)) [ true ↦ 0 | false ↦ 10 ] | false ↦ 22 ] | false ↦ readNumber L b ]) 0
         → Begun L b list map
     one true p f = two (eqb-true (readNumber L b) 0 p) (leb (count (tableOf b)) (length map)) refl f
     one false p f = absurd (eqb-false (readNumber L b) 0 p f)
@@ -66,7 +66,7 @@ pub data FirstNumber (k : ℕ) : Type 0 where
 
 pub first-number : (L : Limits) (b list map : List ℕ) → FirstNumber (beforeSearch L b list map)
 unfolding beforeSearch
-first-number L b list map = go (eqb (readNumber L b) 0) (leb (count (tableOf b)) (length map)) (leb (length (clauseWords (tableOf b))) (length list))
+first-number L b list map = go (eqb (readNumber L b) 0) (leb (count (tableOf b)) (length map)) (leb (length (shortWords (tableOf b))) (length list))
   where
     go : (s t u : Bool) → FirstNumber (elim s [ true ↦ elim t [ true ↦ elim u [ true ↦ 0 | false ↦ 10 ] | false ↦ 22 ] | false ↦ readNumber L b ])
     go true true true = of-reading (omega arith)
@@ -85,11 +85,11 @@ module _ (L : Limits) (b : List ℕ) (budget : ℕ) (list map out : List ℕ) wh
 
   pub data Ways : Reduced → Type 0 where
     refused-first : (k : ℕ) → beforeSearch L b list map ≡ k → k ≢ 0 → Ways (record { answer = Refused k; list = list; map = map; out = out })
-    refused-spent : (g : ℕ) → Begun L b list map → searchOfTable b budget ≡ spent g → Ways (record { answer = Refused 13; list = over (clauseWords (tableOf b)) list; map = map; out = out })
-    refused-short : (v : List ℕ) (g : ℕ) → Solved v g → length out < length (quotientBytes b (mapOf v (count (tableOf b)))) → Ways (record { answer = Refused 21; list = over (clauseWords (tableOf b)) list; map = map; out = out })
+    refused-spent : (g : ℕ) → Begun L b list map → searchOfTable b budget ≡ spent g → Ways (record { answer = Refused 13; list = over (shortWords (tableOf b)) list; map = map; out = out })
+    refused-short : (v : List ℕ) (g : ℕ) → Solved v g → length out < length (quotientBytes b (mapOf v (count (tableOf b)))) → Ways (record { answer = Refused 21; list = over (shortWords (tableOf b)) list; map = map; out = out })
     delivers : (v : List ℕ) (g : ℕ) → Solved v g → length (quotientBytes b (mapOf v (count (tableOf b)))) ≤ length out → Ways (record {
-      answer = Delivered (classes (mapOf v (count (tableOf b)))) g (length (clauseWords (tableOf b))) (length (quotientBytes b (mapOf v (count (tableOf b)))));
-      list = over (clauseWords (tableOf b)) list;
+      answer = Delivered (classes (mapOf v (count (tableOf b)))) g (length (shortWords (tableOf b))) (length (quotientBytes b (mapOf v (count (tableOf b)))));
+      list = over (shortWords (tableOf b)) list;
       map = over (mapOf v (count (tableOf b))) map;
       out = over (quotientBytes b (mapOf v (count (tableOf b)))) out;
     })

@@ -13,7 +13,7 @@ use Rattle.table.specs.File.{tableOf}
 use Rattle.table.specs.Reading.{readNumber}
 use Rattle.table.specs.Language.{count}
 use Rattle.table.specs.Maps.{classes}
-use Rattle.clauses.specs.Clauses.{clauseList, clauseWords}
+use Rattle.clauses.specs.Clauses.{clauseList, shortWords}
 use Rattle.clauses.specs.Maps.{mapOf}
 use Rattle.quotient.specs.Quotient.{quotientBytes, quotientNumber}
 use Rattle.reduce.specs.declared.Reduction.{Reduction}
@@ -26,24 +26,24 @@ pub record Reduced : Type 0 where
   pub map : List ℕ
   pub out : List ℕ
 
--- 39, 1 to 8; then 22: "map buffer under one byte a state"; then 10: the list longer than the clause buffer; or 0
+-- 39, 1 to 8; then 22: "map buffer under one byte a state"; then 10: the list without group 2 longer than the clause buffer ("10 is judged on it"); or 0
 unfoldable pub beforeSearch : Limits → List ℕ → List ℕ → List ℕ → ℕ
 beforeSearch L b list map = elim (eqb (readNumber L b) 0) [
   | true ↦ elim (leb (count (tableOf b)) (length map)) [
-    | true ↦ elim (leb (length (clauseWords (tableOf b))) (length list)) [ true ↦ 0 | false ↦ 10 ]
+    | true ↦ elim (leb (length (shortWords (tableOf b))) (length list)) [ true ↦ 0 | false ↦ 10 ]
     | false ↦ 22
   ]
   | false ↦ readNumber L b
 ]
 
--- the search that reduce runs: over the table's list, with a variable for each pair of its states
+-- the search that reduce runs: "Assignment and guess count must equal those over the full list", with a variable for each pair of the states
 unfoldable pub searchOfTable : List ℕ → ℕ → Outcome
 searchOfTable b budget = searchFrom (clauseList (tableOf b)) (pairs (count (tableOf b))) budget
 
 module _ (L : Limits) (b list map out : List ℕ) where
-  -- "With 13, 21 or a delivery the clause buffer starts with the list, the rest unchanged."
+  -- "With 13, 21 or a delivery the clause buffer starts with the list, the rest unchanged": the list without group 2
   abbrev listed : List ℕ
-  listed = over (clauseWords (tableOf b)) list
+  listed = over (shortWords (tableOf b)) list
 
   -- a refusal once the list is written
   abbrev refusedLater : ℕ → Reduced
@@ -53,7 +53,7 @@ module _ (L : Limits) (b list map out : List ℕ) where
   unfoldable pub deliver : List ℕ → ℕ → Reduced
   deliver m k = elim (eqb (quotientNumber L b m out) 0) [
     | true ↦ record {
-      answer = Delivered (classes m) k (length (clauseWords (tableOf b))) (length (quotientBytes b m));
+      answer = Delivered (classes m) k (length (shortWords (tableOf b))) (length (quotientBytes b m));
       list = listed;
       map = over m map;
       out = over (quotientBytes b m) out;

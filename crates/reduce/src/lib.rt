@@ -4,12 +4,14 @@ ghost use mathlib.Core.List.{List};
 ghost use Prim.Native.Nat.{ℕ, _≤_};
 ghost use lib.ListN.{length};
 ghost use Rattle.lists.specs.Lists.{over};
+ghost use Rattle.limits.specs.declared.Limits.{Limits};
 ghost use Rattle.limits.specs.Limits.{standard};
 ghost use Rattle.pairs.specs.Pairs.{pairs};
 ghost use Rattle.table.specs.File.{tableOf};
 ghost use Rattle.table.specs.Reading.{Readable};
 ghost use Rattle.table.specs.Language.{count};
-ghost use Rattle.clauses.specs.Clauses.{clauseWords};
+ghost use Rattle.maps.specs.Sections.{Known};
+ghost use Rattle.clauses.specs.Clauses.{shortWords};
 ghost use Rattle.clauses.specs.Maps.{mapOf};
 ghost use Rattle.reduce.specs.Reduce.{Reduced, searchOfTable, deliver, afterSearch, reduceOf};
 ghost use Rattle.reduce.specs.Demands.{KeepsWords, DeliversQuotient, DeliversChecked, DeliversMaximal, FewGuesses};
@@ -17,9 +19,9 @@ use clauses::Listed;
 use limits::Limits;
 use map::map_of;
 use quotient::Written;
-use search::Solution;
-use table::Reading;
+use search::Ending;
 use table::Section;
+use table::Starts;
 
 mod map;
 
@@ -37,8 +39,9 @@ pub enum Reduction {
 
 // Map, check and quotient of an assignment: the map is written only once the quotient is.
 fn deliver_found(
-    limits: Limits,
     table: &[u8],
+    starts: Starts,
+    tops: &[u64],
     n: u8,
     values: &[u8],
     guesses: u64,
@@ -46,13 +49,13 @@ fn deliver_found(
     map: &mut [u8],
     out: &mut [u8],
 ) -> Reduction
-    requires { ⌜ (n ≡ count (tableOf (now table))) × (n ≤ 40) × (n ≤ length (now map)) × (length (now values) ≡ pairs n) × (words ≡ length (clauseWords (tableOf (now table)))) ⌝ }
-    ensures { λ r. ⌜ ((list : List ℕ) → _≡_ {A = Reduced} (record { answer = r; list = over (clauseWords (tableOf (now (table .entry)))) list; map = now (map .exit); out = now (out .exit) }) (deliver limits (now (table .entry)) list (now (map .entry)) (now (out .entry)) (mapOf (now (values .entry)) n) guesses)) ⌝ }
+    requires { ⌜ Known (now table) starts (now tops) × (n ≤ 40) × (n ≤ length (now map)) × (length (now values) ≡ pairs n) × (words ≡ length (shortWords (tableOf (now table)))) ⌝ }
+    ensures { λ r. ⌜ ((L : Limits) → Readable L (now (table .entry)) → (list : List ℕ) → _≡_ {A = Reduced} (record { answer = r; list = over (shortWords (tableOf (now (table .entry)))) list; map = now (map .exit); out = now (out .exit) }) (deliver L (now (table .entry)) list (now (map .entry)) (now (out .entry)) (mapOf (now (values .entry)) n) guesses)) ⌝ }
 {
     let classes = map_of(values, n);
     let found = classes.map;
     let count = n as usize;
-    let written = quotient::quotient_within(limits, table, &found[..count], out);
+    let written = quotient::quotient_known(table, starts, tops, &found[..count], out);
     match written {
         Written::Refused(number) => Reduction::Refused(number),
         Written::Length(length) => {
@@ -67,27 +70,28 @@ fn deliver_found(
     }
 }
 
-// The search over the list that was written, and what its end leads to.
+// The search over the list that was written, with the classes in place of group 2, and what its end leads to.
 fn solve_listed(
-    limits: Limits,
     table: &[u8],
+    starts: Starts,
+    tops: &[u64],
     n: u8,
     list: &[u16],
     budget: u64,
     map: &mut [u8],
     out: &mut [u8],
 ) -> Reduction
-    requires { ⌜ Readable limits (now table) × (n ≡ count (tableOf (now table))) × (n ≤ length (now map)) × (now list ≡ clauseWords (tableOf (now table))) ⌝ }
-    ensures { λ r. ⌜ ((before : List ℕ) → _≡_ {A = Reduced} (record { answer = r; list = over (clauseWords (tableOf (now (table .entry)))) before; map = now (map .exit); out = now (out .exit) }) (afterSearch limits (now (table .entry)) before (now (map .entry)) (now (out .entry)) (searchOfTable (now (table .entry)) budget))) ⌝ }
+    requires { ⌜ Known (now table) starts (now tops) × (n ≡ count (tableOf (now table))) × (n ≤ length (now map)) × (now list ≡ shortWords (tableOf (now table))) ⌝ }
+    ensures { λ r. ⌜ ((L : Limits) → Readable L (now (table .entry)) → (before : List ℕ) → _≡_ {A = Reduced} (record { answer = r; list = over (shortWords (tableOf (now (table .entry)))) before; map = now (map .exit); out = now (out .exit) }) (afterSearch L (now (table .entry)) before (now (map .entry)) (now (out .entry)) (searchOfTable (now (table .entry)) budget))) ⌝ }
 {
     let variables = pairs::pairs_of(n) as usize;
-    let mut values = [0u8; 780];
-    let solution = search::search_within(limits, list, variables, budget, &mut values);
-    match solution {
-        Solution::Refused(number) => Reduction::Refused(number),
-        Solution::Solved(guesses) => deliver_found(
-            limits,
+    let mut values = search::none_set();
+    let end = search::solve(list, n, &mut values[..variables], budget);
+    match end {
+        Ending::Found(guesses) => deliver_found(
             table,
+            starts,
+            tops,
             n,
             &values[..variables],
             guesses,
@@ -95,27 +99,30 @@ fn solve_listed(
             map,
             out,
         ),
+        Ending::Absent(_) => Reduction::Refused(12),
+        Ending::Spent(_) => Reduction::Refused(13),
     }
 }
 
-// A table that was read, with room for its map: clauses, and what follows them.
-fn reduce_read(
-    limits: Limits,
+// A table that was read and whose tops are known, with room for its map: clauses, and what follows them.
+fn reduce_known(
     table: &[u8],
+    starts: Starts,
+    tops: &[u64; 40],
     n: u8,
     budget: u64,
     list: &mut [u16],
     map: &mut [u8],
     out: &mut [u8],
 ) -> Reduction
-    requires { ⌜ Readable limits (now table) × (n ≡ count (tableOf (now table))) × (n ≤ length (now map)) ⌝ }
-    ensures { λ r. ⌜ _≡_ {A = Reduced} (record { answer = r; list = now (list .exit); map = now (map .exit); out = now (out .exit) }) (reduceOf limits (now (table .entry)) budget (now (list .entry)) (now (map .entry)) (now (out .entry))) ⌝ }
+    requires { ⌜ Known (now table) starts (now tops) × (n ≡ count (tableOf (now table))) × (n ≤ length (now map)) ⌝ }
+    ensures { λ r. ⌜ ((L : Limits) → Readable L (now (table .entry)) → _≡_ {A = Reduced} (record { answer = r; list = now (list .exit); map = now (map .exit); out = now (out .exit) }) (reduceOf L (now (table .entry)) budget (now (list .entry)) (now (map .entry)) (now (out .entry)))) ⌝ }
 {
-    let listed = clauses::clauses_within(limits, table, list);
+    let listed = clauses::list_read(false, table, starts, tops, list);
     match listed {
         Listed::Refused(number) => Reduction::Refused(number),
         Listed::List { clauses: _, words } => {
-            solve_listed(limits, table, n, &list[..words], budget, map, out)
+            solve_listed(table, starts, tops, n, &list[..words], budget, map, out)
         }
     }
 }
@@ -136,18 +143,18 @@ pub fn reduce_within(
     ensures maximal { λ r. ⌜ DeliversMaximal r (now (table .entry)) (now (map .exit)) ⌝ }
     ensures few { λ r. ⌜ FewGuesses r (now (table .entry)) ⌝ }
 {
-    let reading = table::read_within(limits, table);
-    match reading {
-        Reading::Refused(number) => Reduction::Refused(number),
-        Reading::Sections(starts) => {
-            let states = table::part(table, starts, Section::States);
-            let n = states.len();
-            if map.len() < n {
-                return Reduction::Refused(22);
-            }
-            reduce_read(limits, table, n as u8, budget, list, map, out)
-        }
+    let examined = tops::examine(limits, table);
+    if examined.number != 0 {
+        return Reduction::Refused(examined.number);
     }
+    let starts = examined.starts;
+    let words = examined.words;
+    let states = table::part(table, starts, Section::States);
+    let n = states.len();
+    if map.len() < n {
+        return Reduction::Refused(22);
+    }
+    reduce_known(table, starts, &words, n as u8, budget, list, map, out)
 }
 
 // Reduces a table, at the limits of a caller that gives none.

@@ -21,13 +21,15 @@ use Rattle.cnf.proofs.Theorems as theorems
 use Rattle.pairs.specs.Pairs.{pairs}
 use Rattle.search.specs.declared.Solution.{Solution}
 use Rattle.search.specs.declared.Solution.the-variants.{Solved, Refused}
-use Rattle.search.specs.declared.solve.Ending.{Ending}
-use Rattle.search.specs.declared.solve.Ending.the-variants.{Found, Absent, Spent}
+use Rattle.search.specs.declared.engine.Ending.{Ending}
+use Rattle.search.specs.declared.engine.Ending.the-variants.{Found, Absent, Spent}
+use Rattle.search.specs.Conclusions.{withTriangles}
 use Rattle.search.specs.Turns.{noneSet, Fresh, outcomeOf}
 use Rattle.search.specs.Answers.{listFits, searchNumber, Searched, searched, searchAt, searchOf}
 use Rattle.search.specs.Demands.{SearchSound}
 use Rattle.limits.specs.declared.Limits.{Limits}
 use Rattle.limits.specs.Limits.{limitsFit}
+use Rattle.search.proofs.Triangles.{with-none}
 
 -- ---- the refusals, in order
 
@@ -78,19 +80,21 @@ take-replicate (suc n) zero h = absurd (omega arith)
 take-replicate (suc n) (suc m) h = ap (λ (l : List ℕ). 2 ∷ l) (take-replicate n m (omega arith))
 
 module _ (n : ℕ) (h : n ≤ 780) {s : List ℕ} (z : s ≡ noneSet) where
-  prefix-is : take n s ≡ replicate n 2
+  pub prefix-is : take n s ≡ replicate n 2
   unfolding noneSet
   prefix-is = ap (take n) z ∙ take-replicate n 780 h
 
   pub prefix-length : length (take n s) ≡ n
   prefix-length = ap length prefix-is ∙ length-replicate {A = ℕ} n 2
 
-  pub fresh : {ws : List ℕ} → whole ws ≡ true → Formed (clausesIn ws) n → Fresh ws (take n s)
+  pub fresh : {ws : List ℕ} → whole ws ≡ true → Formed (clausesIn ws) n → Fresh ws 0 (take n s)
   fresh w f = record {
     all-there = w;
     formed = rw prefix-length f;
     none-set = rw prefix-length prefix-is;
     most = rw prefix-length h;
+    few = omega arith;
+    size = λ k. absurd (omega arith);
   }
 
   -- the values that come back, in front of the rest of the array
@@ -107,9 +111,9 @@ module _ (n : ℕ) (h : n ≤ 780) {s : List ℕ} (z : s ≡ noneSet) where
     pub prefix-size : length (take n (v ++ drop n s)) ≡ n
     prefix-size = ap length prefix-values ∙ long
 
-module _ (ws : List ℕ) (n b : ℕ) (r : Ending) (v : List ℕ) {m : ℕ} (e : m ≡ n) (q : outcomeOf r v ≡ searchFrom (clausesIn ws) m b) where
+module _ (ws : List ℕ) (n b : ℕ) (r : Ending) (v : List ℕ) {m : ℕ} (e : m ≡ n) (q : outcomeOf r v ≡ searchFrom (withTriangles ws 0) m b) where
   outcome : outcomeOf r v ≡ searchFrom (clausesIn ws) n b
-  outcome = q ∙ ap (λ (j : ℕ). searchFrom (clausesIn ws) j b) e
+  outcome = q ∙ ap (λ (cs : List (List ℕ)). searchFrom cs m b) (with-none ws) ∙ ap (λ (j : ℕ). searchFrom (clausesIn ws) j b) e
 
   pub is-found : {k : ℕ} → r ≡ Found k → solved v k ≡ searchFrom (clausesIn ws) n b
   is-found p = sym (ap (λ (z : Ending). outcomeOf z v) p) ∙ outcome

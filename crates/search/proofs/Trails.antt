@@ -2,12 +2,12 @@
 use mathlib.Core.Path.{_≡_, refl, sym, ap, _∙_}
 use mathlib.Core.Logic.{_≢_, _⊎_, inl, inr}
 use mathlib.Core.Bool.{Bool, true, false}
-use mathlib.Core.List.{List, [], _∷_, _++_, append-nil, append-assoc, List·Memᴰ, List·Memᴰ·append-cases as append-cases, List·Memᴰ·not-nil as not-nil, List·Memᴰ·eq-of-singleton as eq-of-singleton}
+use mathlib.Core.List.{List, [], _∷_, _++_, append-nil, append-assoc, List·Memᴰ, List·Memᴰ·head, List·Memᴰ·tail, List·Memᴰ·append-cases as append-cases, List·Memᴰ·not-nil as not-nil, List·Memᴰ·eq-of-singleton as eq-of-singleton}
 use Prim.Native.Nat.{ℕ, _+_, _-_, _/_, _%_, _≤_, _<_}
 use native.Mathlib.Numerals.{add-one}
 use native.Mathlib.Omega.{arith}
-use lib.ListN.{length, getD, set, take, length-set, length-append}
-use lib.Seq.{set-set, set-getD, take-suc-set, length-take-le}
+use lib.ListN.{length, getD, set, take, drop, length-set, length-append}
+use lib.Seq.{slice, drop-append-le, set-set, set-getD, getD-set-other, take-suc-set, length-take-le}
 use borrow.Author.Tests.{ne-eqb}
 use Rattle.lists.proofs.Members.{getD-any}
 use Rattle.cnf.specs.Clauses.{valueOf}
@@ -71,6 +71,12 @@ unfolding unsetting
 length-unsetting v [] = refl
 length-unsetting v (x ∷ xs) = length-set (unsetting v xs) x 2 ∙ length-unsetting v xs
 
+-- what is not unset again has its value
+unsetting-other : (v xs : List ℕ) (i : ℕ) → (List·Memᴰ i xs → ⊥) → valueOf (unsetting v xs) i ≡ valueOf v i
+unfolding unsetting
+unsetting-other v [] i h = refl
+unsetting-other v (x ∷ xs) i h = getD-set-other (unsetting v xs) x i 2 2 (λ e. h (List·Memᴰ·head e)) ∙ unsetting-other v xs i (λ m. h (List·Memᴰ·tail m))
+
 -- a store where nothing was set is undone by unsetting
 pub unsetting-store : (v : List ℕ) (x k : ℕ) → valueOf v x ≡ 2 → unsetting (set v x k) (x ∷ []) ≡ v
 unfolding unsetting
@@ -78,7 +84,7 @@ unsetting-store v x k e = set-set v x k 2 ∙ sym (ap (set v x) e) ∙ set-getD 
 
 -- ---- a trail that grows
 
-pub grown-none : {v t : List ℕ} {count : ℕ} → count + unsetCount v ≡ length v → Grown v t count v t count
+unfoldable pub grown-none : {v t : List ℕ} {count : ℕ} → count + unsetCount v ≡ length v → Grown v t count v t count
 unfolding unsetting
 grown-none {v} {t} {count} e = record { long = refl; new = []; grows = sym (append-nil (take count t)); back = refl; below = λ x m. absurd (not-nil m); counted = e }
 
@@ -86,13 +92,21 @@ module _ {v t w s : List ℕ} {count more : ℕ} (g : Grown v t count w s more) 
   pub grown-length : length w ≡ length v
   grown-length = sym (length-unsetting w (g .new)) ∙ ap length (g .back)
 
+  -- what was not set since has its value
+  pub grown-same : (i : ℕ) → (List·Memᴰ i (g .new) → ⊥) → valueOf w i ≡ valueOf v i
+  grown-same i h = sym (unsetting-other w (g .new) i h) ∙ ap (λ (u : List ℕ). valueOf u i) (g .back)
+
   -- no fewer are set
   pub grown-count : count ≤ length t → length w ≤ length s → count ≤ more
   grown-count h k =
       omega
       (arith, g .counted, sym (length-take-le more s (omega (arith, g .counted))) ∙ ap length (g .grows) ∙ length-append (take count t) (g .new), length-take-le count t h)
 
-  pub grown-trans : {x r : List ℕ} {most : ℕ} → Grown w s more x r most → Grown v t count x r most
+  -- a part of the trail, with what was set since behind it
+  pub grown-slice : {at : ℕ} → at ≤ count → count ≤ length t → slice at more s ≡ slice at count t ++ g .new
+  grown-slice {at} h k = ap (drop at) (g .grows) ∙ drop-append-le at (take count t) (g .new) (omega (arith, length-take-le count t k))
+
+  unfoldable pub grown-trans : {x r : List ℕ} {most : ℕ} → Grown w s more x r most → Grown v t count x r most
   grown-trans {x} {r} {most} h = record {
     long = h .long ∙ g .long;
     new = g .new ++ h .new;
@@ -107,7 +121,7 @@ module _ {v t w s : List ℕ} {count more : ℕ} (g : Grown v t count w s more) 
       pick y (inr m) = rw (← grown-length) (h .below y m)
 
 -- one more variable
-pub grown-store : {v t : List ℕ} {count x k : ℕ} → count + unsetCount v ≡ length v → length v ≤ length t → x < length v → valueOf v x ≡ 2 → k ≢ 2 → Grown v t count (set v x k) (set t count x) (count + 1)
+unfoldable pub grown-store : {v t : List ℕ} {count x k : ℕ} → count + unsetCount v ≡ length v → length v ≤ length t → x < length v → valueOf v x ≡ 2 → k ≢ 2 → Grown v t count (set v x k) (set t count x) (count + 1)
 grown-store {v} {t} {count} {x} {k} e room h u n =
     let one = unset-set v x k h u n in
     record {

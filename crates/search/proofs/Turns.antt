@@ -9,53 +9,60 @@ use Prim.Native.Nat.{ℕ, suc, _+_, _-_, _/_, _%_, _*_, _≤_, _<_, zero-le}
 use native.Mathlib.Numerals.{add-one}
 use native.Mathlib.Omega.{arith}
 use native.Mathlib.Decide.{ℕ-discrete, decLt}
-use lib.ListN.{length, getD, set, take, drop, length-set, length-append, List·getD-append, take-append-drop}
-use lib.Seq.{slice, getD-set-same, getD-set-other, take-append-le, drop-append-le, take-append-seam, drop-append-seam, getD-append-seam, take-suc, take-suc-set, drop-cons, getD-take, take-take, length-take-le}
+use lib.ListN.{length, getD, set, take, drop, replicate, length-set, length-append, List·getD-append, take-append-drop}
+use lib.Seq.{slice, slice-empty, slice-cons, getD-set-same, getD-set-other, take-append-le, drop-append-le, take-append-seam, drop-append-seam, getD-append-seam, take-suc, take-suc-set, drop-cons, getD-take, take-take, length-take-le}
 use borrow.Author.Tests.{eq-eqb, ne-eqb}
 use Rattle.lists.proofs.Members.{getD-mem}
-use Rattle.cnf.specs.Clauses.{valueOf, clausesIn}
+use Rattle.cnf.specs.Clauses.{valueOf}
 use Rattle.cnf.specs.Search.{goes, Outcome, solved, none-exists, spent, Guess, undo, decide, lowestUnset, searchFrom}
-use Rattle.cnf.proofs.Values.{Formed, Values, set-values, start-values, unsetCount, unset-set, unset-start, none-set}
+use Rattle.cnf.proofs.Values.{Formed, Values, ⊑-refl, set-values, start-values, unsetCount, unset-set, unset-start, none-set}
 use Rattle.cnf.proofs.Found.{lowest-some, lowest-none}
 use Rattle.cnf.proofs.Steps.{stateOf, guessOf}
-use Rattle.cnf.proofs.Closure.{breaks, rests, Closes, turnTo, LeadsTo, there, turn, atStart, turns-search}
-use Rattle.search.specs.Trail.{unsetting, Ready, Grown, Settles}
-use Rattle.search.specs.Turns.{NextUnset, Undoable, Undone, Fresh}
+use Rattle.cnf.proofs.Order.{AtRest}
+use Rattle.cnf.proofs.Queue.{waiting-set, rest-waiting}
+use Rattle.cnf.proofs.Closure.{Closed, breaks, rests, Closes, closes-one, turnTo, LeadsTo, there, turn, atStart, turns-search}
+use Rattle.pairs.specs.Triangles.{triangles}
+use Rattle.search.specs.Trail.{unsetting, Ready, Grown, Queue, closedBy, Settles}
+use Rattle.search.specs.Rows.{Rows, Own, Settable, Forced}
+use Rattle.search.specs.Conclusions.{withTriangles}
+use Rattle.search.specs.Turns.{NextUnset, Undoable, Undone, Fresh, Rested}
 use Rattle.search.proofs.Trails.{unsetting-append, length-unsetting, unsetting-store, grown-length, grown-store}
+use Rattle.search.proofs.Marking.{rows-start}
+use Rattle.search.proofs.Triangles.{with-formed, unset-rest}
 
 -- ---- the guesses that stand
 
 -- gs are the guesses that stand, latest first: d of them, and the first d of ms are their places on the trail p. Of each: the values before it,
--- in which as many variables are set as stand before it on the trail, and every variable below the guessed one is set
-pub data Stands (n : ℕ) (ms : List ℕ) : List ℕ → List ℕ → ℕ → List Guess → Type 0 where
-  none : {v p : List ℕ} → Stands n ms v p 0 []
-  one : {v p u : List ℕ} {d m x : ℕ} {gs : List Guess} → m ≡ getD ms d 0 → m < length p → x ≡ getD p m 0 → unsetting v (drop m p) ≡ u → Values n u → m + unsetCount u ≡ n → ((j : ℕ) → j < x → valueOf u j ≢ 2)
-      → Stands n ms u (take m p) d gs → Stands n ms v p (suc d) (guessOf u x ∷ gs)
+-- in which as many variables are set as stand before it on the trail, every variable below the guessed one is set, and every clause is settled
+pub data Stands (cs : List (List ℕ)) (n : ℕ) (ms : List ℕ) : List ℕ → List ℕ → ℕ → List Guess → Type 0 where
+  none : {v p : List ℕ} → Stands cs n ms v p 0 []
+  one : {v p u : List ℕ} {d m x : ℕ} {gs : List Guess} → m ≡ getD ms d 0 → m < length p → x ≡ getD p m 0 → unsetting v (drop m p) ≡ u → Values n u → m + unsetCount u ≡ n → ((j : ℕ) → j < x → valueOf u j ≢ 2) → AtRest cs u
+      → Stands cs n ms u (take m p) d gs → Stands cs n ms v p (suc d) (guessOf u x ∷ gs)
 
-module _ {n : ℕ} {ms : List ℕ} where
+module _ {cs : List (List ℕ)} {n : ℕ} {ms : List ℕ} where
   -- no more guesses than variables set
-  depth-le : {v p : List ℕ} {d : ℕ} {gs : List Guess} → Stands n ms v p d gs → d ≤ length p
+  depth-le : {v p : List ℕ} {d : ℕ} {gs : List Guess} → Stands cs n ms v p d gs → d ≤ length p
   depth-le none = zero-le
-  depth-le (one {p = p} {m = m} em lm ex eu z c l s) = omega (arith, depth-le s, length-take-le m p (omega arith))
+  depth-le (one {p = p} {m = m} em lm ex eu z c l q s) = omega (arith, depth-le s, length-take-le m p (omega arith))
 
   -- further variables are set
-  stands-more : {v p : List ℕ} (w new : List ℕ) {d : ℕ} {gs : List Guess} → unsetting w new ≡ v → Stands n ms v p d gs → Stands n ms w (p ++ new) d gs
+  stands-more : {v p : List ℕ} (w new : List ℕ) {d : ℕ} {gs : List Guess} → unsetting w new ≡ v → Stands cs n ms v p d gs → Stands cs n ms w (p ++ new) d gs
   stands-more w new e none = none
-  stands-more {v} {p} w new e (one {u = u} {d = d} {m = m} {gs = gs} em lm ex eu z c l s) =
-      one {p = p ++ new} em (omega (arith, length-append p new)) (ex ∙ sym (List·getD-append p new 0 m lm)) (back ∙ eu) z c l (subst (λ (q : List ℕ). Stands n ms u q d gs) (sym (take-append-le m p new (omega arith))) s)
+  stands-more {v} {p} w new e (one {u = u} {d = d} {m = m} {gs = gs} em lm ex eu z c l q s) =
+      one {p = p ++ new} em (omega (arith, length-append p new)) (ex ∙ sym (List·getD-append p new 0 m lm)) (back ∙ eu) z c l q (subst (λ (r : List ℕ). Stands cs n ms u r d gs) (sym (take-append-le m p new (omega arith))) s)
     where
       back : unsetting w (drop m (p ++ new)) ≡ unsetting v (drop m p)
       back = ap (unsetting w) (drop-append-le m p new (omega arith)) ∙ unsetting-append w (drop m p) new ∙ ap (λ (u : List ℕ). unsetting u (drop m p)) e
 
   -- the marks of later guesses do not matter
-  stands-marks : {ls v p : List ℕ} {d : ℕ} {gs : List Guess} → ((i : ℕ) → i < d → getD ls i 0 ≡ getD ms i 0) → Stands n ms v p d gs → Stands n ls v p d gs
+  stands-marks : {ls v p : List ℕ} {d : ℕ} {gs : List Guess} → ((i : ℕ) → i < d → getD ls i 0 ≡ getD ms i 0) → Stands cs n ms v p d gs → Stands cs n ls v p d gs
   stands-marks h none = none
-  stands-marks h (one {d = d} em lm ex eu z c l s) = one (em ∙ sym (h d (omega arith))) lm ex eu z c l (stands-marks (λ i k. h i (omega arith)) s)
+  stands-marks h (one {d = d} em lm ex eu z c l q s) = one (em ∙ sym (h d (omega arith))) lm ex eu z c l q (stands-marks (λ i k. h i (omega arith)) s)
 
   -- a guess is made
-  stands-guess : {v p : List ℕ} {d x : ℕ} {gs : List Guess} → d < length ms → Values n v → length p + unsetCount v ≡ n → valueOf v x ≡ 2 → ((j : ℕ) → j < x → valueOf v j ≢ 2)
-      → Stands n ms v p d gs → Stands n (set ms d (length p)) (set v x 1) (p ++ (x ∷ [])) (suc d) (guessOf v x ∷ gs)
-  stands-guess {v} {p} {d} {x} {gs} h z c e l s =
+  stands-guess : {v p : List ℕ} {d x : ℕ} {gs : List Guess} → d < length ms → Values n v → length p + unsetCount v ≡ n → valueOf v x ≡ 2 → ((j : ℕ) → j < x → valueOf v j ≢ 2) → AtRest cs v
+      → Stands cs n ms v p d gs → Stands cs n (set ms d (length p)) (set v x 1) (p ++ (x ∷ [])) (suc d) (guessOf v x ∷ gs)
+  stands-guess {v} {p} {d} {x} {gs} h z c e l q s =
       one
       {p = p ++ (x ∷ [])}
       (sym (getD-set-same ms d (length p) 0 h))
@@ -65,10 +72,11 @@ module _ {n : ℕ} {ms : List ℕ} where
       z
       c
       l
-      (stands-marks (λ i k. getD-set-other ms d i (length p) 0 (omega arith)) (subst (λ (q : List ℕ). Stands n ms v q d gs) (sym (take-append-seam p (x ∷ []))) s))
+      q
+      (stands-marks (λ i k. getD-set-other ms d i (length p) 0 (omega arith)) (subst (λ (r : List ℕ). Stands cs n ms v r d gs) (sym (take-append-seam p (x ∷ []))) s))
 
 -- the latest guess
-record Latest (n : ℕ) (ms v p : List ℕ) (d : ℕ) (gs : List Guess) : Type 0 where
+record Latest (cs : List (List ℕ)) (n : ℕ) (ms v p : List ℕ) (d : ℕ) (gs : List Guess) : Type 0 where
   pub place : getD ms d 0 < length p
   pub values : List ℕ
   pub rest : List Guess
@@ -77,10 +85,11 @@ record Latest (n : ℕ) (ms v p : List ℕ) (d : ℕ) (gs : List Guess) : Type 0
   pub formed : Values n values
   pub counted : getD ms d 0 + unsetCount values ≡ n
   pub lower : (j : ℕ) → j < getD p (getD ms d 0) 0 → valueOf values j ≢ 2
-  pub stands : Stands n ms values (take (getD ms d 0) p) d rest
+  pub at-rest : AtRest cs values
+  pub stands : Stands cs n ms values (take (getD ms d 0) p) d rest
 
-latest : {n : ℕ} {ms v p : List ℕ} {d : ℕ} {gs : List Guess} → Stands n ms v p (suc d) gs → Latest n ms v p d gs
-latest {n} {ms} {v} {p} {d} (one {u = u} {m = m} {x = x} {gs = gs} em lm ex eu z c l s) = record {
+latest : {cs : List (List ℕ)} {n : ℕ} {ms v p : List ℕ} {d : ℕ} {gs : List Guess} → Stands cs n ms v p (suc d) gs → Latest cs n ms v p d gs
+latest {ms = ms} {v = v} {p = p} {d = d} (one {u = u} {m = m} {x = x} {gs = gs} em lm ex eu z c l q s) = record {
   place = rw (← em) lm;
   values = u;
   rest = gs;
@@ -89,12 +98,13 @@ latest {n} {ms} {v} {p} {d} (one {u = u} {m = m} {x = x} {gs = gs} em lm ex eu z
   formed = z;
   counted = rw (← em) c;
   lower = λ j h. l j (rw (ex ∙ ap (λ (k : ℕ). getD p k 0) em) h);
+  at-rest = q;
   stands = rw (← em) s;
 }
 
-no-guess : {n : ℕ} {ms v p : List ℕ} {d : ℕ} {gs : List Guess} → Stands n ms v p d gs → d ≡ 0 → gs ≡ []
+no-guess : {cs : List (List ℕ)} {n : ℕ} {ms v p : List ℕ} {d : ℕ} {gs : List Guess} → Stands cs n ms v p d gs → d ≡ 0 → gs ≡ []
 no-guess none e = refl
-no-guess (one em lm ex eu z c l s) e = absurd (omega arith)
+no-guess (one em lm ex eu z c l q s) e = absurd (omega arith)
 
 -- ---- members of a trail
 
@@ -121,42 +131,130 @@ unfolding turnTo undo
 undo-leads z h l = turn breaks z h l
 
 -- at the head of a turn: n variables, b the budget
-pub record Turning (cs : List (List ℕ)) (n b : ℕ) (v t ms : List ℕ) (count depth made low : ℕ) : Type 0 where
+pub record Turning (cs : List (List ℕ)) (n b : ℕ) (v t ms : List ℕ) (from count depth made low : ℕ) : Type 0 where
   pub ready : Ready cs v t count
+  pub queue : Queue cs v t from count
   pub size : length v ≡ n
   pub most : n ≤ 780
   pub long : length t ≡ 780
   pub marks : length ms ≡ 780
   pub below : (x : ℕ) → List·Memᴰ x (take count t) → x < n
   pub guesses : List Guess
-  pub stands : Stands n ms v (take count t) depth guesses
+  pub stands : Stands cs n ms v (take count t) depth guesses
   pub low-in : low ≤ n
   pub lower : (j : ℕ) → j < low → valueOf v j ≢ 2
   pub few : made ≤ b
   pub leads : (o : Outcome) → LeadsTo cs n b (goes (stateOf v guesses made)) o → LeadsTo cs n b (atStart n) o
 
-pub turning : {ws v : List ℕ} (b : ℕ) (t ms : List ℕ) → Fresh ws v → length t ≡ 780 → length ms ≡ 780 → Turning (clausesIn ws) (length v) b v t ms 0 0 0 0
-turning {ws} {v} b t ms f p q = record {
-  ready = record {
-    formed = f .formed;
+-- the queue has one variable, which was set in values at rest
+queue-one : {cs : List (List ℕ)} {v t : List ℕ} {at x k : ℕ} → AtRest cs v → x < length v → k ≢ 2 → at < length t → x ≡ getD t at 0 → Queue cs (set v x k) t at (at + 1)
+queue-one {cs} {v} {t} {at} {x} {k} r h n l e = record {
+  inside = omega arith;
+  queued = λ y m. is-set y (eq-of-singleton (rw one-variable at m));
+  waiting = rw one-variable (waiting-set x k (rest-waiting [] r));
+}
+  where
+    one-variable : slice at (at + 1) t ≡ x ∷ []
+    one-variable = slice-cons at (at + 1) t 0 (omega arith) (omega arith) ∙ rw (← add-one at, slice-empty, e)
+
+    is-set : (y : ℕ) → y ≡ x → (y < length (set v x k)) × (valueOf (set v x k) y ≢ 2)
+    is-set y q = (rw (q, length-set) h, λ z. n (sym (getD-set-same v x k 2 h) ∙ ap (valueOf (set v x k)) (sym q) ∙ z))
+
+-- ---- the first closing
+
+-- values that were closed close to themselves
+rested-leads : {cs : List (List ℕ)} {n b k : ℕ} {v w : List ℕ} {gs : List Guess} {o : Outcome} → Values n v → Closes cs v (rests w) → LeadsTo cs n b (goes (stateOf w gs k)) o → LeadsTo cs n b (goes (stateOf v gs k)) o
+rested-leads {cs} {n} {b} {k} {v} {w} {gs} {o} z h (turn c y i l) = turn (rests w) z h (subst (λ (x : Closed). LeadsTo cs n b (turnTo b gs k x) o) (closes-one cs w c (rests w) i itself) l)
+  where
+    itself : Closes cs w (rests w)
+    itself = record { long = refl; small = h .small; extends = ⊑-refl w; at-rest = h .at-rest; least = λ u p q. p }
+
+-- nothing is unset where as many are set as there are
+all-set : (w : List ℕ) {count : ℕ} → count + unsetCount w ≡ length w → count ≡ length w → (j : ℕ) → j < length w → valueOf w j ≢ 2
+all-set w c e j h = λ z. absurd (omega (arith, unset-set w j 0 h z (omega arith)))
+
+module _ {ws v : List ℕ} {m : ℕ} (f : Fresh ws m v) (b : ℕ) where
+  all-formed : Formed (withTriangles ws m) (length v)
+  all-formed = with-formed ws (f .size) (f .formed)
+
+  all-unset : (i : ℕ) → valueOf v i ≡ 2
+  all-unset i = ap (λ (u : List ℕ). valueOf u i) (f .none-set) ∙ none-set (length v) i
+
+  pub first-rows : {joined : List ℕ} → Own joined → Rows m v joined (replicate 40 0)
+  first-rows o = rows-start (f .few) (f .size) all-unset o
+
+  -- nothing is set, so nothing is to be concluded
+  pub first-queue : (t : List ℕ) → Queue (triangles m) v t 0 0
+  first-queue t = record { inside = omega arith; queued = λ x k. absurd (not-nil (rw slice-empty at k)); waiting = rest-waiting (slice 0 0 t) (unset-rest m v all-unset) }
+
+  pub first-ready : {t : List ℕ} → length t ≡ 780 → Ready (withTriangles ws m) v t 0
+  first-ready p = record {
+    formed = all-formed;
     values = subst (Values (length v)) (sym (f .none-set)) (start-values (length v));
     counted = omega (arith, ap unsetCount (f .none-set), unset-start (length v));
     room = omega (arith, f .most);
+  }
+
+  module _ {t w s : List ℕ} {count : ℕ} {isBroken : Bool} (c : Settles (withTriangles ws m) v t 0 w s isBroken count) where
+    closed : Closes (withTriangles ws m) (replicate (length v) 2) (closedBy isBroken w)
+    closed = subst (λ (u : List ℕ). Closes (withTriangles ws m) u (closedBy isBroken w)) (f .none-set) (c .closes)
+
+    pub first-absent : isBroken ≡ true → none-exists 0 ≡ searchFrom (withTriangles ws m) (length v) b
+    unfolding turnTo undo
+    first-absent e = turns-search (withTriangles ws m) (length v) b (all-formed) (none-exists 0) (turn breaks (start-values (length v)) (rw e at closed) there)
+
+    module _ (e : isBroken ≡ false) where
+      first-least : Closes (withTriangles ws m) (replicate (length v) 2) (rests w)
+      first-least = rw e at closed
+
+      pub first-solved : count ≡ length w → solved w 0 ≡ searchFrom (withTriangles ws m) (length v) b
+      unfolding turnTo decide
+      first-solved q = turns-search (withTriangles ws m) (length v) b (all-formed) (solved w 0) (turn (rests w) (start-values (length v)) first-least (rw (lowest-none w 0 (all-set w (c .grown .counted) q)) there))
+
+      pub first-rested : length t ≡ 780 → Rested (withTriangles ws m) (length w) w s count
+      first-rested p = subst (λ (n : ℕ). Rested (withTriangles ws m) n w s count) (sym (grown-length (c .grown))) (record {
+        formed = all-formed;
+        size = grown-length (c .grown);
+        most = f .most;
+        long = c .grown .long ∙ p;
+        counted = c .grown .counted;
+        below = λ x m. c .grown .below x (subst (λ (l : List ℕ). List·Memᴰ x l) (c .grown .grows) m);
+        closed = first-least;
+      })
+
+      -- what comes of the search from here on
+      pub first-outcome : {o : Outcome} → o ≡ searchFrom (withTriangles ws m) (length w) b → o ≡ searchFrom (withTriangles ws m) (length v) b
+      first-outcome q = q ∙ ap (λ (n : ℕ). searchFrom (withTriangles ws m) n b) (grown-length (c .grown))
+
+-- ---- from the values at rest on
+
+pub turning : {cs : List (List ℕ)} {n : ℕ} {v t : List ℕ} {count : ℕ} (b : ℕ) (ms : List ℕ) → Rested cs n v t count → length ms ≡ 780 → Turning cs n b v t ms count count 0 0 0
+turning {cs} {n} {v} {t} {count} b ms r q = record {
+  ready = record {
+    formed = rw (r .size) (r .formed);
+    values = record { long = refl; small = r .closed .small };
+    counted = r .counted;
+    room = omega (arith, r .size, r .most, r .long);
   };
-  size = refl;
-  most = f .most;
-  long = p;
+  queue = record {
+    inside = omega arith;
+    queued = λ x m. absurd (not-nil (rw slice-empty at m));
+    waiting = rest-waiting (slice count count t) (r .closed .at-rest);
+  };
+  size = r .size;
+  most = r .most;
+  long = r .long;
   marks = q;
-  below = λ x m. absurd (not-nil m);
+  below = r .below;
   guesses = [];
   stands = none;
   low-in = zero-le;
   lower = λ j h. absurd (omega arith);
   few = zero-le;
-  leads = λ o l. subst (λ (u : List ℕ). LeadsTo (clausesIn ws) (length v) b (goes (stateOf u [] 0)) o) (f .none-set) l;
+  leads = λ o l. rested-leads (start-values n) (r .closed) l;
 }
 
-module _ {cs : List (List ℕ)} {v t ms w s : List ℕ} {n b count depth made low more : ℕ} {isBroken : Bool} (i : Turning cs n b v t ms count depth made low) (c : Settles cs v t count w s isBroken more) where
+module _ {cs : List (List ℕ)} {v t ms w s : List ℕ} {n b from count depth made low more : ℕ} {isBroken : Bool} (i : Turning cs n b v t ms from count depth made low) (c : Settles cs v t count w s isBroken more) where
   pub after-size : length w ≡ n
   after-size = grown-length (c .grown) ∙ i .size
 
@@ -170,8 +268,8 @@ module _ {cs : List (List ℕ)} {v t ms w s : List ℕ} {n b count depth made lo
   trail-length : length (take more s) ≡ more
   trail-length = length-take-le more s (omega (arith, after-count))
 
-  after-stands : Stands n ms w (take more s) depth (i .guesses)
-  after-stands = subst (λ (p : List ℕ). Stands n ms w p depth (i .guesses)) (sym (c .grown .grows)) (stands-more w (c .grown .new) (c .grown .back) (i .stands))
+  after-stands : Stands cs n ms w (take more s) depth (i .guesses)
+  after-stands = subst (λ (p : List ℕ). Stands cs n ms w p depth (i .guesses)) (sym (c .grown .grows)) (stands-more w (c .grown .new) (c .grown .back) (i .stands))
 
   after-below : (x : ℕ) → List·Memᴰ x (take more s) → x < n
   after-below x m = go (append-cases (take count t) (subst (λ (p : List ℕ). List·Memᴰ x p) (c .grown .grows) m))
@@ -204,8 +302,8 @@ module _ {cs : List (List ℕ)} {v t ms w s : List ℕ} {n b count depth made lo
     turn-absent z = ends-with (none-exists made) (subst (λ (gs : List Guess). LeadsTo cs n b (goes (stateOf v gs made)) (none-exists made)) (sym (no-guess (i .stands) z)) (turn breaks values broke there))
 
     module _ (d : ℕ) {mark : ℕ} (q : depth ≡ suc d) (m : mark ≡ getD ms d 0) where
-      top : Latest n ms w (take more s) d (i .guesses)
-      top = latest (subst (λ (k : ℕ). Stands n ms w (take more s) k (i .guesses)) q after-stands)
+      top : Latest cs n ms w (take more s) d (i .guesses)
+      top = latest (subst (λ (k : ℕ). Stands cs n ms w (take more s) k (i .guesses)) q after-stands)
 
       pub place : mark < more
       place = omega (arith, top .place, trail-length)
@@ -246,7 +344,7 @@ module _ {cs : List (List ℕ)} {v t ms w s : List ℕ} {n b count depth made lo
         undone-size : length u ≡ n
         undone-size = ap length undone ∙ length-set (top .values) x 0 ∙ top .formed .long
 
-        pub turn-undo : Turning cs n b u s ms (mark + 1) d made (x + 1)
+        pub turn-undo : Turning cs n b u s ms mark (mark + 1) d made (x + 1)
         turn-undo = record {
           ready = record {
             formed = rw undone-size formed;
@@ -254,6 +352,7 @@ module _ {cs : List (List ℕ)} {v t ms w s : List ℕ} {n b count depth made lo
             counted = omega (arith, undone-size, ap unsetCount undone, unset-set (top .values) x 0 (omega (arith, inside, top .formed .long)) was-unset (omega arith), top .counted);
             room = omega (arith, undone-size, after-count);
           };
+          queue = rw undone (queue-one (top .at-rest) (omega (arith, inside, top .formed .long)) (omega arith) (omega (arith, place, after-count)) (r .variable));
           size = undone-size;
           most = i .most;
           long = after-long;
@@ -314,8 +413,10 @@ module _ {cs : List (List ℕ)} {v t ms w s : List ℕ} {n b count depth made lo
       pub room-left : more < n
       room-left = omega (arith, c .grown .counted, after-size, unset-set w x 0 inner (f .found inner) (omega arith))
 
-      pub can-guess : {l : ℕ} → l ≡ 2 * x → (l / 2 < length w) × (more < length s)
-      can-guess z = (omega (arith, inner), omega (arith, room-left, after-count))
+      pub can-guess : {l m : ℕ} {joined apart : List ℕ} → l ≡ 2 * x → Rows m w joined apart → Settable m w joined apart (l / 2) (1 - l % 2) × (more < length s)
+      can-guess {l} z o =
+          let half : l / 2 ≡ x = omega arith in
+          (record { rows = o; inside = rw half inner; unset = rw half (f .found inner); small = omega arith }, omega (arith, room-left, after-count))
 
       longer : take (more + 1) (set s more x) ≡ take more s ++ (x ∷ [])
       longer = rw add-one (take-suc-set s more x (omega (arith, room-left, after-count)))
@@ -323,11 +424,11 @@ module _ {cs : List (List ℕ)} {v t ms w s : List ℕ} {n b count depth made lo
       guess-size : length (set w x 1) ≡ n
       guess-size = length-set w x 1 ∙ after-size
 
-      guessed-stands : Stands n (set ms depth (length (take more s))) (set w x 1) (take more s ++ (x ∷ [])) (suc depth) (guessOf w x ∷ i .guesses)
+      guessed-stands : Stands cs n (set ms depth (length (take more s))) (set w x 1) (take more s ++ (x ∷ [])) (suc depth) (guessOf w x ∷ i .guesses)
       guessed-stands =
-          stands-guess (omega (arith, after-depth, room-left, i .most, i .marks)) after-values (omega (arith, trail-length, c .grown .counted, after-size)) (f .found inner) after-lower after-stands
+          stands-guess (omega (arith, after-depth, room-left, i .most, i .marks)) after-values (omega (arith, trail-length, c .grown .counted, after-size)) (f .found inner) after-lower (least .at-rest) after-stands
 
-      guess-made : (made ≡ b → ⊥) → Turning cs n b (set w x 1) (set s more x) (set ms depth more) (more + 1) (depth + 1) (made + 1) (x + 1)
+      guess-made : (made ≡ b → ⊥) → Turning cs n b (set w x 1) (set s more x) (set ms depth more) more (more + 1) (depth + 1) (made + 1) (x + 1)
       guess-made p = record {
         ready = record {
           formed = rw guess-size formed;
@@ -335,6 +436,7 @@ module _ {cs : List (List ℕ)} {v t ms w s : List ℕ} {n b count depth made lo
           counted = further .counted;
           room = omega (arith, guess-size, after-count, length-set s more x);
         };
+        queue = queue-one (least .at-rest) inner (omega arith) (omega (arith, room-left, after-count, length-set s more x)) (sym (getD-set-same s more x 0 (omega (arith, room-left, after-count))));
         size = guess-size;
         most = i .most;
         long = length-set s more x ∙ after-long;
@@ -355,8 +457,8 @@ module _ {cs : List (List ℕ)} {v t ms w s : List ℕ} {n b count depth made lo
           again : (o : Outcome) → LeadsTo cs n b (goes (stateOf (set w x 1) (guessOf w x ∷ i .guesses) (made + 1))) o → LeadsTo cs n b (decide b (stateOf w (i .guesses) made) (lowestUnset w 0)) o
           again o l = unfold decide in rw (first, ne-eqb made b p, decide) l
 
-      pub turn-guess : (made ≡ b → ⊥) → {l : ℕ} {u r : List ℕ} → l ≡ 2 * x → u ≡ set w (l / 2) (1 - l % 2) → r ≡ set s more (l / 2) → Turning cs n b u r (set ms depth more) (more + 1) (depth + 1) (made + 1) (x + 1)
-      turn-guess p {l} z qu qr =
+      pub turn-guess : (made ≡ b → ⊥) → {l m last : ℕ} {u r joined apart : List ℕ} → l ≡ 2 * x → Forced m w s more l u r joined apart last → Turning cs n b u r (set ms depth more) more last (depth + 1) (made + 1) (x + 1)
+      turn-guess p {l} z h =
           let half : l / 2 ≡ x = omega arith in
           let sign : 1 - l % 2 ≡ 1 = omega arith in
-          rw (qu, qr, half, sign) (guess-made p)
+          rw (h .assigned .values, h .trail, h .count-more, half, sign) (guess-made p)

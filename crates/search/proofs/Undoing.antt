@@ -10,7 +10,7 @@ use lib.Seq.{slice, slice-empty, slice-cons}
 use Rattle.lists.proofs.Members.{getD-any}
 use Rattle.cnf.specs.Clauses.{valueOf}
 use Rattle.search.specs.Trail.{unsetting}
-use Rattle.search.specs.Turns.{NextUnset, Undoable, Undone}
+use Rattle.search.specs.Turns.{NextUnset, Undoable}
 use Rattle.search.proofs.Trails.{length-unsetting}
 
 -- ---- an unset variable
@@ -55,9 +55,6 @@ module _ {v t : List ℕ} {mark count : ℕ} (u : Undoable v t mark count) where
     pub same-length : length w ≡ length v
     same-length = ap length (p .values) ∙ length-unsetting v (slice i count t)
 
-    pub undo-inside : mark < i → i - 1 < length t
-    undo-inside h = omega (arith, p .to, u .room)
-
     pub undo-below : {x : ℕ} → mark < i → x ≡ getD t (i - 1) 0 → x < length w
     undo-below h e = omega (arith, u .below (i - 1) (omega (arith, p .to)), same-length)
 
@@ -67,11 +64,3 @@ module _ {v t : List ℕ} {mark count : ℕ} (u : Undoable v t mark count) where
         let next : suc (i - 1) ≡ i = omega arith in
         let first : slice (i - 1) count t ≡ getD t (i - 1) 0 ∷ slice i count t = slice-cons (i - 1) count t 0 (omega (arith, p .to)) (u .room) ∙ ap (λ (k : ℕ). getD t (i - 1) 0 ∷ slice k count t) next in
         record { from = omega arith; to = omega (arith, p .to); values = rw (first, e, p .values) }
-
-    pub undo-last : {x : ℕ} → x ≡ getD t mark 0 → x < length w
-    undo-last e = omega (arith, u .below mark (u .inside), same-length)
-
-    pub undo-done : {x : ℕ} → i ≤ mark → x ≡ getD t mark 0 → Undone v t mark count (set w x 0) x
-    undo-done h e =
-        let last : i ≡ mark = omega (arith, p .from) in
-        record { variable = e; values = rw (p .values, last) }

@@ -1,5 +1,9 @@
 pub mod Answers
+pub mod Asked
 pub mod Marks
 pub mod Trail
+pub mod Rows
+pub mod Conclusions
+pub mod Chains
 pub mod Turns
 pub mod Demands

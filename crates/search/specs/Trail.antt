@@ -1,14 +1,18 @@
 -- The values inside the search, and the trail: the variables that are set, in the order in which they were set. What the functions inside the
 -- search promise of them. Assumes nothing.
 use mathlib.Core.Path.{_≡_}
+use mathlib.Core.Logic.{_≢_}
 use mathlib.Core.Bool.{Bool, true, false}
 use mathlib.Core.List.{List, [], _∷_, _++_, List·Memᴰ}
-use Prim.Native.Nat.{ℕ, _+_, _≤_, _<_}
+use Prim.Native.Nat.{ℕ, _+_, _/_, _≤_, _<_}
 use lib.ListN.{length, set, take}
+use lib.Seq.{slice}
+use Rattle.cnf.specs.Clauses.{valueOf}
 use Rattle.cnf.specs.Search.{isRight, isUnset, broken}
 use Rattle.cnf.proofs.Values.{Formed, Values, unsetCount}
 use Rattle.cnf.proofs.Found.{Found}
 use Rattle.cnf.proofs.Order.{UnitSteps, AtRest}
+use Rattle.cnf.proofs.Queue.{SettledOr, Waiting}
 use Rattle.cnf.proofs.Closure.{Closed, breaks, rests, Closes}
 
 -- a literal under the values, by whether it is unset and whether it is right: 0 false, 1 true, 2 unset
@@ -42,12 +46,33 @@ pub record Grown (v t : List ℕ) (count : ℕ) (w s : List ℕ) (more : ℕ) : 
   pub below : (x : ℕ) → List·Memᴰ x new → x < length v
   pub counted : more + unsetCount w ≡ length w
 
--- one pass over the clauses: unit steps, up to a broken clause or the end; where none was made, every clause is settled
-pub record Passed (cs : List (List ℕ)) (v t : List ℕ) (count : ℕ) (w s : List ℕ) (isBroken : Bool) (more : ℕ) : Type 0 where
+-- unit steps from v to w, up to a broken clause or not; what they set is set
+pub record Worked (cs : List (List ℕ)) (v t : List ℕ) (count : ℕ) (w s : List ℕ) (isBroken : Bool) (more : ℕ) : Type 0 where
   pub grown : Grown v t count w s more
   pub units : UnitSteps cs v w
+  pub fresh : (x : ℕ) → List·Memᴰ x (grown .new) → valueOf w x ≢ 2
   pub breaking : isBroken ≡ true → Found w cs broken
-  pub resting : isBroken ≡ false → more ≡ count → AtRest cs w
+
+-- one pass over the clauses: each is settled, or one of its variables was set
+pub record Passed (cs : List (List ℕ)) (v t : List ℕ) (count : ℕ) (w s : List ℕ) (isBroken : Bool) (more : ℕ) : Type 0 where
+  pub worked : Worked cs v t count w s isBroken more
+  pub waiting : isBroken ≡ false → Waiting cs w (worked .grown .new)
+
+-- the clauses that have the variable x are seen to: each is settled, or one of its variables was set meanwhile
+pub record Attended (cs : List (List ℕ)) (x : ℕ) (v t : List ℕ) (count : ℕ) (w s : List ℕ) (isBroken : Bool) (more : ℕ) : Type 0 where
+  pub worked : Worked cs v t count w s isBroken more
+  pub settles : isBroken ≡ false → (c : List ℕ) → List·Memᴰ c cs → (l : ℕ) → List·Memᴰ l c → l / 2 ≡ x → SettledOr w (worked .grown .new) c
+
+-- the queue is the trail from a place on: its variables are set, and a clause that is not settled has one of them
+pub record Queue (cs : List (List ℕ)) (v t : List ℕ) (from count : ℕ) : Type 0 where
+  pub inside : from ≤ count
+  pub queued : (x : ℕ) → List·Memᴰ x (slice from count t) → (x < length v) × (valueOf v x ≢ 2)
+  pub waiting : Waiting cs v (slice from count t)
+
+-- unit steps up to a broken clause, or to values at rest
+pub record Drained (cs : List (List ℕ)) (v t : List ℕ) (count : ℕ) (w s : List ℕ) (isBroken : Bool) (more : ℕ) : Type 0 where
+  pub worked : Worked cs v t count w s isBroken more
+  pub at-rest : isBroken ≡ false → AtRest cs w
 
 abbrev pub closedBy : Bool → List ℕ → Closed
 closedBy true w = breaks

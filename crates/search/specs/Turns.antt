@@ -2,15 +2,17 @@
 use mathlib.Core.Path.{_≡_}
 use mathlib.Core.Logic.{_≢_}
 use mathlib.Core.Bool.{true}
-use mathlib.Core.List.{List}
-use Prim.Native.Nat.{ℕ, _≤_, _<_}
-use lib.ListN.{length, getD, set, replicate}
+use mathlib.Core.List.{List, List·Memᴰ}
+use Prim.Native.Nat.{ℕ, _+_, _≤_, _<_}
+use lib.ListN.{length, getD, set, take, replicate}
 use lib.Seq.{slice}
 use Rattle.cnf.specs.Clauses.{valueOf, clausesIn, whole}
 use Rattle.cnf.specs.Search.{Outcome, solved, none-exists, spent}
-use Rattle.cnf.proofs.Values.{Formed}
-use Rattle.search.specs.declared.solve.Ending.{Ending}
-use Rattle.search.specs.declared.solve.Ending.the-variants.{Found, Absent, Spent}
+use Rattle.cnf.proofs.Values.{Formed, unsetCount}
+use Rattle.cnf.proofs.Closure.{rests, Closes}
+use Rattle.pairs.specs.Pairs.{pairs}
+use Rattle.search.specs.declared.engine.Ending.{Ending}
+use Rattle.search.specs.declared.engine.Ending.the-variants.{Found, Absent, Spent}
 use Rattle.search.specs.Trail.{unsetting}
 
 -- r is the first unset variable from low on, or the number of variables
@@ -35,12 +37,24 @@ pub record Undone (v t : List ℕ) (mark count : ℕ) (w : List ℕ) (x : ℕ) :
 unfoldable pub noneSet : List ℕ
 noneSet = replicate 780 2
 
--- whole clauses over at most 780 variables, none of which is set
-pub record Fresh (ws v : List ℕ) : Type 0 where
+-- whole clauses over at most 780 variables, none of which is set; where there are n states, the variables are their pairs
+pub record Fresh (ws : List ℕ) (n : ℕ) (v : List ℕ) : Type 0 where
   pub all-there : whole ws ≡ true
   pub formed : Formed (clausesIn ws) (length v)
   pub none-set : v ≡ replicate (length v) 2
   pub most : length v ≤ 780
+  pub few : n ≤ 40
+  pub size : 0 < n → length v ≡ pairs n
+
+-- the first closing is done: the values of n variables are the least at rest, and the trail has the count variables that are set
+pub record Rested (cs : List (List ℕ)) (n : ℕ) (v t : List ℕ) (count : ℕ) : Type 0 where
+  pub formed : Formed cs n
+  pub size : length v ≡ n
+  pub most : n ≤ 780
+  pub long : length t ≡ 780
+  pub counted : count + unsetCount v ≡ length v
+  pub below : (x : ℕ) → List·Memᴰ x (take count t) → x < n
+  pub closed : Closes cs (replicate n 2) (rests v)
 
 -- how the search ends, with the values that it leaves
 abbrev pub outcomeOf : Ending → List ℕ → Outcome

@@ -10,12 +10,17 @@ ghost use Rattle.search.specs.Turns.{noneSet};
 use fits::list_fits;
 use limits::Limits;
 use limits::limits_fit;
-use solve::Ending;
-use solve::solve;
 
+mod chains;
+mod conclude;
+mod engine;
 mod fits;
+mod rows;
 mod settle;
-mod solve;
+mod undo;
+
+pub use engine::Ending;
+pub use engine::solve;
 
 // What the search answers.
 pub enum Solution {
@@ -26,7 +31,7 @@ pub enum Solution {
 }
 
 // Room for the values of 780 variables, none of which is set.
-fn none_set() -> [u8; 780]
+pub fn none_set() -> [u8; 780]
     ensures { λ r. ⌜ r ≡ noneSet ⌝ }
 {
     [2u8; 780]
@@ -54,7 +59,7 @@ fn search_at(
         return Solution::Refused(14);
     }
     let mut values = none_set();
-    let end = solve(list, &mut values[..variables], budget);
+    let end = solve(list, 0, &mut values[..variables], budget);
     match end {
         Ending::Found(k) => {
             bytes::copy(&values[..variables], answer);

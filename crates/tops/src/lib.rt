@@ -3,7 +3,7 @@ ghost use mathlib.Core.Path.{_≡_};
 ghost use Prim.Native.Nat.{suc, _-_, _*_, _^_, _<_, _≤_};
 ghost use mathlib.Core.List.{[], _++_};
 ghost use lib.ListN.{length, take, replicate};
-ghost use lib.Count.{onesIn, trailingZeros};
+ghost use lib.Count.{onesIn};
 ghost use Rattle.lists.specs.Lists.{same};
 ghost use Rattle.lists.specs.Bits.{has, onesOver};
 ghost use Rattle.limits.specs.Limits.{standard, stateMost};
@@ -214,23 +214,6 @@ fn tops_of(states: &[u8], internals: &[u8], calls: &[u8], returns: &[u8]) -> Top
         words: words,
         found: count_tops(words, states.len()),
     }
-}
-
-// The lowest top of a word, 64 where it has none: its trailing zeros.
-pub fn next_top(word: u64) -> u32
-    ensures { λ r. ⌜ r ≡ trailingZeros 64 word ⌝ }
-{
-    u64::trailing_zeros(word)
-}
-
-// The word without its lowest top.
-pub fn later_tops(word: u64) -> u64
-    ensures { λ r. ⌜ r ≡ word - 2 ^ trailingZeros 64 word ⌝ }
-{
-    if word == 0 {
-        return 0;
-    }
-    word - (1u64 << u64::trailing_zeros(word))
 }
 
 // The tops of a table that was read: its sections are handed on as parts of the file.

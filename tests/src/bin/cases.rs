@@ -19,6 +19,11 @@ use named::{silent, t, t_with_call, t_with_return, two_undone, unreachable_stack
 use random::Random;
 use reference::{Limits, Table, LARGEST, STANDARD};
 
+/// The words of the list that reduce writes.
+fn short_words(table: &Table) -> usize {
+    reference::words_of(&reference::short_list(table)).len()
+}
+
 /// The words of a table's clause list.
 fn words_needed(table: &Table) -> usize {
     reference::words_of(&reference::clause_list(table)).len()
@@ -124,14 +129,14 @@ fn marked(c: &mut Cases) {
 /// The edges of document 01, and the order of reduce's refusals, by two faults at once.
 fn edges(c: &mut Cases) {
     let b = t().bytes();
-    let just = Room { list: 72, map: 4, out: 31 };
+    let just = Room { list: 24, map: 4, out: 31 };
     let wide = Room { list: 80, map: 24, out: 64 };
     for room in [just, wide] {
         let (answer, map, out) = c.reduce(&b, 1, room);
-        assert_eq!(answer, Ok((3, 1, 72, 31)));
+        assert_eq!(answer, Ok((3, 1, 24, 31)));
         assert_eq!((&map[..4], &out[..31]), (&[0, 1, 1, 2][..], &named::T_REDUCED[..]));
     }
-    let (few_words, few_states, few_bytes) = (Room { list: 71, ..just }, Room { map: 3, ..just }, Room { out: 30, ..just });
+    let (few_words, few_states, few_bytes) = (Room { list: 23, ..just }, Room { map: 3, ..just }, Room { out: 30, ..just });
     assert_eq!(c.reduce(&b, 1, few_words).0, Err(10));
     assert_eq!(c.reduce(&b, 1, few_bytes).0, Err(21));
     assert_eq!(c.reduce(&b, 1, few_states).0, Err(22));
@@ -274,7 +279,7 @@ fn undone_guesses(c: &mut Cases) {
 
 /// Reduced with more room than needed, with just enough, and with too little of one thing; the quotient under the map delivered, which comes back.
 fn around_needs(c: &mut Cases, table: &Table, turn: usize) -> Vec<u8> {
-    let (b, n, need) = (table.bytes(), table.count(), words_needed(table));
+    let (b, n, need) = (table.bytes(), table.count(), short_words(table));
     let (answer, map, out) = c.reduce(&b, 2000, Room { list: need + 3, map: n + 2, out: b.len() + 5 });
     let (classes, guesses, words, length) = answer.expect("the budget is enough");
     let just = Room { list: words, map: n, out: length };
@@ -364,7 +369,7 @@ fn large_table(r: &mut Random, n: usize, one: bool, most: usize) -> Table {
 fn large_tables(c: &mut Cases, r: &mut Random) {
     for one in [true, false] {
         let table = large_table(r, 10, one, 300);
-        let room = Room { list: words_needed(&table), map: 10, out: table.bytes().len() };
+        let room = Room { list: short_words(&table), map: 10, out: table.bytes().len() };
         c.reduce(&table.bytes(), 1000, room).0.unwrap();
     }
     for one in [true, false] {
@@ -378,6 +383,33 @@ fn large_tables(c: &mut Cases, r: &mut Random) {
         c.quotient(&b, &apart, b.len()).unwrap();
         assert_eq!(c.reduce(&b, 9, Room { list: 60, map: 24, out: 12 }).0, Err(10));
     }
+}
+
+/// A table from the text of its bytes.
+fn from_text(text: &str) -> Vec<u8> {
+    text.split_whitespace().map(|x| u8::from_str_radix(x, 16).unwrap()).collect()
+}
+
+/// Reduce leaves group 2 out: a clause forces where one variable is unset, not one pair of classes (two guesses); the classes conclude both ways, p = q
+/// and p ≠ s give q ≠ s (one guess). And 40 states, whose group 2 alone would have 118,560 words.
+fn without_transitivity(c: &mut Cases) {
+    let one_variable = from_text("01 02 00 01 00 00 00 01 00 00 02 01 00 00 01 00 01 02 00 01 00 01 00 00 18 00 16 00 13 00 13 00 04 00 01 00");
+    let both_ways = from_text("01 02 00 00 01 00 00 01 01 00 01 02 00 01 01 01 02 01 12 00 10 00 0d 00 0d 00 04 00 01 00");
+    for (b, guesses) in [(one_variable, 2), (both_ways, 1)] {
+        let (answer, _, _) = c.reduce(&b, 9, Room { list: 300, map: 5, out: 60 });
+        assert_eq!(answer.map(|x| x.1), Ok(guesses));
+        assert_eq!(c.reduce(&b, guesses - 1, Room { list: 300, map: 5, out: 60 }).0, Err(13));
+    }
+    c.limits = LARGEST;
+    for n in [27, 40] {
+        // every second state moves to the first, and the others have no move
+        let mut table = silent(&[vec![1], vec![0; n - 2], vec![2]].concat());
+        table.symbols = vec![0];
+        table.internals = (0..n as u8).step_by(2).map(|q| [q, 0, 0]).collect();
+        let room = Room { list: short_words(&table), map: n, out: table.bytes().len() };
+        c.reduce(&table.bytes(), 1000, room).0.unwrap();
+    }
+    c.limits = STANDARD;
 }
 
 /// A table of so many states and symbols, none of them with a record.
@@ -453,14 +485,14 @@ fn state_24(c: &mut Cases) {
 fn reduced_within(c: &mut Cases, r: &mut Random) {
     for limits in [Limits { states: 4, symbols: 3 }, LARGEST] {
         c.limits = limits;
-        let (answer, map, out) = c.reduce(&named::T, 1, Room { list: 72, map: 4, out: 31 });
-        assert_eq!(answer, Ok((3, 1, 72, 31)));
+        let (answer, map, out) = c.reduce(&named::T, 1, Room { list: 24, map: 4, out: 31 });
+        assert_eq!(answer, Ok((3, 1, 24, 31)));
         assert_eq!((&map[..], &out[..]), (&[0, 1, 1, 2][..], &named::T_REDUCED[..]));
         assert_eq!(c.clauses(&named::T, 72), Ok((23, 72)));
     }
     for limits in [Limits { states: 3, symbols: 3 }, Limits { states: 4, symbols: 2 }] {
         c.limits = limits;
-        assert_eq!(c.reduce(&named::T, 1, Room { list: 72, map: 4, out: 31 }).0, Err(4));
+        assert_eq!(c.reduce(&named::T, 1, Room { list: 24, map: 4, out: 31 }).0, Err(4));
         assert_eq!(c.clauses(&named::T, 72), Err(4));
     }
     c.limits = LARGEST;
@@ -486,6 +518,7 @@ fn main() {
     undone_guesses(&mut c);
     random_tables(&mut c, &mut r);
     large_tables(&mut c, &mut r);
+    without_transitivity(&mut c);
     no_limits(&mut c);
     at_limits(&mut c);
     state_24(&mut c);

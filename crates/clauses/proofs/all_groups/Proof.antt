@@ -12,23 +12,23 @@ cast-count c = search needs
 looks-apart-requires : tie.Need-looks-apart-requires
 looks-apart-requires c κs = search needs
 
-transitive-requires : tie.Need-transitive-requires
-transitive-requires c κs = (omega (arith, c .before .before .before .before .before .before .before .before .before .before .pre .0 .few), ordered-by _ _ (c .before .before .before .looks-apart .ensures) (c .before .before .before .before .before .before .before .before .before .before .pre .1))
+closure-requires : tie.Need-closure-requires
+closure-requires c κs = (omega (arith, c .before .before .before .before .before .before .before .before .before .before .pre .0 .few), ordered-by _ _ (c .before .before .before .looks-apart .ensures) (c .before .before .before .before .before .before .before .before .before .before .pre .1))
 
 moves-requires : tie.Need-moves-requires
-moves-requires c κs = (c .before .before .before .before .before .before .before .before .before .before .before .before .before .before .pre .0 .internals-sorted, ordered-by _ _ (c .before .before .before .transitive .ensures) (ordered-by _ _ (c .before .before .before .before .before .before .before .looks-apart .ensures) (c .before .before .before .before .before .before .before .before .before .before .before .before .before .before .pre .1)))
+moves-requires c κs = (c .before .before .before .before .before .before .before .before .before .before .before .before .before .before .pre .0 .internals-sorted, ordered-by _ _ (c .before .before .before .closure .ensures) (ordered-by _ _ (c .before .before .before .before .before .before .before .looks-apart .ensures) (c .before .before .before .before .before .before .before .before .before .before .before .before .before .before .pre .1)))
 
 moves-requires-2 : tie.Need-moves-requires-2
-moves-requires-2 c κs = (c .before .before .before .before .before .before .before .before .before .before .before .before .before .before .before .before .before .before .pre .0 .calls-sorted, ordered-by _ _ (c .before .before .before .moves .ensures) (ordered-by _ _ (c .before .before .before .before .before .before .before .transitive .ensures) (ordered-by _ _ (c .before .before .before .before .before .before .before .before .before .before .before .looks-apart .ensures) (c .before .before .before .before .before .before .before .before .before .before .before .before .before .before .before .before .before .before .pre .1))))
+moves-requires-2 c κs = (c .before .before .before .before .before .before .before .before .before .before .before .before .before .before .before .before .before .before .pre .0 .calls-sorted, ordered-by _ _ (c .before .before .before .moves .ensures) (ordered-by _ _ (c .before .before .before .before .before .before .before .closure .ensures) (ordered-by _ _ (c .before .before .before .before .before .before .before .before .before .before .before .looks-apart .ensures) (c .before .before .before .before .before .before .before .before .before .before .before .before .before .before .before .before .before .before .pre .1))))
 
 live-returns-requires : tie.Need-live-returns-requires
-live-returns-requires c κs = (c .before .before .before .before .before .before .before .before .before .before .before .before .before .before .before .before .before .before .before .before .before .before .pre .0 .returns-sorted, c .before .before .before .before .before .before .before .before .before .before .before .before .before .before .before .before .before .before .before .before .before .before .pre .0 .few, ordered-by _ _ (c .before .before .before .moves2 .ensures) (ordered-by _ _ (c .before .before .before .before .before .before .before .moves .ensures) (ordered-by _ _ (c .before .before .before .before .before .before .before .before .before .before .before .transitive .ensures) (ordered-by _ _ (c .before .before .before .before .before .before .before .before .before .before .before .before .before .before .before .looks-apart .ensures) (c .before .before .before .before .before .before .before .before .before .before .before .before .before .before .before .before .before .before .before .before .before .before .pre .1)))))
+live-returns-requires c κs = (c .before .before .before .before .before .before .before .before .before .before .before .before .before .before .before .before .before .before .before .before .before .before .pre .0 .returns-sorted, c .before .before .before .before .before .before .before .before .before .before .before .before .before .before .before .before .before .before .before .before .before .before .pre .0 .few, ordered-by _ _ (c .before .before .before .moves2 .ensures) (ordered-by _ _ (c .before .before .before .before .before .before .before .moves .ensures) (ordered-by _ _ (c .before .before .before .before .before .before .before .before .before .before .before .closure .ensures) (ordered-by _ _ (c .before .before .before .before .before .before .before .before .before .before .before .before .before .before .before .looks-apart .ensures) (c .before .before .before .before .before .before .before .before .before .before .before .before .before .before .before .before .before .before .before .before .before .before .pre .1)))))
 
 same-length : tie.Need-same-length
 same-length c = search needs
 
 returns : tie.Need-returns
-returns c = groups (c .before .before .before .before .before .before .before .before .before .before .before .before .before .before .before .before .before .before .before .before .before .before .before .before .before .args .states .now) (c .before .before .before .before .before .before .before .before .before .before .before .before .before .before .before .before .before .before .before .before .before .before .before .before .before .args .internals .now) (c .before .before .before .before .before .before .before .before .before .before .before .before .before .before .before .before .before .before .before .before .before .before .before .before .before .args .calls .now) (c .before .before .before .before .before .before .before .before .before .before .before .before .before .before .before .before .before .before .before .before .before .before .before .before .before .args .returns .now) (c .before .before .before .before .before .before .before .before .before .before .before .before .before .before .before .before .before .before .before .before .before .before .before .before .before .args .tops .now) _ (c .before .before .before .before .before .before .before .before .before .before .before .before .before .before .before .before .before .before .looks-apart .ensures) (c .before .before .before .before .before .before .before .before .before .before .before .before .before .before .transitive .ensures) (c .before .before .before .before .before .before .before .before .before .before .moves .ensures) (c .before .before .before .before .before .before .moves2 .ensures) (c .before .before .live-returns .ensures)
+returns c = groups _ (c .before .before .before .before .before .before .before .before .before .before .before .before .before .before .before .before .before .before .before .before .before .before .before .before .before .args .states .now) (c .before .before .before .before .before .before .before .before .before .before .before .before .before .before .before .before .before .before .before .before .before .before .before .before .before .args .internals .now) (c .before .before .before .before .before .before .before .before .before .before .before .before .before .before .before .before .before .before .before .before .before .before .before .before .before .args .calls .now) (c .before .before .before .before .before .before .before .before .before .before .before .before .before .before .before .before .before .before .before .before .before .before .before .before .before .args .returns .now) (c .before .before .before .before .before .before .before .before .before .before .before .before .before .before .before .before .before .before .before .before .before .before .before .before .before .args .tops .now) _ (c .before .before .before .before .before .before .before .before .before .before .before .before .before .before .before .before .before .before .looks-apart .ensures) (c .before .before .before .before .before .before .before .before .before .before .before .before .before .before .closure .ensures) (c .before .before .before .before .before .before .before .before .before .before .moves .ensures) (c .before .before .before .before .before .before .moves2 .ensures) (c .before .before .live-returns .ensures)
 
 pub all-groups-spec : {M : Type 1} → statement M
 all-groups-spec =
@@ -36,7 +36,7 @@ all-groups-spec =
     (tie.spec
     cast-count
     looks-apart-requires
-    transitive-requires
+    closure-requires
     moves-requires
     moves-requires-2
     live-returns-requires

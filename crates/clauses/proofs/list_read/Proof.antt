@@ -28,7 +28,7 @@ returns : tie.Need-returns
 returns c =
     parts-listed (c .before .before .before .before .before .before .before .before .before .before .pre)
     (c .before .before .before .before .before .before .before .part .ensures) (c .before .before .before .before .before .before .part2 .ensures) (c .before .before .before .before .before .part3 .ensures) (c .before .before .before .before .part4 .ensures)
-    _ (c .before .before .list-sections .ensures)
+    _ _ (c .before .before .list-sections .ensures)
 
 pub list-read-spec : {M : Type 1} → statement M
 list-read-spec =

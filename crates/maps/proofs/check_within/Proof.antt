@@ -1,5 +1,5 @@
--- `maps::check_within` meets its contract: refused or accepted. Assumes nothing.
-use Rattle.maps.proofs.Checking.{checked-number, check-refused, check-accepted, checked}
+-- `maps::check_within` meets its contract: refused by reading, by the map's tests, or accepted. Assumes nothing.
+use Rattle.maps.proofs.Checking.{read-readable, read-known, unread, tested, check-refused, check-accepted, checked}
 use borrow.Author.Needs.{needs}
 use Rattle.maps.proofs.check_within.Statement.{statement}
 use Rattle.maps.proofs.check_within.Tie as tie
@@ -8,13 +8,26 @@ examine-requires : tie.Need-examine-requires
 examine-requires c κs = search needs
 
 returns : tie.Need-returns
-returns c = checked _ _ _ (check-refused _ _ _ (checked-number _ _ _ (c .before .before .examine .ensures)) (c .if1 .taken))
+returns c = checked _ _ _ (check-refused _ _ _ (unread _ _ _ (c .before .before .examine .ensures) (c .if1 .taken)) (c .if1 .taken))
+
+slice-aggregate-map-number : tie.Need-slice-aggregate-map-number
+slice-aggregate-map-number c = search needs
+
+map-number-requires : tie.Need-map-number-requires
+map-number-requires c κs = read-known _ _ (c .before .before .before .before .before .examine .ensures) (c .before .before .before .if1 .left)
+
+returns-2 : tie.Need-returns-2
+returns-2 c =
+    let readable = read-readable _ _ (c .before .before .before .before .before .before .before .examine .ensures) (c .before .before .before .before .before .if1 .left) in
+    checked _ _ _ (check-refused _ _ _ (tested _ _ _ readable (c .before .map-number .ensures)) (c .if2 .taken))
 
 class-count-requires : tie.Need-class-count-requires
 class-count-requires c κs = search needs
 
-returns-2 : tie.Need-returns-2
-returns-2 c = checked _ _ _ (check-accepted _ _ _ (checked-number _ _ _ (c .before .before .before .examine .ensures)) (c .before .if1 .left) (c .class-count .ensures))
+returns-3 : tie.Need-returns-3
+returns-3 c =
+    let readable = read-readable _ _ (c .before .before .before .before .before .before .before .before .examine .ensures) (c .before .before .before .before .before .before .if1 .left) in
+    checked _ _ _ (check-accepted _ _ _ (tested _ _ _ readable (c .before .before .map-number .ensures)) (c .before .if2 .left) (c .class-count .ensures))
 
 pub check-within-spec : {M : Type 1} → statement M
-check-within-spec = tie.close (tie.spec examine-requires returns class-count-requires returns-2)
+check-within-spec = tie.close (tie.spec examine-requires returns slice-aggregate-map-number map-number-requires returns-2 class-count-requires returns-3)

@@ -1,8 +1,7 @@
--- `reduce::solve_listed` meets its contract: the search over the list, then a refusal or what is made of the assignment. Assumes nothing.
+-- `reduce::solve_listed` meets its contract: the search over the list and the classes, then a refusal or what is made of the assignment. Assumes nothing.
 use mathlib.Core.Path.{sym, ap, _∙_}
-use Prim.Native.Nat.{ℕ}
-use native.Mathlib.Omega.{arith}
-use lib.ListN.{length, replicate, length-replicate}
+use lib.ListN.{length}
+use Rattle.search.proofs.Answering.{prefix-length, prefix-room, prefix-size}
 use Rattle.reduce.proofs.Stages as laws
 use borrow.Author.Needs.{needs}
 use Rattle.reduce.proofs.solve_listed.Statement.{statement}
@@ -14,35 +13,72 @@ pairs-of-requires c κs = search needs
 cast-variables : tie.Need-cast-variables
 cast-variables c = search needs
 
-slice-aggregate-search-within : tie.Need-slice-aggregate-search-within
-slice-aggregate-search-within c = search needs
+none-set-requires : tie.Need-none-set-requires
+none-set-requires c κs = search needs
 
-search-within-requires : tie.Need-search-within-requires
-search-within-requires c κs = search needs
+array-borrow-prefix-values : tie.Need-array-borrow-prefix-values
+array-borrow-prefix-values c =
+    let s = c .before .before .before .before .before .before .before in
+    let h = laws.solvable (s .pre .0) (s .pre .1) (s .pre .3) in
+    let e = c .before .pairs-of .ensures in
+    let z = c .none-set .ensures in
+    let room = laws.room h e z in
+    search needs
 
-enum-known-solution : tie.Need-enum-known-solution
-enum-known-solution c = search needs
+slice-aggregate-solve : tie.Need-slice-aggregate-solve
+slice-aggregate-solve c =
+    let s = c .before .before .before .before .before .before .before .before in
+    let h = laws.solvable (s .pre .0) (s .pre .1) (s .pre .3) in
+    let e = c .before .before .pairs-of .ensures in
+    let z = c .before .none-set .ensures in
+    sym (prefix-length _ (laws.room h e z) z)
 
-enum-known-solution-2 : tie.Need-enum-known-solution-2
-enum-known-solution-2 c = search needs
+solve-requires : tie.Need-solve-requires
+solve-requires c κs =
+    let s = c .before .before .before .before .before .before .before .before in
+    let h = laws.solvable (s .pre .0) (s .pre .1) (s .pre .3) in
+    let e = c .before .before .pairs-of .ensures in
+    let z = c .before .none-set .ensures in
+    laws.fresh h (laws.part-none h e z)
+
+enum-known-end : tie.Need-enum-known-end
+enum-known-end c = search needs
 
 array-share-prefix-values : tie.Need-array-share-prefix-values
-array-share-prefix-values c = laws.values-room (c .before .before .before .before .before .before .before .before .before .before .before .args .limits) (c .before .before .before .before .before .before .before .before .before .before .before .args .table .now) (c .before .before .before .before .before .before .before .before .before .before .before .pre .0) (c .before .before .before .before .before .before .before .before .before .before .before .pre .1) (c .before .before .before .before .before .before .pairs-of .ensures) (c .before .before .before .before .search-within .kept .1 .1 .1 .1 .0 ∙ length-replicate {A = ℕ} 780 0)
+array-share-prefix-values c =
+    let s = c .before .before .before .before .before .before .before .before .before .before .before .before .before in
+    let h = laws.solvable (s .pre .0) (s .pre .1) (s .pre .3) in
+    let e = c .before .before .before .before .before .before .before .pairs-of .ensures in
+    let z = c .before .before .before .before .before .before .none-set .ensures in
+    let v = c .before .before .before .before .solve .last .1 .1 .0 in
+    let long = c .before .before .before .before .solve .kept .1 .1 .0 in
+    prefix-room _ (laws.room h e z) z v long
 
 slice-aggregate-deliver-found : tie.Need-slice-aggregate-deliver-found
-slice-aggregate-deliver-found c = sym (laws.values-part (c .before .before .before .before .before .before .before .before .before .before .before .before .args .limits) (c .before .before .before .before .before .before .before .before .before .before .before .before .args .table .now) (c .before .before .before .before .before .before .before .before .before .before .before .before .pre .0) (c .before .before .before .before .before .before .before .before .before .before .before .before .pre .1) (c .before .before .before .before .before .before .before .pairs-of .ensures) (c .before .before .before .before .before .search-within .last .1 .1 .1 .1 .0) (c .before .before .before .before .before .search-within .kept .1 .1 .1 .1 .0 ∙ length-replicate {A = ℕ} 780 0))
+slice-aggregate-deliver-found c =
+    let s = c .before .before .before .before .before .before .before .before .before .before .before .before .before .before in
+    let h = laws.solvable (s .pre .0) (s .pre .1) (s .pre .3) in
+    let e = c .before .before .before .before .before .before .before .before .pairs-of .ensures in
+    let z = c .before .before .before .before .before .before .before .none-set .ensures in
+    let v = c .before .before .before .before .before .solve .last .1 .1 .0 in
+    let long = c .before .before .before .before .before .solve .kept .1 .1 .0 in
+    sym (prefix-size _ (laws.room h e z) z v long)
 
 deliver-found-requires : tie.Need-deliver-found-requires
-deliver-found-requires c κs = (
-  c .before .before .before .before .before .before .before .before .before .before .before .before .before .before .pre .1,
-  omega (arith, laws.states-few (c .before .before .before .before .before .before .before .before .before .before .before .before .before .before .args .limits) (c .before .before .before .before .before .before .before .before .before .before .before .before .before .before .args .table .now) (c .before .before .before .before .before .before .before .before .before .before .before .before .before .before .pre .0), c .before .before .before .before .before .before .before .before .before .before .before .before .before .before .pre .1),
-  c .before .before .before .before .before .before .before .before .before .before .before .before .before .before .pre .2,
-  laws.values-part (c .before .before .before .before .before .before .before .before .before .before .before .before .before .before .args .limits) (c .before .before .before .before .before .before .before .before .before .before .before .before .before .before .args .table .now) (c .before .before .before .before .before .before .before .before .before .before .before .before .before .before .pre .0) (c .before .before .before .before .before .before .before .before .before .before .before .before .before .before .pre .1) (c .before .before .before .before .before .before .before .before .before .pairs-of .ensures) (c .before .before .before .before .before .before .before .search-within .last .1 .1 .1 .1 .0) (c .before .before .before .before .before .before .before .search-within .kept .1 .1 .1 .1 .0 ∙ length-replicate {A = ℕ} 780 0) ∙ c .before .before .before .before .before .before .before .before .before .pairs-of .ensures,
-  ap length (c .before .before .before .before .before .before .before .before .before .before .before .before .before .before .pre .3),
-)
+deliver-found-requires c κs =
+    let s = c .before .before .before .before .before .before .before .before .before .before .before .before .before .before .before .before in
+    let h = laws.solvable (s .pre .0) (s .pre .1) (s .pre .3) in
+    let e = c .before .before .before .before .before .before .before .before .before .before .pairs-of .ensures in
+    let z = c .before .before .before .before .before .before .before .before .before .none-set .ensures in
+    let v = c .before .before .before .before .before .before .before .solve .last .1 .1 .0 in
+    let long = c .before .before .before .before .before .before .before .solve .kept .1 .1 .0 in
+    (s .pre .0, laws.few h, s .pre .2, prefix-size _ (laws.room h e z) z v long ∙ e, ap length (s .pre .3))
 
-returns : tie.Need-returns
-returns c = λ before. laws.not-solved (c .before .before .before .before .before .before .before .before .before .before .before .args .limits) (c .before .before .before .before .before .before .before .before .before .before .before .args .table .now) (c .before .before .before .before .before .before .before .before .before .before .before .pre .0) (c .before .before .before .before .before .before .before .before .before .before .before .pre .1) (c .before .before .before .before .before .before .pairs-of .ensures) (c .before .before .before .before .before .before .before .before .before .before .before .args .budget) (replicate 780 0) (c .before .before .before .before .before .before .before .before .before .before .before .pre .3) (length-replicate {A = ℕ} 780 0) (c .before .before .before .before .search-within .ensures .0) before (c .before .before .before .before .before .before .before .before .before .before .before .args .map .now) (c .before .before .before .before .before .before .before .before .before .before .before .args .out .now) (c .before .solution .given .1)
+enum-told : tie.Need-enum-told
+enum-told c = search needs
+
+enum-told-2 : tie.Need-enum-told-2
+enum-told-2 c = search needs
 
 same-length : tie.Need-same-length
 same-length c = search needs
@@ -50,8 +86,35 @@ same-length c = search needs
 same-length-2 : tie.Need-same-length-2
 same-length-2 c = search needs
 
+returns : tie.Need-returns
+returns c =
+    let s = c .before .before .before .before .before .before .before .before .before .before .before .before .before .before .before .before .before .before .before .before .before in
+    let h = laws.solvable (s .pre .0) (s .pre .1) (s .pre .3) in
+    let e = c .before .before .before .before .before .before .before .before .before .before .before .before .before .before .before .pairs-of .ensures in
+    let z = c .before .before .before .before .before .before .before .before .before .before .before .before .before .before .none-set .ensures in
+    let v = c .before .before .before .before .before .before .before .before .before .before .before .before .solve .last .1 .1 .0 in
+    let long = c .before .before .before .before .before .before .before .before .before .before .before .before .solve .kept .1 .1 .0 in
+    λ L readable before. c .before .before .before .before .deliver-found .ensures L readable before ∙ laws.was-found h e z L before (s .args .map .now) (s .args .out .now) (s .args .budget) (c .before .before .before .before .before .before .before .before .before .before .before .before .solve .result) v long (c .before .before .before .before .before .before .before .before .before .before .before .before .solve .ensures) (c .before .before .before .before .before .before .before .before .before .end .given .1)
+
 returns-2 : tie.Need-returns-2
-returns-2 c = λ before. c .before .before .before .before .deliver-found .ensures before ∙ laws.is-solved (c .before .before .before .before .before .before .before .before .before .before .before .before .before .before .before .before .before .before .before .args .limits) (c .before .before .before .before .before .before .before .before .before .before .before .before .before .before .before .before .before .before .before .args .table .now) (c .before .before .before .before .before .before .before .before .before .before .before .before .before .before .before .before .before .before .before .pre .0) (c .before .before .before .before .before .before .before .before .before .before .before .before .before .before .before .before .before .before .before .pre .1) (c .before .before .before .before .before .before .before .before .before .before .before .before .before .before .pairs-of .ensures) (c .before .before .before .before .before .before .before .before .before .before .before .before .before .before .before .before .before .before .before .args .budget) (replicate 780 0) (c .before .before .before .before .before .before .before .before .before .before .before .before .before .before .before .before .before .before .before .pre .3) (length-replicate {A = ℕ} 780 0) (c .before .before .before .before .before .before .before .before .before .before .before .before .search-within .ensures .0) before (c .before .before .before .before .before .before .before .before .before .before .before .before .before .before .before .before .before .before .before .args .map .now) (c .before .before .before .before .before .before .before .before .before .before .before .before .before .before .before .before .before .before .before .args .out .now) (c .before .before .before .before .before .before .before .before .before .solution2 .given .1)
+returns-2 c =
+    let s = c .before .before .before .before .before .before .before .before .before .before .before .before in
+    let h = laws.solvable (s .pre .0) (s .pre .1) (s .pre .3) in
+    let e = c .before .before .before .before .before .before .pairs-of .ensures in
+    let z = c .before .before .before .before .before .none-set .ensures in
+    let v = c .before .before .before .solve .last .1 .1 .0 in
+    let long = c .before .before .before .solve .kept .1 .1 .0 in
+    λ L readable before. laws.was-absent h e z L before (s .args .map .now) (s .args .out .now) (s .args .budget) (c .before .before .before .solve .result) v long (c .before .before .before .solve .ensures) (c .enum-told .given .1)
+
+returns-3 : tie.Need-returns-3
+returns-3 c =
+    let s = c .before .before .before .before .before .before .before .before .before .before .before .before in
+    let h = laws.solvable (s .pre .0) (s .pre .1) (s .pre .3) in
+    let e = c .before .before .before .before .before .before .pairs-of .ensures in
+    let z = c .before .before .before .before .before .none-set .ensures in
+    let v = c .before .before .before .solve .last .1 .1 .0 in
+    let long = c .before .before .before .solve .kept .1 .1 .0 in
+    λ L readable before. laws.was-spent h e z L before (s .args .map .now) (s .args .out .now) (s .args .budget) (c .before .before .before .solve .result) v long (c .before .before .before .solve .ensures) (c .enum-told2 .given .1)
 
 pub solve-listed-spec : {M : Type 1} → statement M
 solve-listed-spec =
@@ -59,14 +122,18 @@ solve-listed-spec =
     (tie.spec
     pairs-of-requires
     cast-variables
-    slice-aggregate-search-within
-    search-within-requires
-    enum-known-solution
-    enum-known-solution-2
+    none-set-requires
+    array-borrow-prefix-values
+    slice-aggregate-solve
+    solve-requires
+    enum-known-end
     array-share-prefix-values
     slice-aggregate-deliver-found
     deliver-found-requires
-    returns
+    enum-told
+    enum-told-2
     same-length
     same-length-2
-    returns-2)
+    returns
+    returns-2
+    returns-3)

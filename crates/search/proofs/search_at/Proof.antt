@@ -80,8 +80,8 @@ array-share-prefix-values c =
     let most = c .before .before .before .before .before .before .before .before .before .before .if1 .left in
     let room = laws.room most (c .before .before .before .before .before .before .before .before .before .before .before .before .before .pre) in
     let none = c .before .before .before .before .before .before .none-set .ensures in
-    let v = c .before .before .before .before .solve .last .1 .0 in
-    let long = c .before .before .before .before .solve .kept .1 .0 in
+    let v = c .before .before .before .before .solve .last .1 .1 .0 in
+    let long = c .before .before .before .before .solve .kept .1 .1 .0 in
     laws.prefix-room n room none v long
 
 slice-aggregate-copy : tie.Need-slice-aggregate-copy
@@ -91,8 +91,8 @@ slice-aggregate-copy c =
     let most = c .before .before .before .before .before .before .before .before .before .before .before .if1 .left in
     let room = laws.room most (c .before .before .before .before .before .before .before .before .before .before .before .before .before .before .pre) in
     let none = c .before .before .before .before .before .before .before .none-set .ensures in
-    let v = c .before .before .before .before .before .solve .last .1 .0 in
-    let long = c .before .before .before .before .before .solve .kept .1 .0 in
+    let v = c .before .before .before .before .before .solve .last .1 .1 .0 in
+    let long = c .before .before .before .before .before .solve .kept .1 .1 .0 in
     sym (laws.prefix-size n room none v long)
 
 copy-requires : tie.Need-copy-requires
@@ -102,8 +102,8 @@ copy-requires c κs =
     let most = c .before .before .before .before .before .before .before .before .before .before .before .before .if1 .left in
     let room = laws.room most (c .before .before .before .before .before .before .before .before .before .before .before .before .before .before .before .pre) in
     let none = c .before .before .before .before .before .before .before .before .none-set .ensures in
-    let v = c .before .before .before .before .before .before .solve .last .1 .0 in
-    let long = c .before .before .before .before .before .before .solve .kept .1 .0 in
+    let v = c .before .before .before .before .before .before .solve .last .1 .1 .0 in
+    let long = c .before .before .before .before .before .before .solve .kept .1 .1 .0 in
     omega (arith, laws.prefix-size n room none v long, c .before .before .before .before .before .before .before .before .before .if3 .left)
 
 enum-told : tie.Need-enum-told
@@ -126,11 +126,11 @@ returns-4 c =
     let room = laws.room most (c .before .before .before .before .before .before .before .before .before .before .before .before .before .before .before .before .before .before .pre) in
     let fits = laws.list-as k n l most true (sym (c .before .before .before .before .before .before .before .before .before .before .before .before .before .before .list-fits .ensures) ∙ not-false _ (c .before .before .before .before .before .before .before .before .before .before .before .before .before .if2 .left)) in
     let none = c .before .before .before .before .before .before .before .before .before .before .before .none-set .ensures in
-    let v = c .before .before .before .before .before .before .before .before .before .solve .last .1 .0 in
-    let long = c .before .before .before .before .before .before .before .before .before .solve .kept .1 .0 in
+    let v = c .before .before .before .before .before .before .before .before .before .solve .last .1 .1 .0 in
+    let long = c .before .before .before .before .before .before .before .before .before .solve .kept .1 .1 .0 in
     let size = laws.prefix-length n room none in
     let found = laws.is-found l n b (c .before .before .before .before .before .before .before .before .before .solve .result) v size (c .before .before .before .before .before .before .before .before .before .solve .ensures) (c .before .before .before .before .before .before .end .given .1) in
-    let written = copied (take n (c .before .before .before .before .before .before .before .before .before .solve .last .1 .0 ++ drop n (c .before .before .before .before .before .before .before .before .before .before .before .none-set .result))) a (c .before .before .copy .ensures .1) ∙ ap (λ (u : List ℕ). over u a) (laws.prefix-values n room none v long) in
+    let written = copied (take n (c .before .before .before .before .before .before .before .before .before .solve .last .1 .1 .0 ++ drop n (c .before .before .before .before .before .before .before .before .before .before .before .none-set .result))) a (c .before .before .copy .ensures .1) ∙ ap (λ (u : List ℕ). over u a) (laws.prefix-values n room none v long) in
     laws.promised k l n b a (laws.answer-found k l n b a fits (c .before .before .before .before .before .before .before .before .before .before .before .before .if3 .left) found written)
 
 returns-5 : tie.Need-returns-5
@@ -144,7 +144,7 @@ returns-5 c =
     let room = laws.room most (c .before .before .before .before .before .before .before .before .before .before .before .before .pre) in
     let fits = laws.list-as k n l most true (sym (c .before .before .before .before .before .before .before .before .list-fits .ensures) ∙ not-false _ (c .before .before .before .before .before .before .before .if2 .left)) in
     let none = c .before .before .before .before .before .none-set .ensures in
-    let v = c .before .before .before .solve .last .1 .0 in
+    let v = c .before .before .before .solve .last .1 .1 .0 in
     let size = laws.prefix-length n room none in
     let absent = laws.is-absent l n b (c .before .before .before .solve .result) v size (c .before .before .before .solve .ensures) (c .enum-told .given .1) in
     laws.promised k l n b a (laws.answer-absent k l n b a fits (c .before .before .before .before .before .before .if3 .left) absent)
@@ -160,7 +160,7 @@ returns-6 c =
     let room = laws.room most (c .before .before .before .before .before .before .before .before .before .before .before .before .pre) in
     let fits = laws.list-as k n l most true (sym (c .before .before .before .before .before .before .before .before .list-fits .ensures) ∙ not-false _ (c .before .before .before .before .before .before .before .if2 .left)) in
     let none = c .before .before .before .before .before .none-set .ensures in
-    let v = c .before .before .before .solve .last .1 .0 in
+    let v = c .before .before .before .solve .last .1 .1 .0 in
     let size = laws.prefix-length n room none in
     let spent = laws.is-spent l n b (c .before .before .before .solve .result) v size (c .before .before .before .solve .ensures) (c .enum-told2 .given .1) in
     laws.promised k l n b a (laws.answer-spent k l n b a fits (c .before .before .before .before .before .before .if3 .left) spent)

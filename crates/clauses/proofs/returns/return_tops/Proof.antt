@@ -18,14 +18,14 @@ abbrev μ-tops : tie.MeasureT-tops
 tops-holds : tie.Need-tops-holds Inv-tops μ-tops
 tops-holds c = toward _ _ _ _ (search needs) (c .before .before .pre .1)
 
-next-top-requires : tie.Need-next-top-requires Inv-tops μ-tops
-next-top-requires c κs = search needs
+next-state-requires : tie.Need-next-state-requires Inv-tops μ-tops
+next-state-requires c κs = search needs
 
 same-length : tie.Need-same-length Inv-tops μ-tops
 same-length c = c .before .before .before .tops .inv .coming .long
 
 returns : tie.Need-returns Inv-tops μ-tops
-returns c = toward-past (c .before .before .before .tops .inv) (c .before .before .tops-test .taken) (c .before .next-top .ensures) (c .if1 .taken)
+returns c = toward-past (c .before .before .before .tops .inv) (c .before .before .tops-test .taken) (c .before .next-state .ensures) (c .if1 .taken)
 
 cast-return-clause : tie.Need-cast-return-clause Inv-tops μ-tops
 cast-return-clause c = search needs
@@ -33,14 +33,14 @@ cast-return-clause c = search needs
 return-clause-requires : tie.Need-return-clause-requires Inv-tops μ-tops
 return-clause-requires c κs = (c .before .before .before .before .before .before .before .pre .0, c .before .before .before .before .tops .inv .coming .ordered)
 
-later-tops-requires : tie.Need-later-tops-requires Inv-tops μ-tops
-later-tops-requires c κs = search needs
+later-states-requires : tie.Need-later-states-requires Inv-tops μ-tops
+later-states-requires c κs = search needs
 
 tops-less : tie.Need-tops-less Inv-tops μ-tops
-tops-less c = let k = toward-less (c .before .before .before .before .before .before .before .before .tops .inv) (c .before .before .before .before .before .before .before .tops-test .taken) (c .before .before .before .before .before .before .next-top .ensures) in omega (arith, c .later-tops .ensures)
+tops-less c = let k = toward-less (c .before .before .before .before .before .before .before .before .tops .inv) (c .before .before .before .before .before .before .before .tops-test .taken) (c .before .before .before .before .before .before .next-state .ensures) in omega (arith, c .later-states .ensures)
 
 tops-again : tie.Need-tops-again Inv-tops μ-tops
-tops-again c = toward-on (c .before .before .before .before .before .before .before .before .tops .inv) (c .before .before .before .before .before .before .before .tops-test .taken) (c .before .before .before .before .before .before .next-top .ensures) (c .before .before .before .before .before .if1 .left) (c .before .before .before .return-clause .ensures) (c .later-tops .ensures)
+tops-again c = toward-on (c .before .before .before .before .before .before .before .before .tops .inv) (c .before .before .before .before .before .before .before .tops-test .taken) (c .before .before .before .before .before .before .next-state .ensures) (c .before .before .before .before .before .if1 .left) (c .before .before .before .return-clause .ensures) (c .later-states .ensures)
 
 same-length-2 : tie.Need-same-length-2 Inv-tops μ-tops
 same-length-2 c = c .before .tops .inv .coming .long
@@ -55,12 +55,12 @@ return-tops-spec =
     Inv-tops
     μ-tops
     tops-holds
-    next-top-requires
+    next-state-requires
     same-length
     returns
     cast-return-clause
     return-clause-requires
-    later-tops-requires
+    later-states-requires
     tops-less
     tops-again
     same-length-2

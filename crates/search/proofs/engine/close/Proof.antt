@@ -1,0 +1,51 @@
+-- `search::engine::close` meets its contract: the queue is empty, or one of the two ways closes the values. Assumes nothing.
+use borrow.Author.Needs.{needs}
+use native.Mathlib.Omega.{arith}
+use Rattle.cnf.specs.Clauses.{clausesIn}
+use Rattle.pairs.specs.Triangles.{triangles}
+use Rattle.search.proofs.Working.{queue-part, drained-settles}
+use Rattle.search.proofs.Attending.{to-ds}
+use Rattle.search.proofs.Queueing.{queueing, queue-end}
+use Rattle.search.proofs.engine.close.Statement.{statement}
+use Rattle.search.proofs.engine.close.Tie as tie
+
+returns : tie.Need-returns
+returns c = (drained-settles (c .before .before .before .before .before .before .before .pre .1 .0) (queue-end (queueing (c .before .before .before .before .before .before .before .pre .1 .0) (c .before .before .before .before .before .before .before .pre .1 .1 .0 .0)) (omega (arith, c .if1 .taken))), c .before .before .before .before .before .before .before .pre .1 .1 .1 .1)
+
+settle-linked-requires : tie.Need-settle-linked-requires
+settle-linked-requires c κs = (c .before .before .before .before .before .before .before .before .before .before .before .before .pre .0 .linked (c .before .before .before .before .if2 .taken), c .before .before .before .before .before .before .before .before .before .before .before .before .pre .1)
+
+same-length : tie.Need-same-length
+same-length c = search needs
+
+same-length-2 : tie.Need-same-length-2
+same-length-2 c = search needs
+
+returns-2 : tie.Need-returns-2
+returns-2 c = search needs
+
+settle-requires : tie.Need-settle-requires
+settle-requires c κs = (c .before .before .before .before .before .before .before .before .before .before .before .before .pre .0 .all-there, ((c .before .before .before .before .before .before .before .before .before .before .before .before .pre .1 .0, queue-part (triangles (c .before .before .before .before .before .before .before .before .before .before .before .before .args .n)) _ (to-ds (clausesIn (c .before .before .before .before .before .before .before .before .before .before .before .before .args .list .now)) _) (c .before .before .before .before .before .before .before .before .before .before .before .before .pre .1 .1 .0 .0)), c .before .before .before .before .before .before .before .before .before .before .before .before .pre .1 .1 .1))
+
+same-length-3 : tie.Need-same-length-3
+same-length-3 c = search needs
+
+same-length-4 : tie.Need-same-length-4
+same-length-4 c = search needs
+
+returns-3 : tie.Need-returns-3
+returns-3 c = search needs
+
+pub close-spec : {M : Type 1} → statement M
+close-spec =
+    tie.close
+    (tie.spec
+    returns
+    settle-linked-requires
+    same-length
+    same-length-2
+    returns-2
+    settle-requires
+    same-length-3
+    same-length-4
+    returns-3)

@@ -1,0 +1,71 @@
+-- `search::engine::turns_any` meets its contract. Assumes nothing.
+use borrow.Author.Needs.{needs}
+use native.Mathlib.Omega.{arith}
+use Rattle.search.proofs.Linking.{unchained}
+use Rattle.search.proofs.engine.turns_any.Statement.{statement}
+use Rattle.search.proofs.engine.turns_any.Tie as tie
+
+turns-short-requires : tie.Need-turns-short-requires
+turns-short-requires c κs = ((c .before .before .before .before .before .before .before .before .before .pre .0, c .before .before .before .before .if1 .taken), c .before .before .before .before .before .before .before .before .before .pre .1)
+
+same-length : tie.Need-same-length
+same-length c = search needs
+
+same-length-2 : tie.Need-same-length-2
+same-length-2 c = search needs
+
+returns : tie.Need-returns
+returns c = search needs
+
+turns-long-requires : tie.Need-turns-long-requires
+turns-long-requires c κs = ((c .before .before .before .before .before .before .before .before .before .before .pre .0, c .before .before .before .before .if2 .taken), c .before .before .before .before .before .before .before .before .before .before .pre .1)
+
+same-length-3 : tie.Need-same-length-3
+same-length-3 c = search needs
+
+same-length-4 : tie.Need-same-length-4
+same-length-4 c = search needs
+
+returns-2 : tie.Need-returns-2
+returns-2 c = search needs
+
+no-heads-requires : tie.Need-no-heads-requires
+no-heads-requires c κs = search needs
+
+slice-aggregate-turns : tie.Need-slice-aggregate-turns
+slice-aggregate-turns c = search needs
+
+slice-aggregate-turns-2 : tie.Need-slice-aggregate-turns-2
+slice-aggregate-turns-2 c = search needs
+
+turns-requires : tie.Need-turns-requires
+turns-requires c κs = (unchained (c .before .before .before .before .before .before .before .before .before .before .before .before .before .before .pre .0) (omega (arith, c .before .before .before .before .before .before .before .before .if2 .left)), c .before .before .before .before .before .before .before .before .before .before .before .before .before .before .pre .1)
+
+same-length-5 : tie.Need-same-length-5
+same-length-5 c = search needs
+
+same-length-6 : tie.Need-same-length-6
+same-length-6 c = search needs
+
+returns-3 : tie.Need-returns-3
+returns-3 c = search needs
+
+pub turns-any-spec : {M : Type 1} → statement M
+turns-any-spec =
+    tie.close
+    (tie.spec
+    turns-short-requires
+    same-length
+    same-length-2
+    returns
+    turns-long-requires
+    same-length-3
+    same-length-4
+    returns-2
+    no-heads-requires
+    slice-aggregate-turns
+    slice-aggregate-turns-2
+    turns-requires
+    same-length-5
+    same-length-6
+    returns-3)

@@ -1,0 +1,353 @@
+// The search over clauses that fit: the values are closed, and then a guess is undone or made, turn by turn.
+ghost use mathlib.Core.Path.{_≡_};
+ghost use mathlib.Core.Bool.{true};
+ghost use Prim.Native.Nat.{_≤_};
+ghost use lib.ListN.{length};
+ghost use Rattle.cnf.specs.Clauses.{whole};
+ghost use Rattle.cnf.specs.Search.{searchFrom};
+ghost use Rattle.pairs.specs.Entries.{PairTable};
+ghost use Rattle.search.specs.Chains.{LinkRoom, Chained};
+ghost use Rattle.search.specs.Conclusions.{withTriangles};
+ghost use Rattle.search.specs.Rows.{Rows};
+ghost use Rattle.search.specs.Trail.{Ready, Queue, Settles};
+ghost use Rattle.search.specs.Turns.{NextUnset, Fresh, Rested, outcomeOf};
+use super::chains::link;
+use super::chains::no_heads;
+use super::chains::settle_linked;
+use super::fits::wide;
+use super::rows::force;
+use super::rows::own_rows;
+use super::settle::Reached;
+use super::settle::settle;
+use super::undo::undo;
+use pairs::pair_table;
+
+// How the search ends, with the guesses made.
+pub enum Ending {
+    Found(u64),
+    Absent(u64),
+    Spent(u64),
+}
+
+// Room for 780 places.
+fn places() -> [u16; 780]
+    ensures { λ r. ⌜ length r ≡ 780 ⌝ }
+{
+    [0u16; 780]
+}
+
+// The first unset variable from `low` on, or the number of variables.
+fn next_unset(values: &[u8], low: usize) -> usize
+    requires { ⌜ low ≤ length (now values) ⌝ }
+    ensures { λ r. ⌜ NextUnset (now (values .entry)) low r ⌝ }
+{
+    let mut x = low;
+    'variables: while x < values.len() {
+        if values[x] == 2 {
+            return x;
+        }
+        x += 1;
+    }
+    x
+}
+
+// Closes the values, where clauses wait for the trail's variables from `from` on: by chains where the list is linked, else by passes.
+fn close(
+    list: &[u16],
+    n: u8,
+    table: &[u16],
+    heads: &[u16; 1560],
+    next: &[u16],
+    owner: &[u16],
+    values: &mut [u8],
+    trail: &mut [u16],
+    joined: &mut [u64; 40],
+    apart: &mut [u64; 40],
+    from: usize,
+    start: usize,
+) -> Reached
+    requires { ⌜ Chained (now list) (now heads) (now next) (now owner) ⌝ }
+    requires { ⌜ Ready (withTriangles (now list) n) (now values) (now trail) start ⌝ }
+    requires { ⌜ Queue (withTriangles (now list) n) (now values) (now trail) from start × (length (now values) ≤ 780) ⌝ }
+    requires { ⌜ PairTable (now table) × Rows n (now values) (now joined) (now apart) ⌝ }
+    ensures { λ r. ⌜ Settles (withTriangles (now (list .entry)) n) (now (values .entry)) (now (trail .entry)) start (now (values .exit)) (now (trail .exit)) (r .broken) (r .count) × Rows n (now (values .exit)) (now (joined .exit)) (now (apart .exit)) ⌝ }
+{
+    if from == start {
+        return Reached {
+            broken: false,
+            count: start,
+        };
+    }
+    if list.len() <= next.len() {
+        return settle_linked(
+            list,
+            n,
+            table,
+            heads,
+            next,
+            owner,
+            values,
+            trail,
+            joined,
+            apart,
+            from,
+            start,
+        );
+    }
+    settle(list, n, table, values, trail, joined, apart, from, start)
+}
+
+// Closes the values, then undoes the latest guess or makes one, until the search ends. The trail has the variables that are set, in order;
+// `marks` has the place on it of each guess that stands; every variable below `low` is set.
+fn turns(
+    list: &[u16],
+    n: u8,
+    table: &[u16],
+    heads: &[u16; 1560],
+    next: &[u16],
+    owner: &[u16],
+    values: &mut [u8],
+    trail: &mut [u16],
+    joined: &mut [u64; 40],
+    apart: &mut [u64; 40],
+    budget: u64,
+    start: usize,
+) -> Ending
+    requires { ⌜ Chained (now list) (now heads) (now next) (now owner) ⌝ }
+    requires { ⌜ Rested (withTriangles (now list) n) (length (now values)) (now values) (now trail) start ⌝ }
+    requires { ⌜ PairTable (now table) × Rows n (now values) (now joined) (now apart) ⌝ }
+    ensures { λ r. ⌜ outcomeOf r (now (values .exit)) ≡ searchFrom (withTriangles (now (list .entry)) n) (length (now (values .entry))) budget ⌝ }
+{
+    let mut marks = places();
+    let mut at = start;
+    let mut count = start;
+    let mut depth: usize = 0;
+    let mut made: u64 = 0;
+    let mut low: usize = 0;
+    'turns: loop {
+        let r = close(
+            list,
+            n,
+            table,
+            heads,
+            next,
+            owner,
+            values,
+            trail,
+            joined,
+            apart,
+            at,
+            count,
+        );
+        if r.broken {
+            if depth == 0 {
+                return Ending::Absent(made);
+            }
+            depth -= 1;
+            at = wide(marks[depth]);
+            low = undo(n, table, values, trail, joined, apart, at, r.count) + 1;
+            count = at + 1;
+            continue 'turns;
+        }
+        let x = next_unset(values, low);
+        if x == values.len() {
+            return Ending::Found(made);
+        }
+        if made == budget {
+            return Ending::Spent(made);
+        }
+        at = r.count;
+        marks[depth] = at as u16;
+        depth += 1;
+        made += 1;
+        // literal 2x says that x is true
+        count = force(n, table, (2 * x) as u16, values, trail, joined, apart, at);
+        low = x + 1;
+    }
+}
+
+// The turns over a list with a chain for each literal, made in the room that is lent.
+fn turns_linked(
+    list: &[u16],
+    n: u8,
+    table: &[u16],
+    next: &mut [u16],
+    owner: &mut [u16],
+    values: &mut [u8],
+    trail: &mut [u16],
+    joined: &mut [u64; 40],
+    apart: &mut [u64; 40],
+    budget: u64,
+    start: usize,
+) -> Ending
+    requires { ⌜ LinkRoom (now list) (now next) (now owner) ⌝ }
+    requires { ⌜ Rested (withTriangles (now list) n) (length (now values)) (now values) (now trail) start ⌝ }
+    requires { ⌜ PairTable (now table) × Rows n (now values) (now joined) (now apart) ⌝ }
+    ensures { λ r. ⌜ outcomeOf r (now (values .exit)) ≡ searchFrom (withTriangles (now (list .entry)) n) (length (now (values .entry))) budget ⌝ }
+{
+    let mut heads = no_heads();
+    link(list, &mut heads, next, owner);
+    turns(
+        list,
+        n,
+        table,
+        &heads,
+        next,
+        owner,
+        values,
+        trail,
+        joined,
+        apart,
+        budget,
+        start,
+    )
+}
+
+// The same in room for a short list, which takes less time to clear.
+fn turns_short(
+    list: &[u16],
+    n: u8,
+    table: &[u16],
+    values: &mut [u8],
+    trail: &mut [u16],
+    joined: &mut [u64; 40],
+    apart: &mut [u64; 40],
+    budget: u64,
+    start: usize,
+) -> Ending
+    requires { ⌜ (whole (now list) ≡ true) × (length (now list) ≤ 4096) ⌝ }
+    requires { ⌜ Rested (withTriangles (now list) n) (length (now values)) (now values) (now trail) start ⌝ }
+    requires { ⌜ PairTable (now table) × Rows n (now values) (now joined) (now apart) ⌝ }
+    ensures { λ r. ⌜ outcomeOf r (now (values .exit)) ≡ searchFrom (withTriangles (now (list .entry)) n) (length (now (values .entry))) budget ⌝ }
+{
+    let mut next = [0u16; 4096];
+    let mut owner = [0u16; 4096];
+    turns_linked(
+        list,
+        n,
+        table,
+        &mut next,
+        &mut owner,
+        values,
+        trail,
+        joined,
+        apart,
+        budget,
+        start,
+    )
+}
+
+// The same in room for a list of 32,768 words.
+fn turns_long(
+    list: &[u16],
+    n: u8,
+    table: &[u16],
+    values: &mut [u8],
+    trail: &mut [u16],
+    joined: &mut [u64; 40],
+    apart: &mut [u64; 40],
+    budget: u64,
+    start: usize,
+) -> Ending
+    requires { ⌜ (whole (now list) ≡ true) × (length (now list) ≤ 32768) ⌝ }
+    requires { ⌜ Rested (withTriangles (now list) n) (length (now values)) (now values) (now trail) start ⌝ }
+    requires { ⌜ PairTable (now table) × Rows n (now values) (now joined) (now apart) ⌝ }
+    ensures { λ r. ⌜ outcomeOf r (now (values .exit)) ≡ searchFrom (withTriangles (now (list .entry)) n) (length (now (values .entry))) budget ⌝ }
+{
+    let mut next = [0u16; 32768];
+    let mut owner = [0u16; 32768];
+    turns_linked(
+        list,
+        n,
+        table,
+        &mut next,
+        &mut owner,
+        values,
+        trail,
+        joined,
+        apart,
+        budget,
+        start,
+    )
+}
+
+// The turns by the length of the list: one over 32,768 words is not linked.
+fn turns_any(
+    list: &[u16],
+    n: u8,
+    table: &[u16],
+    values: &mut [u8],
+    trail: &mut [u16],
+    joined: &mut [u64; 40],
+    apart: &mut [u64; 40],
+    budget: u64,
+    start: usize,
+) -> Ending
+    requires { ⌜ whole (now list) ≡ true ⌝ }
+    requires { ⌜ Rested (withTriangles (now list) n) (length (now values)) (now values) (now trail) start ⌝ }
+    requires { ⌜ PairTable (now table) × Rows n (now values) (now joined) (now apart) ⌝ }
+    ensures { λ r. ⌜ outcomeOf r (now (values .exit)) ≡ searchFrom (withTriangles (now (list .entry)) n) (length (now (values .entry))) budget ⌝ }
+{
+    if list.len() <= 4096 {
+        return turns_short(list, n, table, values, trail, joined, apart, budget, start);
+    }
+    if list.len() <= 32768 {
+        return turns_long(list, n, table, values, trail, joined, apart, budget, start);
+    }
+    let heads = no_heads();
+    turns(
+        list,
+        n,
+        table,
+        &heads,
+        &list[..0],
+        &list[..0],
+        values,
+        trail,
+        joined,
+        apart,
+        budget,
+        start,
+    )
+}
+
+// Closes the values by passes; where a guess is due, links the clauses and goes on. Group 2 of n states is not in the list: its conclusions are
+// drawn from the words of joined and apart states. With n = 0 there is no group 2.
+pub fn solve(list: &[u16], n: u8, values: &mut [u8], budget: u64) -> Ending
+    requires { ⌜ Fresh (now list) n (now values) ⌝ }
+    ensures { λ r. ⌜ outcomeOf r (now (values .exit)) ≡ searchFrom (withTriangles (now (list .entry)) n) (length (now (values .entry))) budget ⌝ }
+{
+    let table = pair_table();
+    let mut joined = own_rows();
+    let mut apart = [0u64; 40];
+    let mut trail = places();
+    let r = settle(
+        list,
+        n,
+        &table,
+        values,
+        &mut trail,
+        &mut joined,
+        &mut apart,
+        0,
+        0,
+    );
+    if r.broken {
+        return Ending::Absent(0);
+    }
+    if r.count == values.len() {
+        return Ending::Found(0);
+    }
+    let start = r.count;
+    turns_any(
+        list,
+        n,
+        &table,
+        values,
+        &mut trail,
+        &mut joined,
+        &mut apart,
+        budget,
+        start,
+    )
+}
