@@ -3,7 +3,7 @@
  *
  * Each function returns the refusal's number, or 0. Where it is 0 and `values` has room for all the answer's values, they are its first
  * elements. Buffers are written as the operations say; a refused call leaves them as they were, but for the clause list of
- * basilvault_reduce with 13 and 21. Nothing has to hold before a call but that each pointer is valid for its length. */
+ * basilvault_reduce with 21. Nothing has to hold before a call but that each pointer is valid for its length. */
 #ifndef BASILVAULT_H
 #define BASILVAULT_H
 
@@ -34,7 +34,8 @@ uint32_t basilvault_check(const uint8_t *table, size_t table_len, const uint8_t 
 uint32_t basilvault_quotient(const uint8_t *table, size_t table_len, const uint8_t *map, size_t map_len, uint8_t *out, size_t out_len,
                              uint64_t *values, size_t values_len);
 
-/* Four values: classes, guesses, clause words, quotient length. */
+/* Seven values: classes, guesses, clause words, quotient length, joined pairs, their ceiling, and 1 where the budget was spent, else 0.
+ * A spent budget is no refusal: the best map found is delivered. */
 uint32_t basilvault_reduce(const uint8_t *table, size_t table_len, uint64_t budget, uint16_t *list, size_t list_len, uint8_t *map,
                            size_t map_len, uint8_t *out, size_t out_len, uint64_t *values, size_t values_len);
 

@@ -92,9 +92,9 @@ pub fn quotient(table: &[u8], map: &[u8], out: &mut [u8]) -> Result<[u64; 1], u8
     answer(k, v)
 }
 
-/// Classes, guesses, clause words, quotient length.
-pub fn reduce(table: &[u8], budget: u64, list: &mut [u16], map: &mut [u8], out: &mut [u8]) -> Result<[u64; 4], u8> {
-    let mut v = [0u64; 4];
+/// Classes, guesses, clause words, quotient length, joined pairs, ceiling, and 1 where the budget was spent.
+pub fn reduce(table: &[u8], budget: u64, list: &mut [u16], map: &mut [u8], out: &mut [u8]) -> Result<[u64; 7], u8> {
+    let mut v = [0u64; 7];
     let k = unsafe {
         basilvault_reduce(
             table.as_ptr(),
@@ -156,9 +156,9 @@ pub mod within {
         answer(k, v)
     }
 
-    /// Classes, guesses, clause words, quotient length.
-    pub fn reduce(l: Limits, table: &[u8], budget: u64, list: &mut [u16], map: &mut [u8], out: &mut [u8]) -> Result<[u64; 4], u8> {
-        let mut v = [0u64; 4];
+    /// Classes, guesses, clause words, quotient length, joined pairs, ceiling, and 1 where the budget was spent.
+    pub fn reduce(l: Limits, table: &[u8], budget: u64, list: &mut [u16], map: &mut [u8], out: &mut [u8]) -> Result<[u64; 7], u8> {
+        let mut v = [0u64; 7];
         let k = unsafe {
             super::basilvault_reduce_within(l.states, l.symbols, table.as_ptr(),
                 table.len(),

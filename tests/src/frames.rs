@@ -1,14 +1,14 @@
 //! The cases that the program `cases` reads and the lines that it must write. Each method adds one case of its operation, with the plain
 //! implementation's answer, and hands that answer back.
 
-use crate::reference::{self, Limits};
+use crate::reference::{self, Delivery, Limits};
 use std::fmt::Write;
 
 /// What every buffer is filled with beforehand.
 const FILL: u8 = 7;
 
-/// A reduction's answer: class count, guesses, clause words and quotient length.
-pub type Reduced = Result<(usize, u64, usize, usize), u8>;
+/// A reduction's answer.
+pub type Reduced = Result<Delivery, u8>;
 
 /// The lengths of the buffers that a reduction is lent.
 #[derive(Clone, Copy)]
@@ -147,9 +147,9 @@ impl Cases {
         let (mut list, mut map, mut out) = (vec![FILL as u16; room.list], vec![FILL; room.map], vec![FILL; room.out]);
         let answer = reference::reduce(self.limits, b, budget, &mut list, &mut map, &mut out);
         assert!(answer.is_ok() || map.iter().chain(&out).all(|&x| x == FILL), "outputs keep their bytes");
-        let listed = matches!(answer, Ok(_) | Err(13 | 21));
-        assert!(listed || list.iter().all(|&x| x == FILL as u16), "the list is written with 13, 21 and a delivery only");
-        self.line("reduce", answer.map(|(classes, guesses, w, length)| vec![classes as u64, guesses, w as u64, length as u64]));
+        let listed = matches!(answer, Ok(_) | Err(21));
+        assert!(listed || list.iter().all(|&x| x == FILL as u16), "the list is written with 21 and a delivery only");
+        self.line("reduce", answer.map(|x| x.values().to_vec()));
         self.buffer(&longs(&list));
         self.buffer(&longs(&map));
         self.buffer(&longs(&out));

@@ -6,7 +6,7 @@ mod random;
 mod reference;
 
 use random::Random;
-use reference::{Limits, Table, LARGEST, STANDARD};
+use reference::{Delivery, Limits, Table, LARGEST, STANDARD};
 use std::io::Write;
 use std::process::{Command, Stdio};
 
@@ -20,14 +20,16 @@ impl Counts {
 }
 
 /// The numbers that each operation can give, 0 for none: a run of many cases must have met each of them.
-const NUMBERS: [(&str, &[u8]); 9] = [
+const NUMBERS: [(&str, &[u8]); 11] = [
     ("read", &[0, 39, 1, 2, 3, 4, 5, 6, 7, 8]),
     ("tops", &[0, 39, 2, 3, 5, 7, 8]),
     ("clauses", &[0, 39, 3, 5, 7, 8, 10]),
     ("search", &[0, 39, 11, 12, 13, 14]),
     ("check", &[0, 39, 3, 7, 8, 15, 16, 17, 18, 19, 20]),
     ("quotient", &[0, 39, 3, 7, 8, 15, 16, 17, 18, 19, 20, 21]),
-    ("reduce", &[0, 39, 3, 7, 8, 10, 13, 21, 22]),
+    ("reduce", &[0, 39, 3, 7, 8, 10, 21, 22]),
+    ("reduce, spent", &[0]),
+    ("reduce, spent with pairs joined", &[0]),
     ("words of input and quotient", &[0]),
     ("every map of a small table", &[0]),
 ];
@@ -151,11 +153,18 @@ fn compare_reduce(r: &mut Random, l: Limits, b: &[u8], c: &mut Counts) {
     let mut out = vec![0x44u8; if ample { b.len() + r.below(20) } else { around(r, b.len()) }];
     let (mut list2, mut map2, mut out2) = (list.clone(), map.clone(), out.clone());
     let a = if l == STANDARD { capi::reduce(b, budget, &mut list, &mut map, &mut out) } else { capi::within::reduce(l, b, budget, &mut list, &mut map, &mut out) };
-    let e = reference::reduce(l, b, budget, &mut list2, &mut map2, &mut out2).map(|(x, g, w, l)| [x as u64, g, w as u64, l as u64]);
-    same("reduce", b, (a, list, &map, &out), (e, list2, &map2, &out2));
+    let e = reference::reduce(l, b, budget, &mut list2, &mut map2, &mut out2);
+    same("reduce", b, (a, list, &map, &out), (e.map(|x| x.values()), list2, &map2, &out2));
     c.add("reduce", e);
     if let (Ok(v), Ok((t, _))) = (e, parsed) {
-        let small = reference::parse(l, &out[..v[3] as usize]).expect("the quotient is readable").0;
+        if v.spent {
+            assert_eq!(v.guesses, budget, "spent means that the guesses made equal the budget");
+            c.add("reduce, spent", Ok(()));
+        }
+        if v.spent && v.joined > 0 {
+            c.add("reduce, spent with pairs joined", Ok(()));
+        }
+        let small = reference::parse(l, &out[..v.length]).expect("the quotient is readable").0;
         if t.count() <= 8 {
             compare_words(r, &t, &small, c);
         }
@@ -208,7 +217,7 @@ fn joins_more(fine: &[u8], coarse: &[u8]) -> bool {
     pairs().all(|(p, q)| fine[p] != fine[q] || coarse[p] == coarse[q]) && pairs().any(|(p, q)| fine[p] != fine[q] && coarse[p] == coarse[q])
 }
 
-/// Small tables: every map against Definition 1, and that none coarser than the delivered one meets it.
+/// Small tables: every map against Definition 1; that none coarser than the delivered one meets it, but where the budget is spent; and the ceiling.
 fn compare_all_maps(t: &Table, c: &mut Counts) {
     let b = t.bytes();
     let maps = all_maps(t.count());
@@ -222,12 +231,17 @@ fn compare_all_maps(t: &Table, c: &mut Counts) {
         same("check of every map", &b, capi::check(&b, m), e);
         c.add("check", e);
     }
-    let (mut list, mut map, mut out) = (vec![0u16; 40_000], vec![0u8; 40], vec![0u8; b.len()]);
-    if capi::reduce(&b, u64::MAX, &mut list, &mut map, &mut out).is_ok() {
-        let found = &map[..t.count()];
-        assert!(met.iter().any(|m| &m[..] == found), "the delivered map meets Definition 1");
-        assert!(!met.iter().any(|m| joins_more(found, m)), "none coarser meets it: {found:?} of {b:02x?}");
-        c.add("every map of a small table", Ok(()));
+    let most = met.iter().map(|m| reference::joined_pairs(m) as u64).max().unwrap();
+    for budget in [0, 1, 2, 3, u64::MAX] {
+        let (mut list, mut map, mut out) = (vec![0u16; 40_000], vec![0u8; 40], vec![0u8; b.len()]);
+        if let Ok([_, _, _, _, joined, ceiling, spent]) = capi::reduce(&b, budget, &mut list, &mut map, &mut out) {
+            let found = &map[..t.count()];
+            assert!(met.iter().any(|m| &m[..] == found), "the delivered map meets Definition 1");
+            assert_eq!(reference::joined_pairs(found) as u64, joined);
+            assert!(most <= ceiling, "no map that meets it joins more pairs than {ceiling}: {b:02x?}");
+            assert!(spent == 1 || !met.iter().any(|m| joins_more(found, m)), "none coarser meets it: {found:?} of {b:02x?}");
+            c.add("every map of a small table", Ok(()));
+        }
     }
 }
 
@@ -236,11 +250,12 @@ fn printed(b: &[u8]) -> String {
     let (mut list, mut map, mut out) = (vec![0u16; 32_768], vec![0u8; 40], vec![0u8; 22_644]);
     match reference::reduce(LARGEST, b, 100_000, &mut list, &mut map, &mut out) {
         Err(k) => format!("refused {k}\n"),
-        Ok((classes, guesses, words, length)) => {
+        Ok(Delivery { classes, guesses, words, length, joined, ceiling, spent }) => {
             let n = reference::parse(LARGEST, b).unwrap().0.count();
+            let spent = if spent { " spent" } else { "" };
             let map: String = map[..n].iter().map(|x| format!(" {x}")).collect();
             let table: String = out[..length].iter().map(|x| format!(" {x:02x}")).collect();
-            format!("states {n} classes {classes} guesses {guesses} words {words}\nmap{map}\ntable{table}\n")
+            format!("states {n} classes {classes} guesses {guesses} words {words} joined {joined} of {ceiling}{spent}\nmap{map}\ntable{table}\n")
         }
     }
 }
@@ -264,6 +279,22 @@ fn compare_program() {
         same("the program", b, String::from_utf8(out).unwrap(), printed(b));
     }
     println!("{:7} files reduced by the program", files.len());
+}
+
+/// Tables that take thousands of guesses, each with budgets that are spent.
+fn compare_hard(c: &mut Counts) {
+    for (name, budgets) in [("hard-12", &[0, 3, 40, 700, 2180, 2181][..]), ("hard-16", &[25, 300][..]), ("hard-24", &[60][..])] {
+        let path = format!("{}/../tables/{name}.bin", env!("CARGO_MANIFEST_DIR"));
+        let b = std::fs::read(&path).expect("the table is there");
+        for &budget in budgets {
+            let (mut list, mut map, mut out) = (vec![3u16; 40_000], vec![5u8; 24], vec![9u8; b.len()]);
+            let (mut list2, mut map2, mut out2) = (list.clone(), map.clone(), out.clone());
+            let a = capi::reduce(&b, budget, &mut list, &mut map, &mut out);
+            let e = reference::reduce(STANDARD, &b, budget, &mut list2, &mut map2, &mut out2);
+            same(name, &b, (a, list, map, out), (e.map(|x| x.values()), list2, map2, out2));
+            c.add("reduce of a hard table", e);
+        }
+    }
 }
 
 /// A values buffer without room for every value keeps its content, and the number is the same.
@@ -346,6 +377,7 @@ fn main() {
             }
         }
     }
+    compare_hard(&mut c);
     compare_program();
     for ((name, number), k) in &c.0 {
         println!("{k:7} {name}: {number}");

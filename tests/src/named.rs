@@ -134,6 +134,28 @@ pub fn not_transitive() -> Table {
     }
 }
 
+/// As the second, with 4 a copy of 3: reduce joins 1 with 2 and 3 with 4, two pairs; 2, 3 and 4 would be three, in as many classes.
+pub fn fewer_pairs() -> Table {
+    Table {
+        symbols: vec![0, 1, 2, 1],
+        states: vec![1, 0, 0, 0, 0, 2],
+        internals: vec![[0, 0, 2], [1, 0, 1], [2, 0, 2], [3, 0, 3], [4, 0, 4]],
+        calls: vec![[0, 1, 1], [0, 3, 3], [0, 3, 4]],
+        returns: vec![[1, 2, 0, 5]],
+    }
+}
+
+/// Only 1 and 2, 1 and 3, and 2 and 4 may be joined: reduce joins 1 with 2, and has one class more than 1 with 3 and 2 with 4.
+pub fn more_classes() -> Table {
+    Table {
+        symbols: vec![0, 0, 1, 1, 2],
+        states: vec![1, 0, 0, 0, 0, 0, 0, 2],
+        internals: vec![[0, 0, 5], [5, 1, 6]],
+        calls: vec![[0, 2, 1], [0, 3, 4], [5, 2, 2], [5, 3, 3], [6, 2, 3], [6, 3, 4]],
+        returns: vec![[1, 4, 0, 7], [2, 4, 5, 7], [3, 4, 6, 7]],
+    }
+}
+
 /// The third: joining 1 and 2 joins the stack symbols that tell the two returns of 3 apart.
 pub fn joined_stack_symbols() -> Table {
     Table {

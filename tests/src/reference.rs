@@ -377,7 +377,27 @@ fn clauses_in(words: &[u16]) -> Option<Vec<Vec<u16>>> {
 pub enum Outcome {
     Solved(Vec<bool>, u64),
     None,
-    Spent,
+    Spent(u64),
+}
+
+/// What a search has tried at its rests: the satisfying trial with the most pairs, the first among equals, and the ceiling.
+pub struct Trials {
+    pub held: Vec<bool>,
+    pub ceiling: Option<usize>,
+}
+
+impl Trials {
+    /// A rest: the variables true so far, with all others false, are tried against the list; the first one gives the ceiling.
+    fn rest(&mut self, list: &[Vec<u16>], values: &[Option<bool>]) {
+        let trial: Vec<bool> = values.iter().map(|v| *v == Some(true)).collect();
+        let satisfies = list.iter().all(|c| c.iter().any(|&l| trial[(l / 2) as usize] == (l % 2 == 0)));
+        let pairs = |a: &[bool]| a.iter().filter(|&&x| x).count();
+        if satisfies && pairs(&trial) > pairs(&self.held) {
+            self.held = trial;
+        }
+        let not_false = values.iter().filter(|v| **v != Some(false)).count();
+        self.ceiling.get_or_insert(not_false);
+    }
 }
 
 /// What a literal is worth: true, false or unset.
@@ -396,6 +416,11 @@ fn forces(values: &[Option<bool>], clause: &[u16]) -> Option<u16> {
 
 /// The search, one step of (a) to (e) after the other, with a copy of the values at each guess.
 pub fn run_search(list: &[Vec<u16>], variables: usize, budget: u64) -> Outcome {
+    search_trying(list, variables, budget, None)
+}
+
+/// The same, with its trials where they are asked for.
+pub fn search_trying(list: &[Vec<u16>], variables: usize, budget: u64, mut trials: Option<&mut Trials>) -> Outcome {
     let mut values: Vec<Option<bool>> = vec![None; variables];
     let mut guesses: Vec<(usize, Vec<Option<bool>>)> = Vec::new();
     let mut made = 0u64;
@@ -414,11 +439,14 @@ pub fn run_search(list: &[Vec<u16>], variables: usize, budget: u64) -> Outcome {
             values[(l / 2) as usize] = Some(l % 2 == 0);
             continue;
         }
+        if let Some(t) = trials.as_mut() {
+            t.rest(list, &values);
+        }
         match values.iter().position(|v| v.is_none()) {
             None => return Outcome::Solved(values.iter().map(|v| v.unwrap()).collect(), made),
             Some(x) => {
                 if made == budget {
-                    return Outcome::Spent;
+                    return Outcome::Spent(made);
                 }
                 guesses.push((x, values.clone()));
                 values[x] = Some(true);
@@ -449,7 +477,7 @@ pub fn search(l: Limits, list: &[u16], variables: usize, budget: u64, answer: &m
     }
     match run_search(&all, variables, budget) {
         Outcome::None => Err(12),
-        Outcome::Spent => Err(13),
+        Outcome::Spent(_) => Err(13),
         Outcome::Solved(values, made) => {
             for (x, v) in values.iter().enumerate() {
                 answer[x] = *v as u8;
@@ -578,8 +606,33 @@ pub fn quotient(l: Limits, b: &[u8], map: &[u8], out: &mut [u8]) -> Result<usize
     Ok(bytes.len())
 }
 
-/// The operation reduce: class count, guesses, clause words and quotient length.
-pub fn reduce(l: Limits, b: &[u8], budget: u64, list: &mut [u16], map: &mut [u8], out: &mut [u8]) -> Result<(usize, u64, usize, usize), u8> {
+/// What reduce answers.
+#[derive(Clone, Copy, Debug, PartialEq, Eq)]
+pub struct Delivery {
+    pub classes: usize,
+    pub guesses: u64,
+    pub words: usize,
+    pub length: usize,
+    pub joined: usize,
+    pub ceiling: usize,
+    pub spent: bool,
+}
+
+impl Delivery {
+    /// As the C interface gives it.
+    pub fn values(&self) -> [u64; 7] {
+        let [classes, words, length, joined, ceiling] = [self.classes, self.words, self.length, self.joined, self.ceiling].map(|x| x as u64);
+        [classes, self.guesses, words, length, joined, ceiling, self.spent as u64]
+    }
+}
+
+/// How many pairs of states a map joins.
+pub fn joined_pairs(map: &[u8]) -> usize {
+    (0..map.len()).map(|q| (0..q).filter(|&p| map[p] == map[q]).count()).sum()
+}
+
+/// The operation reduce.
+pub fn reduce(l: Limits, b: &[u8], budget: u64, list: &mut [u16], map: &mut [u8], out: &mut [u8]) -> Result<Delivery, u8> {
     let (t, _) = parse(l, b)?;
     let n = t.count();
     if map.len() < n {
@@ -590,12 +643,17 @@ pub fn reduce(l: Limits, b: &[u8], budget: u64, list: &mut [u16], map: &mut [u8]
         return Err(10);
     }
     list[..words.len()].copy_from_slice(&words);
-    let (values, made) = match run_search(&clause_list(&t), n * (n - 1) / 2, budget) {
-        Outcome::Spent => return Err(13),
+    let variables = n * (n - 1) / 2;
+    let mut trials = Trials { held: vec![false; variables], ceiling: None };
+    let (spent, guesses) = match search_trying(&clause_list(&t), variables, budget, Some(&mut trials)) {
+        Outcome::Spent(made) => (true, made),
         Outcome::None => unreachable!("the list of a table is satisfiable"),
-        Outcome::Solved(values, made) => (values, made),
+        Outcome::Solved(values, made) => {
+            assert!(values == trials.held, "a solved search holds its assignment");
+            (false, made)
+        }
     };
-    let found = map_of(&values, n);
+    let found = map_of(&trials.held, n);
     let classes = check(l, b, &found).expect("the check accepts the map");
     let bytes = quotient_table(&t, &found).bytes();
     if bytes.len() > out.len() {
@@ -603,7 +661,8 @@ pub fn reduce(l: Limits, b: &[u8], budget: u64, list: &mut [u16], map: &mut [u8]
     }
     map[..n].copy_from_slice(&found);
     out[..bytes.len()].copy_from_slice(&bytes);
-    Ok((classes, made, words.len(), bytes.len()))
+    let ceiling = trials.ceiling.expect("a search that ends so has rested");
+    Ok(Delivery { classes, guesses, words: words.len(), length: bytes.len(), joined: joined_pairs(&found), ceiling, spent })
 }
 
 /// Whether a run over the whole word ends in an accepting state: all configurations at once.

@@ -24,8 +24,8 @@ fn map_of(values: &[u8], n: usize) -> [u8; 40] {
     map
 }
 
-/// Classes, guesses, clause words, quotient length; the list, the map and the quotient.
-pub fn reduce(l: Limits, bytes: &[u8], budget: u64, list: &mut [u16], map: &mut [u8], out: &mut [u8]) -> Result<[u64; 4], u8> {
+/// Classes, guesses, clause words, quotient length, joined pairs, ceiling, spent; the list, the map and the quotient.
+pub fn reduce(l: Limits, bytes: &[u8], budget: u64, list: &mut [u16], map: &mut [u8], out: &mut [u8]) -> Result<[u64; 7], u8> {
     let (t, _) = parse(l, bytes)?;
     let n = t.count();
     if map.len() < n {
@@ -33,9 +33,10 @@ pub fn reduce(l: Limits, bytes: &[u8], budget: u64, list: &mut [u16], map: &mut 
     }
     let tops = words_of(&t);
     let (_, words) = list_of(&t, &tops, list, false)?;
-    let (values, guesses) = solve(&list[..words], n, n * (n - 1) / 2, budget)?;
-    let found = map_of(&values, n);
+    let end = solve(&list[..words], n, n * (n - 1) / 2, budget)?;
+    let found = map_of(&end.values, n);
     let (classes, length) = quotient_read(&t, &tops, &found[..n], out)?;
     map[..n].copy_from_slice(&found[..n]);
-    Ok([classes as u64, guesses, words as u64, length as u64])
+    let joined = end.values[..n * (n - 1) / 2].iter().filter(|&&x| x == 1).count();
+    Ok([classes as u64, end.guesses, words as u64, length as u64, joined as u64, end.ceiling as u64, end.spent as u64])
 }

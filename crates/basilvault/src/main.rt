@@ -35,11 +35,25 @@ fn wide(x: u8) -> u64
     x as u64
 }
 
-fn say_counts(states: usize, classes: usize, guesses: u64, words: usize) {
+// The first line ends in ` joined J of U`, then ` spent` where that is so.
+fn say_counts(
+    states: usize,
+    classes: usize,
+    guesses: u64,
+    words: usize,
+    joined: usize,
+    ceiling: usize,
+    spent: bool,
+) {
     say_number(b"states ", states as u64);
     say_number(b" classes ", classes as u64);
     say_number(b" guesses ", guesses);
     say_number(b" words ", words as u64);
+    say_number(b" joined ", joined as u64);
+    say_number(b" of ", ceiling as u64);
+    if spent {
+        say(b" spent");
+    }
     say(b"\n");
 }
 
@@ -130,9 +144,12 @@ fn reduce_lent(table: &[u8]) {
             guesses,
             words,
             length,
+            joined,
+            ceiling,
+            spent,
         } => {
             let n = state_count(table);
-            say_counts(n, classes, guesses, words);
+            say_counts(n, classes, guesses, words, joined, ceiling, spent);
             say_map(&map[..n]);
             say_table(&out[..length]);
         }

@@ -10,7 +10,7 @@ ghost use Rattle.clauses.specs.Clauses.{clausesOf};
 ghost use Rattle.search.specs.Answers.{searchOf};
 ghost use Rattle.maps.specs.Check.{checkOf};
 ghost use Rattle.quotient.specs.Quotient.{quotientOf};
-ghost use Rattle.reduce.specs.Reduce.{reduceOf};
+ghost use Rattle.reduce.specs.Reduce.{reduceOf, spentValue};
 ghost use Rattle.capi.specs.Answers.{stored, readOut, topsOut, clausesOut, searchOut, checkOut, quotientOut, reduceOut};
 use clauses::Listed;
 use limits::Limits;
@@ -283,7 +283,14 @@ pub extern "C" fn basilvault_quotient(
     basilvault_quotient_within(limits::STATES, limits::SYMBOLS, table, map, out, values)
 }
 
-// Reduces a table. Four values: classes, guesses, clause words and the quotient's length.
+// Whether the budget was spent, as a value.
+fn spent_value(spent: bool) -> u64
+    ensures { λ r. ⌜ r ≡ spentValue spent ⌝ }
+{
+    if spent { 1 } else { 0 }
+}
+
+// Reduces a table. Seven values: classes, guesses, clause words, the quotient's length, joined pairs, the ceiling, and 1 or 0: the budget was spent.
 #[no_mangle]
 pub extern "C" fn basilvault_reduce_within(
     states: usize,
@@ -308,8 +315,19 @@ pub extern "C" fn basilvault_reduce_within(
             guesses,
             words,
             length,
+            joined,
+            ceiling,
+            spent,
         } => {
-            let answer = [classes as u64, guesses, words as u64, length as u64];
+            let answer = [
+                classes as u64,
+                guesses,
+                words as u64,
+                length as u64,
+                joined as u64,
+                ceiling as u64,
+                spent_value(spent),
+            ];
             store(&answer, values);
             0
         }

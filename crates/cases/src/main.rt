@@ -262,6 +262,11 @@ fn say_quotient(limits: Limits, rest: &[u8]) -> bool {
     say_written(limits, &rest[end..], &rest[4..end], &mut out, length)
 }
 
+// Whether something is so, as a number.
+fn bit(so: bool) -> u64 {
+    if so { 1 } else { 0 }
+}
+
 // Reduces a table with buffers that exist, and prints the clause list, the map buffer and the output.
 fn say_reduction(
     limits: Limits,
@@ -278,12 +283,18 @@ fn say_reduction(
             guesses,
             words,
             length,
+            joined,
+            ceiling,
+            spent,
         } => {
             number(0);
             number(classes as u64);
             number(guesses);
             number(words as u64);
             number(length as u64);
+            number(joined as u64);
+            number(ceiling as u64);
+            number(bit(spent));
         }
         Reduction::Refused(k) => {
             number(wide(k) as u64);

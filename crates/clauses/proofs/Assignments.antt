@@ -3,18 +3,18 @@
 use mathlib.Core.Path.{_≡_, refl, sym, ap, _∙_, subst}
 use mathlib.Core.Logic.{_⊎_, inl, inr, _≢_, _↔_}
 use mathlib.Core.Bool.{Bool, true, false}
-use mathlib.Core.List.{List, map}
+use mathlib.Core.List.{List, [], _∷_, map}
 use Prim.Native.Nat.{ℕ, _<_}
 use native.Mathlib.Omega.{arith}
 use native.Mathlib.Decide.{ℕ-discrete}
-use lib.ListN.{length-map}
+use lib.ListN.{length, replicate, length-map}
 use lib.Dec.{eqb}
-use borrow.Author.Tests.{eqb-true, eqb-false}
+use borrow.Author.Tests.{eqb-true, eqb-false, ne-eqb}
 use Rattle.lists.specs.Lists.{upto}
 use Rattle.lists.proofs.Members.{getD-map, length-upto, getD-upto}
 use Rattle.cnf.specs.Clauses.{valueOf, Assignment, Model}
 use Rattle.pairs.specs.Pairs.{pairs, variableOf, pairOf}
-use Rattle.pairs.proofs.Pairs.{variable-sym, variable-below, pair-variable, in-order}
+use Rattle.pairs.proofs.Pairs.{variable-sym, variable-below, pair-ordered, pair-variable, in-order}
 use Rattle.vpa.specs.Quotients.{Joined, Raq}
 use Rattle.vpa.proofs.Relations.{raq-along, equality-raq}
 use Rattle.limits.specs.declared.Limits.{Limits}
@@ -33,10 +33,10 @@ bit false = 0
 
 module _ (f : ℕ → ℕ) (n : ℕ) where
   -- whether a variable's states are in one class
-  pub joinedAt : ℕ → ℕ
+  unfoldable pub joinedAt : ℕ → ℕ
   joinedAt x = bit (eqb (f (pairOf x .low)) (f (pairOf x .high)))
 
-  pub assignmentOf : List ℕ
+  unfoldable pub assignmentOf : List ℕ
   assignmentOf = map joinedAt (upto (pairs n))
 
   value-of : (x : ℕ) → x < pairs n → valueOf assignmentOf x ≡ joinedAt x
@@ -103,3 +103,16 @@ module _ (L : Limits) (t : Table) (wf : WellFormed L t) where
   -- the list is satisfiable: nothing joined
   pub nothing-joined : Model (clauseList t) (pairs (count t)) (assignmentOf (λ q. q) (count t))
   nothing-joined = map-model (λ q. q) (equality-raq (automaton t) (lawful (bounded wf)))
+
+map-zeros : (g : ℕ → ℕ) → ((x : ℕ) → g x ≡ 0) → (xs : List ℕ) → map g xs ≡ replicate (length xs) 0
+map-zeros g h [] = refl
+map-zeros g h (x ∷ xs) = λ i. h x i ∷ map-zeros g h xs i
+
+none-at : (n x : ℕ) → joinedAt (λ q. q) n x ≡ 0
+unfolding joinedAt
+none-at n x = rw (ne-eqb (pairOf x .low) (pairOf x .high) (λ e. absurd (omega (arith, pair-ordered x))))
+
+-- nothing joined is all false
+pub all-false : (n : ℕ) → assignmentOf (λ q. q) n ≡ replicate (pairs n) 0
+unfolding assignmentOf
+all-false n = map-zeros (joinedAt (λ q. q) n) (none-at n) (upto (pairs n)) ∙ ap (λ (k : ℕ). replicate {A = ℕ} k 0) (length-upto (pairs n))

@@ -44,26 +44,27 @@ module _ (L : Limits) (t : Table) (wf : WellFormed L t) (v : List ℕ) (model : 
   pub map-raq : RaqMap t (mapOf v (count t))
   map-raq = raq-along (automaton t) (Related (count t) v) (JoinedBy t (mapOf v (count t))) joined-of related-of (model-raq L t wf v (model .assigns) .0 model)
 
+  -- where f joins what the map joins, the true variables are true in the assignment of f
+  pub above : (f : ℕ → ℕ) → ((p q : ℕ) → JoinedBy t (mapOf v (count t)) p q → f p ≡ f q) → (x : ℕ) → valueOf v x ≡ 1 → valueOf (assignmentOf f (count t)) x ≡ 1
+  above f h x e = go (decLt x (pairs (count t)))
+    where
+      low : ℕ
+      low = pairOf x .low
+
+      high : ℕ
+      high = pairOf x .high
+
+      go : Dec (x < pairs (count t)) → valueOf (assignmentOf f (count t)) x ≡ 1
+      go (no l) = absurd (omega (arith, List·getD-eq-default v 2 {n = x} (omega (arith, model .assigns .long))))
+      go (yes l) =
+          let b = pair-below (count t) x l in
+          let o = pair-ordered x in
+          let r : Related (count t) v low high = record { left = omega arith; right = b; joined = inr (ap (valueOf v) (variable-pair x) ∙ e) } in
+          let j : Joined (automaton t) f low high = record { left = omega arith; right = b; classes = h low high (joined-of low high r) } in
+          ap (valueOf (assignmentOf f (count t))) (sym (variable-pair x)) ∙ related-true (count t) (assignmentOf f (count t)) (joined-related t f low high j) (omega arith)
+
   -- demand 3: no map meeting Definition 1 joins all pairs of a maximal assignment's map and one more
   module _ (maximal : Maximal (clauseList t) (pairs (count t)) v) where
-    above : (f : ℕ → ℕ) → ((p q : ℕ) → JoinedBy t (mapOf v (count t)) p q → f p ≡ f q) → (x : ℕ) → valueOf v x ≡ 1 → valueOf (assignmentOf f (count t)) x ≡ 1
-    above f h x e = go (decLt x (pairs (count t)))
-      where
-        low : ℕ
-        low = pairOf x .low
-
-        high : ℕ
-        high = pairOf x .high
-
-        go : Dec (x < pairs (count t)) → valueOf (assignmentOf f (count t)) x ≡ 1
-        go (no l) = absurd (omega (arith, List·getD-eq-default v 2 {n = x} (omega (arith, model .assigns .long))))
-        go (yes l) =
-            let b = pair-below (count t) x l in
-            let o = pair-ordered x in
-            let r : Related (count t) v low high = record { left = omega arith; right = b; joined = inr (ap (valueOf v) (variable-pair x) ∙ e) } in
-            let j : Joined (automaton t) f low high = record { left = omega arith; right = b; classes = h low high (joined-of low high r) } in
-            ap (valueOf (assignmentOf f (count t))) (sym (variable-pair x)) ∙ related-true (count t) (assignmentOf f (count t)) (joined-related t f low high j) (omega arith)
-
     pub none-coarser : NoneCoarser t (mapOf v (count t))
     none-coarser = record {
       none = λ f raq h p q lp lq e.

@@ -11,19 +11,19 @@ use borrow.Author.Tests.{eqb-false}
 use Rattle.lists.specs.Lists.{keep}
 use Rattle.lists.proofs.Members.{keep-mem, keep-keep}
 use Rattle.cnf.specs.Clauses.{valueOf, Right, isPositive, Horn}
-use Rattle.cnf.specs.Search.{broken, forcing, quiet, isUnset, State, Next, goes, Outcome, solved, none-exists, spent, unfinished, Guess, searchFrom}
+use Rattle.cnf.specs.Search.{broken, forcing, quiet, isUnset, State, Next, goes, Outcome, solved, none-exists, spent, unfinished, Guess, searchFrom, madeOf}
 use Rattle.cnf.proofs.Values.{Formed, Wrong, set-cases, unsetCount, unset-le, unset-set}
 use Rattle.cnf.proofs.Found.{Found, Settled, holds, waits, unset-is}
 use Rattle.cnf.proofs.Steps.{stateOf, StepsTo, fails, undoes, forces, solves, spends, adds-guess, After, run-keeps}
 use Rattle.cnf.proofs.Sound.{SoundState, SoundOutcome, sound-kept, start-sound}
 
 -- right once every unset variable is false
-data RightSoon (v : List ℕ) (l : ℕ) : Type 0 where
+pub data RightSoon (v : List ℕ) (l : ℕ) : Type 0 where
   is-right : Right v l → RightSoon v l
   is-unset : valueOf v (l / 2) ≡ 2 → l % 2 ≡ 1 → RightSoon v l
 
 -- every clause holds once every unset variable is false
-record Safe (cs : List (List ℕ)) (v : List ℕ) : Type 0 where
+pub record Safe (cs : List (List ℕ)) (v : List ℕ) : Type 0 where
   pub each : (c : List ℕ) → List·Memᴰ c cs → (l : ℕ) × List·Memᴰ l c × RightSoon v l
 
 wrong-not : {v : List ℕ} {l : ℕ} → Wrong v l → RightSoon v l → ⊥
@@ -61,7 +61,7 @@ two-kept : (l m : ℕ) (ls : List ℕ) → isPositive l ≡ true → isPositive 
 unfolding keep
 two-kept l m ls p q = rw (p, q, keep) (omega arith)
 
-quiet-safe : (cs : List (List ℕ)) (v : List ℕ) → Horn cs → Found v cs quiet → Safe cs v
+pub quiet-safe : (cs : List (List ℕ)) (v : List ℕ) → Horn cs → Found v cs quiet → Safe cs v
 quiet-safe cs v horn q = record { each = λ c m. each c m (q c m) }
   where
     each : (c : List ℕ) → List·Memᴰ c cs → Settled v c → (l : ℕ) × List·Memᴰ l c × RightSoon v l
@@ -82,13 +82,6 @@ record Bounded (cs : List (List ℕ)) (n : ℕ) (s : State) : Type 0 where
   pub sound : SoundState cs n s
   pub room : s .made + unsetCount (s .values) ≤ n
   pub stage : Safe cs (s .values) ⊎ SafeBefore cs n (s .guesses) (s .made)
-
--- the guesses that an outcome has made
-abbrev pub madeOf : Outcome → ℕ
-madeOf (solved v k) = k
-madeOf (none-exists k) = k
-madeOf (spent k) = k
-madeOf unfinished = 0
 
 abbrev Few : ℕ → ℕ → Outcome → Type 0
 Few n b (solved v k) = k ≤ n

@@ -15,12 +15,13 @@ use lib.Dec.{eqb, ltb}
 use borrow.Author.Tests.{eqb-true, eqb-false, eq-eqb, ne-eqb, ltb-false}
 use Rattle.lists.specs.Lists.{any, all, keep}
 use Rattle.lists.proofs.Members.{any-true, any-of, all-true, all-of, keep-mem}
-use Rattle.cnf.specs.Clauses.{valueOf, Right, Assignment, Model}
+use Rattle.cnf.specs.Clauses.{valueOf, Right, Assignment, Model, Horn}
 use Rattle.cnf.specs.Search.{isRight, isUnset, byUnset, seen, both, scan, act, step, lowestUnset, State, Next, goes, ends, Outcome, solved, none-exists, spent, unfinished, Guess, undo, decide, searchFrom}
-use Rattle.cnf.specs.Trials.{onlyTrue, satisfied, trueCount, notFalse, Trials, better, ceilingBy, rested, tried, Tried, runTried, untried, searchTried}
+use Rattle.cnf.specs.Trials.{onlyTrue, satisfied, trueCount, notFalse, Trials, better, ceilingBy, ceilingOf, rested, tried, Tried, runTried, untried, searchTried}
 use Rattle.cnf.proofs.Values.{Formed, Values, _⊑_, ⊑-trans, set-more, set-below, none-set}
 use Rattle.cnf.proofs.Found.{Settled, holds, waits, right-is, right-of, unset-is, Lowest, lowest-is}
 use Rattle.cnf.proofs.Steps.{stateOf, guessOf, StepsTo, fails, undoes, forces, solves, spends, adds-guess, After, run-keeps}
+use Rattle.cnf.proofs.Horn.{RightSoon, is-right, is-unset, quiet-safe}
 use Rattle.cnf.proofs.Order.{AtRest}
 use Rattle.cnf.proofs.Closure.{Closed, breaks, rests, Closes, closes-members, turnTo, atStart}
 use Rattle.cnf.proofs.Trying.{TriesTo, there, turn, closedTrials, endOf, tried-outcome, tries-search, turns-tried}
@@ -94,7 +95,33 @@ model-satisfied {cs} {n} {a} m = all-of (λ c. any (isRight a) c) cs (λ c k. le
 pub model-rests : {cs : List (List ℕ)} {n : ℕ} {a : List ℕ} → Model cs n a → AtRest cs a
 model-rests m = λ c k. let r = m .each c k in holds (r .0) (r .1) (r .2)
 
+-- of clauses with at most one positive literal: at rest, they hold once every unset variable is false
+pub horn-trial : {cs : List (List ℕ)} {n : ℕ} {v : List ℕ} → Horn cs → Formed cs n → Values n v → AtRest cs v → satisfied cs (onlyTrue v) ≡ true
+horn-trial {cs} {n} {v} horn f z q =
+    model-satisfied (record { assigns = only-assigns z; each = λ c m. let r = quiet-safe cs v horn q .each c m in (r .0, r .1, soon (r .0) (omega (arith, f .below c m (r .0) (r .1), z .long)) (r .2)) })
+  where
+    by-value : (l : ℕ) → l / 2 < length v → Right v l → Dec (valueOf v (l / 2) ≡ 1) → Right (onlyTrue v) l
+    by-value l b e (yes o) = omega (arith, only-one v (l / 2) o)
+    by-value l b e (no o) = omega (arith, only-zero v (l / 2) b o)
+
+    soon : (l : ℕ) → l / 2 < length v → RightSoon v l → Right (onlyTrue v) l
+    soon l b (is-right e) = by-value l b e (ℕ-discrete (valueOf v (l / 2)) 1)
+    soon l b (is-unset o e) = omega (arith, only-zero v (l / 2) b (λ p. absurd (omega arith)))
+
 -- ---- counts
+
+-- of an assignment: what is not false is true
+pub true-count : (a : List ℕ) → ((i : ℕ) → i < length a → valueOf a i < 2) → trueCount a ≡ notFalse a
+unfolding trueCount notFalse keep
+true-count [] h = refl
+true-count (y ∷ a) h = go (eqb 1 y) (eqb y 0) refl refl (true-count a (λ i l. h (suc i) (omega arith)))
+  where
+    go : (s t : Bool) → eqb 1 y ≡ s → eqb y 0 ≡ t → length (keep (eqb 1) a) ≡ length (keep (λ z. not (eqb z 0)) a)
+        → length {A = ℕ} (elim s [ true ↦ y ∷ keep (eqb 1) a | false ↦ keep (eqb 1) a ]) ≡ length {A = ℕ} (elim (not t) [ true ↦ y ∷ keep (λ z. not (eqb z 0)) a | false ↦ keep (λ z. not (eqb z 0)) a ])
+    go true true p q e = absurd (omega (arith, eqb-true 1 y p, eqb-true y 0 q))
+    go true false p q e = ap suc e
+    go false true p q e = e
+    go false false p q e = absurd (omega (arith, eqb-false 1 y p, eqb-false y 0 q, h 0 (omega arith)))
 
 pub nested-count : (h a : List ℕ) → length h ≡ length a → ((i : ℕ) → valueOf h i ≡ 1 → valueOf a i ≡ 1) → trueCount h ≤ trueCount a
 unfolding trueCount keep
@@ -320,6 +347,13 @@ module _ (cs : List (List ℕ)) (n b : ℕ) (formed : Formed cs n) where
       go : (e : Tried) → TriesTo cs n b (atStart n) (untried n) e → Bounds (e .trials .ceiling)
       go e (turn breaks z h r) = rw (ends-trials _ (untried n) e r) (λ a m. h a (above a) (model-rests m))
       go e (turn (rests w) z h r) = rw (ceiling-kept _ (rested cs w (untried n)) e (notFalse w) r refl) (λ a m. few-true w a (h .long ∙ z .long ∙ sym (m .assigns .long)) (h .least a (above a) (model-rests m)))
+
+  pub ceiling-most : (a : List ℕ) → Model cs n a → trueCount a ≤ ceilingOf (searchTried cs n b .trials .ceiling)
+  ceiling-most a m = go (searchTried cs n b .trials .ceiling) ceiling-bounds
+    where
+      go : (u : Option ℕ) → Bounds u → trueCount a ≤ ceilingOf u
+      go none h = absurd (h a m)
+      go (some u) h = h a m
 
 -- ---- the same clauses in another list
 

@@ -20,7 +20,7 @@ run-outcome : (k : ℕ) (cs : List (List ℕ)) (b : ℕ) (n : Next) (t : Trials)
 unfolding runTried run
 run-outcome zero cs b (goes s) t = refl
 run-outcome zero cs b (ends o) t = refl
-run-outcome (suc k) cs b (goes s) t = run-outcome k cs b (step cs b s) (tried cs (s .values) (scan (s .values) cs) t)
+run-outcome (suc k) cs b (goes s) t = run-outcome k cs b (step cs b s) _
 run-outcome (suc k) cs b (ends o) t = refl
 
 -- the trials change nothing

@@ -105,3 +105,17 @@ run (suc k) cs b (ends o) = o
 -- "Start with nothing set", n variables, b the budget; so many steps are enough (proofs/Ends)
 unfoldable pub searchFrom : List (List ℕ) → ℕ → ℕ → Outcome
 searchFrom cs n b = run (2 * suc b * suc (suc n)) cs b (goes (record { values = replicate n 2; guesses = []; made = 0 }))
+
+-- the guesses that an outcome has made
+abbrev pub madeOf : Outcome → ℕ
+madeOf (solved v k) = k
+madeOf (none-exists k) = k
+madeOf (spent k) = k
+madeOf unfinished = 0
+
+-- whether the budget is spent
+abbrev pub isSpent : Outcome → Bool
+isSpent (solved v k) = false
+isSpent (none-exists k) = false
+isSpent (spent k) = true
+isSpent unfinished = false

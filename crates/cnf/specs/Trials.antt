@@ -39,6 +39,11 @@ unfoldable pub ceilingBy : List ℕ → Option ℕ → Option ℕ
 ceilingBy v none = some (notFalse v)
 ceilingBy v (some u) = some u
 
+-- the ceiling as a number, 0 where there was no rest (no assignment exists then: proofs/Trials)
+abbrev pub ceilingOf : Option ℕ → ℕ
+ceilingOf none = 0
+ceilingOf (some u) = u
+
 -- the values v are at rest
 unfoldable pub rested : List (List ℕ) → List ℕ → Trials → Trials
 rested cs v t = record { held = better cs (onlyTrue v) (t .held); ceiling = ceilingBy v (t .ceiling) }

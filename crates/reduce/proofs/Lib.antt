@@ -1,4 +1,5 @@
 pub mod Marked
+pub mod Joined
 pub mod Ways
 pub mod Stages
 pub mod Theorems

@@ -1,7 +1,7 @@
 -- What each stage of reduce hands on to the next, as the code finds it: reading, clauses, search, then map and quotient. One law for each answer
 -- of a stage. Assumes nothing.
 use mathlib.Core.Path.{_≡_, refl, sym, ap, _∙_, subst}
-use mathlib.Core.Bool.{Bool, true, false}
+use mathlib.Core.Bool.{Bool, true, false, true≢false}
 use mathlib.Core.List.{List, _++_, Memᴰ·append-left}
 use Prim.Native.Nat.{ℕ, _≤_, _<_}
 use native.Mathlib.Omega.{arith}
@@ -11,17 +11,19 @@ use lib.Dec.{eqb, leb}
 use borrow.Author.Tests.{eq-eqb, ne-eqb, le-leb, lt-leb, leb-true, leb-false}
 use Rattle.lists.specs.Lists.{over}
 use Rattle.lists.proofs.Copying.{copied}
-use Rattle.cnf.specs.Clauses.{wordsOf, clausesIn}
-use Rattle.cnf.specs.Search.{searchFrom}
+use Rattle.cnf.specs.Clauses.{wordsOf, clausesIn, Model}
+use Rattle.cnf.specs.Trials.{notFalse, Tried, searchTried}
 use Rattle.cnf.proofs.Values.{Formed}
-use Rattle.cnf.proofs.Words.{fit-formed, clauses-words, whole-words}
+use Rattle.cnf.proofs.Words.{clauses-words, whole-words}
+use Rattle.cnf.proofs.Theorems.{never-none}
+use Rattle.cnf.proofs.Trying.{tried-outcome}
 use Rattle.limits.specs.declared.Limits.{Limits}
 use Rattle.limits.specs.Limits.{stateMost}
 use Rattle.pairs.specs.Pairs.{pairs}
 use Rattle.pairs.specs.Triangles.{triangles}
 use Rattle.pairs.proofs.Pairs.{most-pairs}
 use Rattle.table.specs.File.{tableOf}
-use Rattle.table.specs.Reading.{readNumber, Readable}
+use Rattle.table.specs.Reading.{readNumber, Readable, WellFormed}
 use Rattle.table.specs.Language.{count}
 use Rattle.table.specs.Maps.{classes}
 use Rattle.table.specs.Sections.{ReadAs, partOf}
@@ -36,9 +38,8 @@ use Rattle.clauses.specs.Emit.{listedBy}
 use Rattle.clauses.specs.Maps.{mapOf}
 use Rattle.clauses.specs.declared.Listed.{Listed}
 use Rattle.clauses.specs.declared.Listed.the-variants.{List as Words, Refused as NotListed}
-use Rattle.clauses.proofs.Formed.{list-fits}
-use Rattle.clauses.proofs.Short.{short-formed, short-same}
-use Rattle.search.specs.Turns.{noneSet, Fresh, outcomeOf}
+use Rattle.clauses.proofs.Short.{short-formed, short-tried}
+use Rattle.search.specs.Turns.{noneSet, Fresh, EndsWith}
 use Rattle.search.specs.Conclusions.{withTriangles}
 use Rattle.search.specs.declared.engine.Ending.{Ending}
 use Rattle.search.specs.declared.engine.Ending.the-variants.{Found, Absent, Spent}
@@ -46,11 +47,15 @@ use Rattle.search.proofs.Answering.{prefix-is, prefix-values}
 use Rattle.quotient.specs.Quotient.{quotientNumber, QuotientDone, quotientOf}
 use Rattle.quotient.specs.declared.Written.{Written}
 use Rattle.quotient.specs.declared.Written.the-variants.{Length, Refused as NotWritten}
-use Rattle.reduce.specs.Reduce.{Reduced, beforeSearch, searchOfTable, deliver, afterSearch, reduceOf}
+use Rattle.reduce.specs.Reduce.{Reduced, beforeSearch, triedOfTable, joinedPairs, deliver, afterSearch, reduceOf}
+use Rattle.reduce.specs.Held.{MadeBy, HeldFor}
 use Rattle.reduce.specs.Lowest.{MapOf}
 use Rattle.reduce.specs.declared.map.Classes.{Classes}
+use Rattle.reduce.specs.declared.Made.{Made}
 use Rattle.reduce.specs.declared.Reduction.{Reduction}
 use Rattle.reduce.specs.declared.Reduction.the-variants.{Delivered, Refused}
+use Rattle.reduce.proofs.Joined.{held-joined}
+use Rattle.reduce.proofs.Ways.{list-formed, trial-model}
 
 -- ---- map and quotient
 
@@ -58,46 +63,47 @@ use Rattle.reduce.specs.declared.Reduction.the-variants.{Delivered, Refu
 pub prefix-long : (m : List ℕ) (n : ℕ) → length m ≡ stateMost → n ≤ stateMost → length (take n m) ≡ n
 prefix-long m n e h = length-take-le n m (omega (arith, e))
 
-module _ (L : Limits) (b list map out m : List ℕ) (g : ℕ) where
+module _ (L : Limits) (b list map out m : List ℕ) (g u : ℕ) (z : Bool) where
   -- what reduce makes of the quotient's answer
   onWritten : Written → List ℕ → Reduced
-  onWritten (Length l) o = record { answer = Delivered (classes m) g (length (shortWords (tableOf b))) l; list = over (shortWords (tableOf b)) list; map = over m map; out = o }
+  onWritten (Length l) o = record { answer = Delivered (classes m) g (length (shortWords (tableOf b))) l (joinedPairs (count (tableOf b)) m) u z; list = over (shortWords (tableOf b)) list; map = over m map; out = o }
   onWritten (NotWritten k) o = record { answer = Refused k; list = over (shortWords (tableOf b)) list; map = map; out = o }
 
-  on-written : onWritten (quotientOf L b m out .answer) (quotientOf L b m out .out) ≡ deliver L b list map out m g
+  on-written : onWritten (quotientOf L b m out .answer) (quotientOf L b m out .out) ≡ deliver L b list map out m g u z
   unfolding onWritten quotientOf deliver
   on-written = go (eqb (quotientNumber L b m out) 0) refl
     where
-      go : (t : Bool) → eqb (quotientNumber L b m out) 0 ≡ t → onWritten (quotientOf L b m out .answer) (quotientOf L b m out .out) ≡ deliver L b list map out m g
+      go : (t : Bool) → eqb (quotientNumber L b m out) 0 ≡ t → onWritten (quotientOf L b m out .answer) (quotientOf L b m out .out) ≡ deliver L b list map out m g u z
       go true e = rw (e, quotientOf, deliver) refl
       go false e = rw (e, quotientOf, deliver) refl
 
   module _ {r : Written} {o : List ℕ} (e : record { answer = r; out = o } ≡ quotientOf L b m out) where
-    on-answer : {x : Written} → r ≡ x → onWritten x o ≡ deliver L b list map out m g
+    on-answer : {x : Written} → r ≡ x → onWritten x o ≡ deliver L b list map out m g u z
     on-answer {x} f = ap (λ (y : Written). onWritten y o) (sym f) ∙ ap (λ (d : QuotientDone). onWritten (d .answer) (d .out)) e ∙ on-written
 
-    deliver-refused : {k : ℕ} → r ≡ NotWritten k → record { answer = Refused k; list = over (shortWords (tableOf b)) list; map = map; out = o } ≡ deliver L b list map out m g
+    deliver-refused : {k : ℕ} → r ≡ NotWritten k → record { answer = Refused k; list = over (shortWords (tableOf b)) list; map = map; out = o } ≡ deliver L b list map out m g u z
     unfolding onWritten
     deliver-refused f = on-answer f
 
-    deliver-written : {l : ℕ} → r ≡ Length l → record { answer = Delivered (classes m) g (length (shortWords (tableOf b))) l; list = over (shortWords (tableOf b)) list; map = over m map; out = o } ≡ deliver L b list map out m g
+    deliver-written : {l : ℕ} → r ≡ Length l → record { answer = Delivered (classes m) g (length (shortWords (tableOf b))) l (joinedPairs (count (tableOf b)) m) u z; list = over (shortWords (tableOf b)) list; map = over m map; out = o } ≡ deliver L b list map out m g u z
     unfolding onWritten
     deliver-written f = on-answer f
 
 -- the map that the code found is the assignment's
-module _ (L : Limits) (b list map out v : List ℕ) (n g : ℕ) {found : Classes} (h : MapOf v n found) {r : Written} {o : List ℕ} (e : record { answer = r; out = o } ≡ quotientOf L b (take n (found .map)) out) where
+module _ (L : Limits) (b list map out v : List ℕ) (n g u : ℕ) (z : Bool) {found : Classes} (h : MapOf v n found) {r : Written} {o : List ℕ} (e : record { answer = r; out = o } ≡ quotientOf L b (take n (found .map)) out) where
   e' : record { answer = r; out = o } ≡ quotientOf L b (mapOf v n) out
   e' = e ∙ ap (λ (m : List ℕ). quotientOf L b m out) (h .map)
 
-  pub not-delivered : {k : ℕ} → r ≡ NotWritten k → record { answer = Refused k; list = over (shortWords (tableOf b)) list; map = map; out = o } ≡ deliver L b list map out (mapOf v n) g
-  not-delivered f = deliver-refused L b list map out (mapOf v n) g e' f
+  pub not-delivered : {k : ℕ} → r ≡ NotWritten k → record { answer = Refused k; list = over (shortWords (tableOf b)) list; map = map; out = o } ≡ deliver L b list map out (mapOf v n) g u z
+  not-delivered f = deliver-refused L b list map out (mapOf v n) g u z e' f
 
-  pub delivered : {l w : ℕ} {m : List ℕ} → r ≡ Length l → w ≡ length (shortWords (tableOf b)) → m ≡ take (length (take n (found .map))) (take n (found .map)) ++ drop (length (take n (found .map))) map
-      → record { answer = Delivered (found .count) g w l; list = over (shortWords (tableOf b)) list; map = m; out = o } ≡ deliver L b list map out (mapOf v n) g
+  pub delivered : {l w j : ℕ} {m : List ℕ} → HeldFor (tableOf b) n v → j ≡ notFalse v → r ≡ Length l → w ≡ length (shortWords (tableOf b)) → m ≡ take (length (take n (found .map))) (take n (found .map)) ++ drop (length (take n (found .map))) map
+      → record { answer = Delivered (found .count) g w l j u z; list = over (shortWords (tableOf b)) list; map = m; out = o } ≡ deliver L b list map out (mapOf v n) g u z
   unfolding over
-  delivered {l} {w} {m} f p q =
+  delivered {l} {w} {j} {m} d i f p q =
+      let pairs-joined : j ≡ joinedPairs (count (tableOf b)) (mapOf v n) = i ∙ d .joined ∙ ap (λ (k : ℕ). joinedPairs k (mapOf v n)) (d .states) in
       let written : m ≡ over (mapOf v n) map = copied (take n (found .map)) map q ∙ ap (λ (x : List ℕ). over x map) (h .map) in
-      (λ i. record { answer = Delivered (h .count i) g (p i) l; list = over (shortWords (tableOf b)) list; map = written i; out = o }) ∙ deliver-written L b list map out (mapOf v n) g e' f
+      (λ i. record { answer = Delivered (h .count i) g (p i) l (pairs-joined i) u z; list = over (shortWords (tableOf b)) list; map = written i; out = o }) ∙ deliver-written L b list map out (mapOf v n) g u z e' f
 
 -- ---- search
 
@@ -122,8 +128,11 @@ module _ {b ws : List ℕ} {n : ℕ} (h : Solvable b ws n) where
   pub values-room : {v k : ℕ} → v ≡ pairs n → k ≡ 780 → v ≤ k
   values-room e f = omega (arith, most-pairs n few)
 
+  wf : WellFormed (h .limits) (tableOf b)
+  wf = read-well-formed (h .limits) b (h .readable)
+
   formed : Formed (clauseList (tableOf b)) (pairs (count (tableOf b)))
-  formed = fit-formed (pairs (count (tableOf b))) (clauseList (tableOf b)) (list-fits (tableOf b) (read-well-formed (h .limits) b (h .readable)))
+  formed = list-formed wf
 
   short-part : Formed (shortList (tableOf b)) (pairs (count (tableOf b)))
   short-part = record { below = λ c m. short-formed (tableOf b) 0 formed .below c (Memᴰ·append-left (triangles (count (tableOf b))) m) }
@@ -145,28 +154,48 @@ module _ {b ws : List ℕ} {n : ℕ} (h : Solvable b ws n) where
         size = λ z. long;
       }
 
-  -- the outcome over the short list and the classes is that over the full list
-  -- named: the outcome is `searchFrom` over the full list
-  pub same : (r : Ending) {v : List ℕ} (w : List ℕ) (budget : ℕ) → v ≡ replicate (pairs n) 2 → outcomeOf r w ≡ searchFrom (withTriangles ws n) (length v) budget → outcomeOf r w ≡ searchOfTable b budget
-  unfolding searchOfTable
-  same r w budget e f =
+  -- the end over the short list and the classes is that over the full list
+  same : (r : Ending) {v : List ℕ} (w : List ℕ) (u budget : ℕ) → v ≡ replicate (pairs n) 2 → EndsWith (searchTried (withTriangles ws n) (length v) budget) r w u → EndsWith (triedOfTable b budget) r w u
+  unfolding triedOfTable
+  same r w u budget e f =
+      subst (λ (t : Tried). EndsWith t r w u)
+      ((λ i. searchTried (words-are i ++ triangles (h .states i)) ((ap length e ∙ length-replicate {A = ℕ} (pairs n) 2 ∙ ap pairs (h .states)) i) budget) ∙ short-tried (tableOf b) budget formed)
       f
-      ∙ (λ i. searchFrom (words-are i ++ triangles (h .states i)) ((ap length e ∙ length-replicate {A = ℕ} (pairs n) 2 ∙ ap pairs (h .states)) i) budget)
-      ∙ short-same (tableOf b) budget formed
 
-module _ (L : Limits) (b before map out : List ℕ) (budget : ℕ) where
-  -- what reduce makes of the search's end
-  solve-found : {r : Ending} (v : List ℕ) {n k : ℕ} → n ≡ count (tableOf b) → outcomeOf r v ≡ searchOfTable b budget → r ≡ Found k → deliver L b before map out (mapOf v n) k ≡ afterSearch L b before map out (searchOfTable b budget)
-  unfolding afterSearch
-  solve-found v {k = k} c e f = ap (λ (m : ℕ). deliver L b before map out (mapOf v m) k) c ∙ ap (afterSearch L b before map out) (ap (λ (x : Ending). outcomeOf x v) (sym f) ∙ e)
+-- what is held where the search does not end with none
+module _ {b ws : List ℕ} {n : ℕ} (h : Solvable b ws n) (budget : ℕ) {w : List ℕ} (e : triedOfTable b budget .trials .held ≡ w) where
+  model : Model (clauseList (tableOf b)) (pairs (count (tableOf b))) w
+  unfolding triedOfTable
+  model = subst (Model (clauseList (tableOf b)) (pairs (count (tableOf b)))) e (trial-model (h .limits) (tableOf b) (wf h) budget)
 
-  solve-absent : {r : Ending} (v : List ℕ) {k : ℕ} → outcomeOf r v ≡ searchOfTable b budget → r ≡ Absent k → record { answer = Refused 12; list = over (shortWords (tableOf b)) before; map = map; out = out } ≡ afterSearch L b before map out (searchOfTable b budget)
-  unfolding afterSearch
-  solve-absent v e f = ap (afterSearch L b before map out) (ap (λ (x : Ending). outcomeOf x v) (sym f) ∙ e)
+  held-for : HeldFor (tableOf b) n w
+  held-for = record {
+    states = h .states;
+    long = model .assigns .long ∙ ap pairs (sym (h .states));
+    joined = rw (h .states) (held-joined (h .limits) (tableOf b) (wf h) w model);
+  }
 
-  solve-spent : {r : Ending} (v : List ℕ) {k : ℕ} → outcomeOf r v ≡ searchOfTable b budget → r ≡ Spent k → record { answer = Refused 13; list = over (shortWords (tableOf b)) before; map = map; out = out } ≡ afterSearch L b before map out (searchOfTable b budget)
-  unfolding afterSearch
-  solve-spent v e f = ap (afterSearch L b before map out) (ap (λ (x : Ending). outcomeOf x v) (sym f) ∙ e)
+-- how the search ended, by its guesses and whether the budget is spent
+module _ {b ws : List ℕ} {n : ℕ} (h : Solvable b ws n) (budget : ℕ) (w : List ℕ) (u : ℕ) where
+  pub ends-held : (r : Ending) (m : Made) → MadeBy r m → m .absent ≡ false → EndsWith (triedOfTable b budget) r w u → HeldFor (tableOf b) n w
+  ends-held (Found k) m p q e = held-for h budget (ap (λ (t : Tried). t .trials .held) e)
+  ends-held (Absent k) m p q e = absurd (true≢false (sym (ap (λ (y : Made). y .absent) p) ∙ q))
+  ends-held (Spent k) m p q e = held-for h budget (ap (λ (t : Tried). t .trials .held) e)
+
+  module _ (L : Limits) (before map out : List ℕ) where
+    pub ends-delivered : (r : Ending) (m : Made) → MadeBy r m → m .absent ≡ false → EndsWith (triedOfTable b budget) r w u → deliver L b before map out (mapOf w n) (m .guesses) u (m .spent) ≡ afterSearch L b before map out (triedOfTable b budget)
+    unfolding afterSearch
+    ends-delivered (Found k) m p q e = rw (p, h .states) (sym (ap (afterSearch L b before map out) e))
+    ends-delivered (Absent k) m p q e = absurd (true≢false (sym (ap (λ (y : Made). y .absent) p) ∙ q))
+    ends-delivered (Spent k) m p q e = rw (p, h .states) (sym (ap (afterSearch L b before map out) e))
+
+    -- that no assignment exists does not happen
+    pub ends-absent : (r : Ending) (m : Made) {x : Reduced} → MadeBy r m → m .absent ≡ true → EndsWith (triedOfTable b budget) r w u → x ≡ afterSearch L b before map out (triedOfTable b budget)
+    unfolding triedOfTable
+    ends-absent (Found k) m p q e = absurd (true≢false (sym q ∙ ap (λ (y : Made). y .absent) p))
+    ends-absent (Absent k) m p q e =
+        absurd (never-none (clauseList (tableOf b)) (pairs (count (tableOf b))) budget (formed h) _ (trial-model (h .limits) (tableOf b) (wf h) budget) k (sym (tried-outcome (clauseList (tableOf b)) (pairs (count (tableOf b))) budget) ∙ e))
+    ends-absent (Spent k) m p q e = absurd (true≢false (sym q ∙ ap (λ (y : Made). y .absent) p))
 
 -- the same as the code finds it: x variables, in the first of room for 780
 module _ {b ws : List ℕ} {n : ℕ} (h : Solvable b ws n) {x : ℕ} (e : x ≡ pairs n) {s : List ℕ} (z : s ≡ noneSet) where
@@ -176,18 +205,22 @@ module _ {b ws : List ℕ} {n : ℕ} (h : Solvable b ws n) {x : ℕ} (e : x ≡ 
   pub part-none : take x s ≡ replicate (pairs n) 2
   part-none = prefix-is x room z ∙ ap (λ (k : ℕ). replicate {A = ℕ} k 2) e
 
-  module _ (L : Limits) (before map out : List ℕ) (budget : ℕ) (r : Ending) (v : List ℕ) (long : length v ≡ length (take x s)) (q : outcomeOf r v ≡ searchFrom (withTriangles ws n) (length (take x s)) budget) where
-    outcome : outcomeOf r v ≡ searchOfTable b budget
-    outcome = same h r v budget part-none q
+  module _ (budget : ℕ) (r : Ending) (u : ℕ) (v : List ℕ) (long : length v ≡ length (take x s)) (q : EndsWith (searchTried (withTriangles ws n) (length (take x s)) budget) r v u) (m : Made) (p : MadeBy r m) where
+    abbrev left : List ℕ
+    left = take x (v ++ drop x s)
 
-    pub was-found : {k : ℕ} → r ≡ Found k → deliver L b before map out (mapOf (take x (v ++ drop x s)) n) k ≡ afterSearch L b before map out (searchOfTable b budget)
-    was-found {k} f = ap (λ (w : List ℕ). deliver L b before map out (mapOf w n) k) (prefix-values x room z v long) ∙ solve-found L b before map out budget v (h .states) outcome f
+    ended : EndsWith (triedOfTable b budget) r left u
+    ended = subst (λ (w : List ℕ). EndsWith (triedOfTable b budget) r w u) (sym (prefix-values x room z v long)) (same h r v u budget part-none q)
 
-    pub was-absent : {k : ℕ} → r ≡ Absent k → record { answer = Refused 12; list = over (shortWords (tableOf b)) before; map = map; out = out } ≡ afterSearch L b before map out (searchOfTable b budget)
-    was-absent f = solve-absent L b before map out budget v outcome f
+    pub was-held : m .absent ≡ false → HeldFor (tableOf b) n left
+    was-held a = ends-held h budget left u r m p a ended
 
-    pub was-spent : {k : ℕ} → r ≡ Spent k → record { answer = Refused 13; list = over (shortWords (tableOf b)) before; map = map; out = out } ≡ afterSearch L b before map out (searchOfTable b budget)
-    was-spent f = solve-spent L b before map out budget v outcome f
+    module _ (L : Limits) (before map out : List ℕ) where
+      pub was-delivered : m .absent ≡ false → deliver L b before map out (mapOf left n) (m .guesses) u (m .spent) ≡ afterSearch L b before map out (triedOfTable b budget)
+      was-delivered a = ends-delivered h budget left u L before map out r m p a ended
+
+      pub was-absent : {y : Reduced} → m .absent ≡ true → y ≡ afterSearch L b before map out (triedOfTable b budget)
+      was-absent a = ends-absent h budget left u L before map out r m p a ended
 
 -- ---- clauses
 
@@ -231,7 +264,7 @@ module _ (b list : List ℕ) where
           (λ i. record { answer = Refused (t .0 i); list = t .1 i; map = map; out = out }) ∙ rw (n, reduceOf) (λ i. record { answer = Refused (sym n i); list = list; map = map; out = out })
 
       -- the list was written, and the rest of reduce gave its answer
-      pub list-solved : {c w : ℕ} {s : Reduction} {m o : List ℕ} → r ≡ Words c w → ((before : List ℕ) → record { answer = s; list = over (shortWords (tableOf b)) before; map = m; out = o } ≡ afterSearch L b before map out (searchOfTable b budget)) → record { answer = s; list = l; map = m; out = o } ≡ reduceOf L b budget list map out
+      pub list-solved : {c w : ℕ} {s : Reduction} {m o : List ℕ} → r ≡ Words c w → ((before : List ℕ) → record { answer = s; list = over (shortWords (tableOf b)) before; map = m; out = o } ≡ afterSearch L b before map out (triedOfTable b budget)) → record { answer = s; list = l; map = m; out = o } ≡ reduceOf L b budget list map out
       unfolding ListedAs beforeSearch reduceOf
       list-solved {c} {w} {s} {m} {o} f h =
           let t = told f in

@@ -1,22 +1,30 @@
--- What a delivery promises (demand 3), over the lent bytes and what is written. Assumes nothing.
+-- What a delivery promises (demand 3, request (viii)), over the lent bytes and what is written. Assumes nothing.
 use mathlib.Core.Path.{_≡_}
+use mathlib.Core.Bool.{Bool, true, false}
 use mathlib.Core.List.{List}
 use Prim.Native.Nat.{ℕ, _-_, _*_, _/_, _≤_}
 use lib.ListN.{take}
+use Rattle.cnf.specs.Search.{spent, madeOf, isSpent}
 use Rattle.limits.specs.declared.Limits.{Limits}
 use Rattle.table.specs.File.{tableOf}
 use Rattle.table.specs.Language.{count, SameWords, OneTarget}
-use Rattle.table.specs.Maps.{NoneCoarser}
+use Rattle.table.specs.Maps.{RaqMap, NoneCoarser}
 use Rattle.maps.specs.Check.{checkOf}
 use Rattle.quotient.specs.Demands.{IsQuotient}
 use Rattle.maps.specs.declared.Checked.the-variants.{Accepted}
+use Rattle.reduce.specs.Reduce.{searchOfTable, joinedPairs}
 use Rattle.reduce.specs.declared.Reduction.{Reduction}
 use Rattle.reduce.specs.declared.Reduction.the-variants.{Delivered, Refused}
 
 -- P of a delivery's class count, guesses, clause words and quotient length; a refusal promises nothing here
 abbrev pub OnDelivery : Reduction → (ℕ → ℕ → ℕ → ℕ → Type 0) → Type 0
-OnDelivery (Delivered c g w l) P = P c g w l
+OnDelivery (Delivered c g w l j u s) P = P c g w l
 OnDelivery (Refused k) P = Unit {0}
+
+-- P of a delivery's guesses, joined pairs, ceiling, and whether the budget was spent
+abbrev pub OnBest : Reduction → (ℕ → ℕ → ℕ → Bool → Type 0) → Type 0
+OnBest (Delivered c g w l j u s) P = P g j u s
+OnBest (Refused k) P = Unit {0}
 
 -- the map that was written: "the first bytes of the map buffer"
 abbrev pub mapWritten : List ℕ → List ℕ → List ℕ
@@ -34,10 +42,26 @@ DeliversChecked L r b map = OnDelivery r (λ c g w l. checkOf L b (mapWritten b 
 abbrev pub DeliversQuotient : Limits → Reduction → List ℕ → List ℕ → List ℕ → Type 0
 DeliversQuotient L r b map out = OnDelivery r (λ c g w l. IsQuotient L b (mapWritten b map) (take l out))
 
--- "No map meeting Definition 1 joins all pairs of a delivered map and one more."
+-- "No map meeting Definition 1 joins all pairs of a delivered map and one more"; "A spent delivery .. makes no maximality claim"
 abbrev pub DeliversMaximal : Reduction → List ℕ → List ℕ → Type 0
-DeliversMaximal r b map = OnDelivery r (λ c g w l. NoneCoarser (tableOf b) (mapWritten b map))
+DeliversMaximal r b map = OnBest r (λ g j u s. s ≡ false → NoneCoarser (tableOf b) (mapWritten b map))
 
 -- "Where each move has at most one target, no reduction of n states, under any budget, reports more than n(n-1)/2 guesses."
 abbrev pub FewGuesses : Reduction → List ℕ → Type 0
 FewGuesses r b = OnDelivery r (λ c g w l. OneTarget (tableOf b) → g ≤ count (tableOf b) * (count (tableOf b) - 1) / 2)
+
+-- J is how many pairs the map delivered joins, and "No accepted map joins more than U pairs": none that meets Definition 1
+pub record Ceiling (b map : List ℕ) (j u : ℕ) : Type 0 where
+  pub joined : j ≡ joinedPairs (count (tableOf b)) (mapWritten b map)
+  pub most : (m : List ℕ) → RaqMap (tableOf b) m → joinedPairs (count (tableOf b)) m ≤ u
+
+abbrev pub DeliversCeiling : Reduction → List ℕ → List ℕ → Type 0
+DeliversCeiling r b map = OnBest r (λ g j u s. Ceiling b map j u)
+
+-- "Assignment and guess count must equal those over the full list": guesses and spent are those of the search over it
+abbrev pub SameSearch : Reduction → List ℕ → ℕ → Type 0
+SameSearch r b budget = OnBest r (λ g j u s. (g ≡ madeOf (searchOfTable b budget)) × (s ≡ isSpent (searchOfTable b budget)))
+
+-- "A spent delivery says so": it made all guesses of the budget, and that search ends by (d), with a variable unset
+abbrev pub SpentSaid : Reduction → List ℕ → ℕ → Type 0
+SpentSaid r b budget = OnBest r (λ g j u s. s ≡ true → (g ≡ budget) × (searchOfTable b budget ≡ spent budget))

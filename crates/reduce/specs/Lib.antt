@@ -1,3 +1,4 @@
 pub mod Reduce
+pub mod Held
 pub mod Demands
 pub mod Lowest

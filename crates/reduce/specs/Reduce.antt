@@ -1,18 +1,19 @@
 -- The operation reduce: its refusals in their order, its answer, and every buffer at exit (document 01, "Check and quotient" and "Refused
--- calls"). Assumes nothing.
-use mathlib.Core.Bool.{true, false}
+-- calls"; document 02, requests (ii) and (viii)). Assumes nothing.
+use mathlib.Core.Bool.{Bool, true, false}
 use mathlib.Core.List.{List, [], _∷_}
 use Prim.Native.Nat.{ℕ}
 use lib.ListN.{length}
 use lib.Dec.{eqb, leb}
-use Rattle.lists.specs.Lists.{over}
-use Rattle.cnf.specs.Search.{Outcome, solved, none-exists, spent, unfinished, searchFrom}
+use Rattle.lists.specs.Lists.{keep, gather, upto, over}
+use Rattle.cnf.specs.Search.{Outcome, searchFrom, madeOf, isSpent}
+use Rattle.cnf.specs.Trials.{ceilingOf, Tried, searchTried}
 use Rattle.limits.specs.declared.Limits.{Limits}
 use Rattle.pairs.specs.Pairs.{pairs}
 use Rattle.table.specs.File.{tableOf}
 use Rattle.table.specs.Reading.{readNumber}
 use Rattle.table.specs.Language.{count}
-use Rattle.table.specs.Maps.{classes}
+use Rattle.table.specs.Maps.{joins, classes}
 use Rattle.clauses.specs.Clauses.{clauseList, shortWords}
 use Rattle.clauses.specs.Maps.{mapOf}
 use Rattle.quotient.specs.Quotient.{quotientBytes, quotientNumber}
@@ -40,8 +41,16 @@ beforeSearch L b list map = elim (eqb (readNumber L b) 0) [
 unfoldable pub searchOfTable : List ℕ → ℕ → Outcome
 searchOfTable b budget = searchFrom (clauseList (tableOf b)) (pairs (count (tableOf b))) budget
 
+-- the same with its trials, "both read over the full list": its outcome is that of the search (cnf/proofs/Trying, tried-outcome)
+unfoldable pub triedOfTable : List ℕ → ℕ → Tried
+triedOfTable b budget = searchTried (clauseList (tableOf b)) (pairs (count (tableOf b))) budget
+
+-- "joined pairs": the pairs p < q of n states that the map joins
+unfoldable pub joinedPairs : ℕ → List ℕ → ℕ
+joinedPairs n m = length (gather (λ q. keep (λ p. joins m p q) (upto q)) (upto n))
+
 module _ (L : Limits) (b list map out : List ℕ) where
-  -- "With 13, 21 or a delivery the clause buffer starts with the list, the rest unchanged": the list without group 2
+  -- with 21 or a delivery "the clause buffer starts with the list, the rest unchanged": the list without group 2
   abbrev listed : List ℕ
   listed = over (shortWords (tableOf b)) list
 
@@ -49,11 +58,12 @@ module _ (L : Limits) (b list map out : List ℕ) where
   abbrev refusedLater : ℕ → Reduced
   refusedLater k = record { answer = Refused k; list = listed; map = map; out = out }
 
-  -- the map m found with k guesses: check and quotient, then 21; "writes the map to the first bytes of the map buffer, the rest unchanged"
-  unfoldable pub deliver : List ℕ → ℕ → Reduced
-  deliver m k = elim (eqb (quotientNumber L b m out) 0) [
+  -- the map m, after k guesses, with the ceiling u, the budget spent or not: check and quotient, then 21; "writes the map to the first bytes of
+  -- the map buffer, the rest unchanged"; "It always reports joined pairs J and a ceiling U"
+  unfoldable pub deliver : List ℕ → ℕ → ℕ → Bool → Reduced
+  deliver m k u s = elim (eqb (quotientNumber L b m out) 0) [
     | true ↦ record {
-      answer = Delivered (classes m) k (length (shortWords (tableOf b))) (length (quotientBytes b m));
+      answer = Delivered (classes m) k (length (shortWords (tableOf b))) (length (quotientBytes b m)) (joinedPairs (count (tableOf b)) m) u s;
       list = listed;
       map = over m map;
       out = over (quotientBytes b m) out;
@@ -61,25 +71,28 @@ module _ (L : Limits) (b list map out : List ℕ) where
     | false ↦ refusedLater (quotientNumber L b m out)
   ]
 
-  -- what the search's end leads to: "13 spent"; that none exists does not happen (proofs/Theorems, never-none)
-  unfoldable pub afterSearch : Outcome → Reduced
-  afterSearch (solved v k) = deliver (mapOf v (count (tableOf b))) k
-  afterSearch (none-exists k) = refusedLater 12
-  afterSearch (spent k) = refusedLater 13
-  afterSearch unfinished = refusedLater 13
+  -- what the search's end leads to: the map of the trial that is held, which where the search is solved is what it found (cnf/proofs/Trials,
+  -- solved-held); "On spent, reduce delivers that map." That no assignment exists does not happen (proofs/Ways)
+  unfoldable pub afterSearch : Tried → Reduced
+  afterSearch e = deliver (mapOf (e .trials .held) (count (tableOf b))) (madeOf (e .outcome)) (ceilingOf (e .trials .ceiling)) (isSpent (e .outcome))
 
 -- the operation: "Reduce runs reading, clauses, search, map, check, quotient."
 unfoldable pub reduceOf : Limits → List ℕ → ℕ → List ℕ → List ℕ → List ℕ → Reduced
 reduceOf L b budget list map out = elim (eqb (beforeSearch L b list map) 0) [
-  | true ↦ afterSearch L b list map out (searchOfTable b budget)
+  | true ↦ afterSearch L b list map out (triedOfTable b budget)
   | false ↦ record { answer = Refused (beforeSearch L b list map); list = list; map = map; out = out }
 ]
 
 -- an answer's number, 0 where it is none, and its values
 unfoldable pub reductionNumber : Reduction → ℕ
-reductionNumber (Delivered c g w l) = 0
+reductionNumber (Delivered c g w l j u s) = 0
 reductionNumber (Refused k) = k
 
+-- spent as a value
+abbrev pub spentValue : Bool → ℕ
+spentValue true = 1
+spentValue false = 0
+
 unfoldable pub reductionValues : Reduction → List ℕ
-reductionValues (Delivered c g w l) = c ∷ g ∷ w ∷ l ∷ []
+reductionValues (Delivered c g w l j u s) = c ∷ g ∷ w ∷ l ∷ j ∷ u ∷ spentValue s ∷ []
 reductionValues (Refused k) = []

@@ -6,15 +6,15 @@ ghost use lib.ListN.{length};
 ghost use Rattle.lists.specs.Lists.{over};
 ghost use Rattle.limits.specs.declared.Limits.{Limits};
 ghost use Rattle.limits.specs.Limits.{standard};
-ghost use Rattle.pairs.specs.Pairs.{pairs};
 ghost use Rattle.table.specs.File.{tableOf};
 ghost use Rattle.table.specs.Reading.{Readable};
 ghost use Rattle.table.specs.Language.{count};
 ghost use Rattle.maps.specs.Sections.{Known};
 ghost use Rattle.clauses.specs.Clauses.{shortWords};
 ghost use Rattle.clauses.specs.Maps.{mapOf};
-ghost use Rattle.reduce.specs.Reduce.{Reduced, searchOfTable, deliver, afterSearch, reduceOf};
-ghost use Rattle.reduce.specs.Demands.{KeepsWords, DeliversQuotient, DeliversChecked, DeliversMaximal, FewGuesses};
+ghost use Rattle.reduce.specs.Reduce.{Reduced, triedOfTable, deliver, afterSearch, reduceOf};
+ghost use Rattle.reduce.specs.Held.{MadeBy, HeldFor};
+ghost use Rattle.reduce.specs.Demands.{KeepsWords, DeliversQuotient, DeliversChecked, DeliversMaximal, FewGuesses, DeliversCeiling, SameSearch, SpentSaid};
 use clauses::Listed;
 use limits::Limits;
 use map::map_of;
@@ -32,27 +32,63 @@ pub enum Reduction {
         guesses: u64,
         words: usize,
         length: usize,
+        joined: usize,
+        ceiling: usize,
+        spent: bool,
     },
-    // 39, 1 to 8, 22, 10, 13, 21
+    // 39, 1 to 8, 22, 10, 21
     Refused(u8),
 }
 
-// Map, check and quotient of an assignment: the map is written only once the quotient is.
-fn deliver_found(
+// The end of a search as its guesses, and whether none exists or the budget is spent.
+struct Made {
+    absent: bool,
+    guesses: u64,
+    spent: bool,
+}
+
+fn made_by(ending: Ending) -> Made
+    ensures { λ r. ⌜ MadeBy ending r ⌝ }
+{
+    match ending {
+        Ending::Found(guesses) => Made {
+            absent: false,
+            guesses,
+            spent: false,
+        },
+        Ending::Absent(guesses) => Made {
+            absent: true,
+            guesses,
+            spent: false,
+        },
+        Ending::Spent(guesses) => Made {
+            absent: false,
+            guesses,
+            spent: true,
+        },
+    }
+}
+
+// Map, check and quotient of the trial that is held: the map is written only once the quotient is. The true values are the joined pairs.
+fn deliver_held(
     table: &[u8],
     starts: Starts,
     tops: &[u64],
     n: u8,
     values: &[u8],
     guesses: u64,
+    ceiling: usize,
+    spent: bool,
     words: usize,
     map: &mut [u8],
     out: &mut [u8],
 ) -> Reduction
-    requires { ⌜ Known (now table) starts (now tops) × (n ≤ 40) × (n ≤ length (now map)) × (length (now values) ≡ pairs n) × (words ≡ length (shortWords (tableOf (now table)))) ⌝ }
-    ensures { λ r. ⌜ ((L : Limits) → Readable L (now (table .entry)) → (list : List ℕ) → _≡_ {A = Reduced} (record { answer = r; list = over (shortWords (tableOf (now (table .entry)))) list; map = now (map .exit); out = now (out .exit) }) (deliver L (now (table .entry)) list (now (map .entry)) (now (out .entry)) (mapOf (now (values .entry)) n) guesses)) ⌝ }
+    requires { ⌜ Known (now table) starts (now tops) × (n ≤ 40) × (n ≤ length (now map)) × (words ≡ length (shortWords (tableOf (now table)))) ⌝ }
+    requires { ⌜ HeldFor (tableOf (now table)) n (now values) ⌝ }
+    ensures { λ r. ⌜ ((L : Limits) → Readable L (now (table .entry)) → (list : List ℕ) → _≡_ {A = Reduced} (record { answer = r; list = over (shortWords (tableOf (now (table .entry)))) list; map = now (map .exit); out = now (out .exit) }) (deliver L (now (table .entry)) list (now (map .entry)) (now (out .entry)) (mapOf (now (values .entry)) n) guesses ceiling spent)) ⌝ }
 {
     let classes = map_of(values, n);
+    let joined = search::not_false(values);
     let found = classes.map;
     let count = n as usize;
     let written = quotient::quotient_known(table, starts, tops, &found[..count], out);
@@ -65,12 +101,16 @@ fn deliver_found(
                 guesses,
                 words,
                 length,
+                joined,
+                ceiling,
+                spent,
             }
         }
     }
 }
 
-// The search over the list that was written, with the classes in place of group 2, and what its end leads to.
+// The search over the list that was written, with the classes in place of group 2, and what its end leads to. That no assignment exists does not
+// happen: nothing joined is one.
 fn solve_listed(
     table: &[u8],
     starts: Starts,
@@ -82,26 +122,29 @@ fn solve_listed(
     out: &mut [u8],
 ) -> Reduction
     requires { ⌜ Known (now table) starts (now tops) × (n ≡ count (tableOf (now table))) × (n ≤ length (now map)) × (now list ≡ shortWords (tableOf (now table))) ⌝ }
-    ensures { λ r. ⌜ ((L : Limits) → Readable L (now (table .entry)) → (before : List ℕ) → _≡_ {A = Reduced} (record { answer = r; list = over (shortWords (tableOf (now (table .entry)))) before; map = now (map .exit); out = now (out .exit) }) (afterSearch L (now (table .entry)) before (now (map .entry)) (now (out .entry)) (searchOfTable (now (table .entry)) budget))) ⌝ }
+    ensures { λ r. ⌜ ((L : Limits) → Readable L (now (table .entry)) → (before : List ℕ) → _≡_ {A = Reduced} (record { answer = r; list = over (shortWords (tableOf (now (table .entry)))) before; map = now (map .exit); out = now (out .exit) }) (afterSearch L (now (table .entry)) before (now (map .entry)) (now (out .entry)) (triedOfTable (now (table .entry)) budget))) ⌝ }
 {
     let variables = pairs::pairs_of(n) as usize;
     let mut values = search::none_set();
     let end = search::solve(list, n, &mut values[..variables], budget);
-    match end {
-        Ending::Found(guesses) => deliver_found(
-            table,
-            starts,
-            tops,
-            n,
-            &values[..variables],
-            guesses,
-            list.len(),
-            map,
-            out,
-        ),
-        Ending::Absent(_) => Reduction::Refused(12),
-        Ending::Spent(_) => Reduction::Refused(13),
+    let ending = end.ending;
+    let made = made_by(ending);
+    if made.absent {
+        return Reduction::Refused(12);
     }
+    deliver_held(
+        table,
+        starts,
+        tops,
+        n,
+        &values[..variables],
+        made.guesses,
+        end.ceiling,
+        made.spent,
+        list.len(),
+        map,
+        out,
+    )
 }
 
 // A table that was read and whose tops are known, with room for its map: clauses, and what follows them.
@@ -142,6 +185,9 @@ pub fn reduce_within(
     ensures checked { λ r. ⌜ DeliversChecked limits r (now (table .entry)) (now (map .exit)) ⌝ }
     ensures maximal { λ r. ⌜ DeliversMaximal r (now (table .entry)) (now (map .exit)) ⌝ }
     ensures few { λ r. ⌜ FewGuesses r (now (table .entry)) ⌝ }
+    ensures ceiling { λ r. ⌜ DeliversCeiling r (now (table .entry)) (now (map .exit)) ⌝ }
+    ensures same { λ r. ⌜ SameSearch r (now (table .entry)) budget ⌝ }
+    ensures spent { λ r. ⌜ SpentSaid r (now (table .entry)) budget ⌝ }
 {
     let examined = tops::examine(limits, table);
     if examined.number != 0 {
@@ -171,6 +217,9 @@ pub fn reduce(
     ensures checked { λ r. ⌜ DeliversChecked standard r (now (table .entry)) (now (map .exit)) ⌝ }
     ensures maximal { λ r. ⌜ DeliversMaximal r (now (table .entry)) (now (map .exit)) ⌝ }
     ensures few { λ r. ⌜ FewGuesses r (now (table .entry)) ⌝ }
+    ensures ceiling { λ r. ⌜ DeliversCeiling r (now (table .entry)) (now (map .exit)) ⌝ }
+    ensures same { λ r. ⌜ SameSearch r (now (table .entry)) budget ⌝ }
+    ensures spent { λ r. ⌜ SpentSaid r (now (table .entry)) budget ⌝ }
 {
     reduce_within(limits::standard(), table, budget, list, map, out)
 }

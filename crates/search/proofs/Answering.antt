@@ -15,6 +15,7 @@ use Rattle.lists.proofs.Members.{and-true}
 use Rattle.lists.proofs.Refusals.{passed, passes, fails}
 use Rattle.cnf.specs.Clauses.{clausesIn, whole, clauseFits, Model, Maximal, Horn}
 use Rattle.cnf.specs.Search.{Outcome, solved, none-exists, spent, unfinished, searchFrom}
+use Rattle.cnf.specs.Trials.{searchTried}
 use Rattle.cnf.proofs.Values.{Formed}
 use Rattle.cnf.proofs.Words.{fit-formed}
 use Rattle.cnf.proofs.Theorems as theorems
@@ -24,12 +25,13 @@ use Rattle.search.specs.declared.Solution.the-variants.{Solved, Refused}
 use Rattle.search.specs.declared.engine.Ending.{Ending}
 use Rattle.search.specs.declared.engine.Ending.the-variants.{Found, Absent, Spent}
 use Rattle.search.specs.Conclusions.{withTriangles}
-use Rattle.search.specs.Turns.{noneSet, Fresh, outcomeOf}
+use Rattle.search.specs.Turns.{noneSet, Fresh, EndsWith, outcomeOf}
 use Rattle.search.specs.Answers.{listFits, searchNumber, Searched, searched, searchAt, searchOf}
 use Rattle.search.specs.Demands.{SearchSound}
 use Rattle.limits.specs.declared.Limits.{Limits}
 use Rattle.limits.specs.Limits.{limitsFit}
 use Rattle.search.proofs.Triangles.{with-none}
+use Rattle.search.proofs.Turns.{ends-outcome}
 
 -- ---- the refusals, in order
 
@@ -111,9 +113,9 @@ module _ (n : ℕ) (h : n ≤ 780) {s : List ℕ} (z : s ≡ noneSet) where
     pub prefix-size : length (take n (v ++ drop n s)) ≡ n
     prefix-size = ap length prefix-values ∙ long
 
-module _ (ws : List ℕ) (n b : ℕ) (r : Ending) (v : List ℕ) {m : ℕ} (e : m ≡ n) (q : outcomeOf r v ≡ searchFrom (withTriangles ws 0) m b) where
+module _ (ws : List ℕ) (n b : ℕ) (r : Ending) (v : List ℕ) (u : ℕ) {m : ℕ} (e : m ≡ n) (q : EndsWith (searchTried (withTriangles ws 0) m b) r v u) where
   outcome : outcomeOf r v ≡ searchFrom (clausesIn ws) n b
-  outcome = q ∙ ap (λ (cs : List (List ℕ)). searchFrom cs m b) (with-none ws) ∙ ap (λ (j : ℕ). searchFrom (clausesIn ws) j b) e
+  outcome = ends-outcome (withTriangles ws 0) m b r v u q ∙ ap (λ (cs : List (List ℕ)). searchFrom cs m b) (with-none ws) ∙ ap (λ (j : ℕ). searchFrom (clausesIn ws) j b) e
 
   pub is-found : {k : ℕ} → r ≡ Found k → solved v k ≡ searchFrom (clausesIn ws) n b
   is-found p = sym (ap (λ (z : Ending). outcomeOf z v) p) ∙ outcome

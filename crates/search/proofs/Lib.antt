@@ -17,5 +17,7 @@ pub mod Queueing
 pub mod Settling
 pub mod Undoing
 pub mod Unwinding
+pub mod Trying
+pub mod Retracing
 pub mod Turns
 pub mod Answering

@@ -7,11 +7,12 @@ use mathlib.Core.List.{List, [], _∷_, _++_, append-nil, List·Memᴰ·append-c
 use Prim.Native.Nat.{ℕ, zero, suc, _+_, _*_, _/_, _%_, _≤_, _<_}
 use native.Mathlib.Omega.{arith}
 use native.Mathlib.Decide.{ℕ-discrete}
+use lib.ListN.{length}
 use lib.Dec.{eqb, ltb}
 use borrow.Author.Tests.{eqb-true, eqb-false}
 use Rattle.lists.specs.Lists.{any, keep, gather, upto}
 use Rattle.lists.proofs.Members.{any-true, any-false, gather-mem, gather-of, upto-of}
-use Rattle.cnf.specs.Clauses.{positive, negative, valueOf, clausesIn}
+use Rattle.cnf.specs.Clauses.{positive, negative, valueOf, clausesIn, isPositive, Horn}
 use Rattle.cnf.specs.Search.{isRight, isUnset, broken, forcing, byUnset, seen}
 use Rattle.pairs.specs.Pairs.{pairs}
 use Rattle.cnf.proofs.Values.{Formed}
@@ -308,6 +309,24 @@ unset-rest n v u c m =
   where
     none : (x y z : ℕ) → Triple v x y z
     none x y z = record { third = λ a b. absurd (omega (arith, u x)); second = λ a b. absurd (omega (arith, u x)); first = λ a b. absurd (omega (arith, u y)) }
+
+arrow-one : (x y z : ℕ) → length (keep isPositive (arrow x y z)) ≡ 1
+unfolding keep isPositive
+arrow-one x y z =
+    let first : negative x % 2 ≡ 1 = omega arith in
+    let second : negative y % 2 ≡ 1 = omega arith in
+    let third : positive z % 2 ≡ 0 = omega arith in
+    rw (first, second, third, keep)
+
+triangle-one : (p q s : ℕ) (c : List ℕ) → List·Memᴰ c (triangle p q s) → length (keep isPositive c) ≤ 1
+unfolding triangle
+triangle-one p q s c (List·Memᴰ·head e) = rw e (omega (arith, arrow-one (variableOf p q) (variableOf q s) (variableOf p s)))
+triangle-one p q s c (List·Memᴰ·tail (List·Memᴰ·head e)) = rw e (omega (arith, arrow-one (variableOf p q) (variableOf p s) (variableOf q s)))
+triangle-one p q s c (List·Memᴰ·tail (List·Memᴰ·tail (List·Memᴰ·head e))) = rw e (omega (arith, arrow-one (variableOf p s) (variableOf q s) (variableOf p q)))
+
+-- each clause of the group has one positive literal
+pub triangles-horn : (n : ℕ) → Horn (triangles n)
+triangles-horn n = record { one = λ c m. let i = in-some n c m in triangle-one (i .low) (i .middle) (i .high) c (i .here) }
 
 -- no states have none
 pub no-triangles : triangles 0 ≡ []

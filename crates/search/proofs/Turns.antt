@@ -2,9 +2,9 @@
 -- makes one. Assumes nothing.
 use mathlib.Core.Path.{_≡_, refl, sym, ap, _∙_, subst}
 use mathlib.Core.Logic.{_≢_, _⊎_, inl, inr}
-use mathlib.Core.Bool.{Bool, true, false}
-use mathlib.Core.List.{List, [], _∷_, _++_, List·Memᴰ, Memᴰ·append-left, List·Memᴰ·not-nil as not-nil, List·Memᴰ·append-cases as append-cases, List·Memᴰ·eq-of-singleton as eq-of-singleton}
-use mathlib.Core.Option.{some}
+use mathlib.Core.Bool.{Bool, true, false, _&&_}
+use mathlib.Core.List.{List, [], _∷_, _++_, List·Memᴰ, Memᴰ·append-left, Memᴰ·append-right, List·Memᴰ·not-nil as not-nil, List·Memᴰ·append-cases as append-cases, List·Memᴰ·eq-of-singleton as eq-of-singleton}
+use mathlib.Core.Option.{some, none as none-yet}
 use Prim.Native.Nat.{ℕ, suc, _+_, _-_, _/_, _%_, _*_, _≤_, _<_, zero-le}
 use native.Mathlib.Numerals.{add-one}
 use native.Mathlib.Omega.{arith}
@@ -12,23 +12,30 @@ use native.Mathlib.Decide.{ℕ-discrete, decLt}
 use lib.ListN.{length, getD, set, take, drop, replicate, length-set, length-append, List·getD-append, take-append-drop}
 use lib.Seq.{slice, slice-empty, slice-cons, getD-set-same, getD-set-other, take-append-le, drop-append-le, take-append-seam, drop-append-seam, getD-append-seam, take-suc, take-suc-set, drop-cons, getD-take, take-take, length-take-le}
 use borrow.Author.Tests.{eq-eqb, ne-eqb}
+use Rattle.lists.specs.Lists.{any, all}
 use Rattle.lists.proofs.Members.{getD-mem}
-use Rattle.cnf.specs.Clauses.{valueOf}
-use Rattle.cnf.specs.Search.{goes, Outcome, solved, none-exists, spent, Guess, undo, decide, lowestUnset, searchFrom}
+use Rattle.cnf.specs.Clauses.{valueOf, clausesIn}
+use Rattle.cnf.specs.Search.{isRight, goes, Outcome, solved, none-exists, spent, Guess, undo, decide, lowestUnset, searchFrom}
+use Rattle.cnf.specs.Trials.{onlyTrue, satisfied, notFalse, Trials, better, ceilingBy, rested, Tried, untried, searchTried}
 use Rattle.cnf.proofs.Values.{Formed, Values, ⊑-refl, set-values, start-values, unsetCount, unset-set, unset-start, none-set}
 use Rattle.cnf.proofs.Found.{lowest-some, lowest-none}
 use Rattle.cnf.proofs.Steps.{stateOf, guessOf}
 use Rattle.cnf.proofs.Order.{AtRest}
 use Rattle.cnf.proofs.Queue.{waiting-set, rest-waiting}
-use Rattle.cnf.proofs.Closure.{Closed, breaks, rests, Closes, closes-one, turnTo, LeadsTo, there, turn, atStart, turns-search}
+use Rattle.cnf.proofs.Closure.{Closed, breaks, rests, Closes, closes-one, turnTo, atStart}
+use Rattle.cnf.proofs.Trying.{closedTrials, endOf, TriesTo, there, turn, tried-outcome, turns-tried}
+use Rattle.cnf.proofs.Trials.{latest as latestTrial, Holds, holds-start, holds-closed, holds-undone, holds-guess, holds-latest, horn-trial, solved-held}
 use Rattle.pairs.specs.Triangles.{triangles}
 use Rattle.search.specs.Trail.{unsetting, Ready, Grown, Queue, closedBy, Settles}
 use Rattle.search.specs.Rows.{Rows, Own, Settable, Forced}
 use Rattle.search.specs.Conclusions.{withTriangles}
-use Rattle.search.specs.Turns.{NextUnset, Undoable, Undone, Fresh, Rested}
+use Rattle.search.specs.Trial.{heldIf, backAlong, Retraceable}
+use Rattle.search.specs.Turns.{NextUnset, Undoable, Undone, Fresh, Rested, EndsWith, outcomeOf}
+use Rattle.search.specs.declared.engine.Ending.{Ending}
+use Rattle.search.specs.declared.engine.Ending.the-variants.{Found, Absent, Spent}
 use Rattle.search.proofs.Trails.{unsetting-append, length-unsetting, unsetting-store, grown-length, grown-store}
 use Rattle.search.proofs.Marking.{rows-start}
-use Rattle.search.proofs.Triangles.{with-formed, unset-rest}
+use Rattle.search.proofs.Triangles.{with-formed, triangles-horn, unset-rest}
 
 -- ---- the guesses that stand
 
@@ -74,6 +81,36 @@ module _ {cs : List (List ℕ)} {n : ℕ} {ms : List ℕ} where
       l
       q
       (stands-marks (λ i k. getD-set-other ms d i (length p) 0 (omega arith)) (subst (λ (r : List ℕ). Stands cs n ms v r d gs) (sym (take-append-seam p (x ∷ []))) s))
+
+-- the places of the guesses ascend on the trail
+stands-places : {cs : List (List ℕ)} {n : ℕ} {ms v p : List ℕ} {d : ℕ} {gs : List Guess} → Stands cs n ms v p d gs → (e : ℕ) → e < d → getD ms e 0 < length p
+stands-places none e h = absurd (omega arith)
+stands-places {ms = ms} {p = p} (one {d = d} {m = m} em lm ex eu z c l q s) e h = go (ℕ-discrete e d) (λ k. stands-places s e k)
+  where
+    go : Dec (e ≡ d) → (e < d → getD ms e 0 < length (take m p)) → getD ms e 0 < length p
+    go (yes k) ih = let same : getD ms e 0 ≡ m = ap (λ (i : ℕ). getD ms i 0) k ∙ sym em in omega arith
+    go (no k) ih = omega (arith, ih (omega arith), length-take-le m p (omega arith))
+
+stands-ascend : {cs : List (List ℕ)} {n : ℕ} {ms v p : List ℕ} {d : ℕ} {gs : List Guess} → Stands cs n ms v p d gs → (e f : ℕ) → e < f → f < d → getD ms e 0 < getD ms f 0
+stands-ascend none e f h k = absurd (omega arith)
+stands-ascend {ms = ms} {p = p} (one {d = d} {m = m} em lm ex eu z c l q s) e f h k = go (ℕ-discrete f d) (λ k. stands-ascend s e f h k)
+  where
+    go : Dec (f ≡ d) → (f < d → getD ms e 0 < getD ms f 0) → getD ms e 0 < getD ms f 0
+    go (yes i) ih = let same : getD ms f 0 ≡ m = ap (λ (i : ℕ). getD ms i 0) i ∙ sym em in omega (arith, stands-places s e (omega arith), length-take-le m p (omega arith))
+    go (no i) ih = ih (omega arith)
+
+-- the walk back finds the latest trial that satisfies the clauses; ds are those of them that have to be tried at rest
+module _ {cs : List (List ℕ)} (ds : List (List ℕ)) {n : ℕ} {ms : List ℕ} (same : (u : List ℕ) → Values n u → AtRest cs u → satisfied cs (onlyTrue u) ≡ satisfied ds (onlyTrue u)) where
+  stands-back : {v p : List ℕ} {d : ℕ} {gs : List Guess} (x : ℕ) → Values n v → AtRest cs v → Stands cs n ms v p d gs → latestTrial cs n (guessOf v x ∷ gs) ≡ backAlong ds ms v p d
+  unfolding latestTrial backAlong
+  stands-back {v} x y r none = ap (λ (t : Bool). elim t as (λ _. List ℕ) [ true ↦ onlyTrue v | false ↦ replicate n 0 ]) (same v y r) ∙ go (satisfied ds (onlyTrue v))
+    where
+      go : (t : Bool) → elim t as (λ _. List ℕ) [ true ↦ onlyTrue v | false ↦ replicate n 0 ] ≡ heldIf t v
+      go true = refl
+      go false = ap (λ (k : ℕ). replicate {A = ℕ} k 0) (sym (y .long))
+  stands-back {v} {p} {gs = gs} x y r (one {u = u} {d = d} {m = m} {x = g} em lm ex eu z c l q s) =
+      ap (λ (t : Bool). elim t as (λ _. List ℕ) [ true ↦ onlyTrue v | false ↦ latestTrial cs n gs ]) (same v y r)
+      ∙ ap (λ (w : List ℕ). elim (satisfied ds (onlyTrue v)) as (λ _. List ℕ) [ true ↦ onlyTrue v | false ↦ w ]) (stands-back g z q s ∙ (λ i. backAlong ds ms (sym eu i) (take m p) d) ∙ ap (λ (k : ℕ). backAlong ds ms (unsetting v (drop k p)) (take k p) d) em)
 
 -- the latest guess
 record Latest (cs : List (List ℕ)) (n : ℕ) (ms v p : List ℕ) (d : ℕ) (gs : List Guess) : Type 0 where
@@ -126,12 +163,16 @@ set-lower v x k h n l j b = go (ℕ-discrete j x)
 
 -- ---- a turn
 
-undo-leads : {cs : List (List ℕ)} {n b k x : ℕ} {v u : List ℕ} {gs : List Guess} {o : Outcome} → Values n v → Closes cs v breaks → LeadsTo cs n b (goes (stateOf (set u x 0) gs k)) o → LeadsTo cs n b (goes (stateOf v (guessOf u x ∷ gs) k)) o
+-- the trial that is held, once there is a ceiling
+abbrev trialsOf : List ℕ → ℕ → Trials
+trialsOf held u = record { held = held; ceiling = some u }
+
+undo-leads : {cs : List (List ℕ)} {n b k x : ℕ} {v u : List ℕ} {gs : List Guess} {t : Trials} {e : Tried} → Values n v → Closes cs v breaks → TriesTo cs n b (goes (stateOf (set u x 0) gs k)) t e → TriesTo cs n b (goes (stateOf v (guessOf u x ∷ gs) k)) t e
 unfolding turnTo undo
 undo-leads z h l = turn breaks z h l
 
--- at the head of a turn: n variables, b the budget
-pub record Turning (cs : List (List ℕ)) (n b : ℕ) (v t ms : List ℕ) (from count depth made low : ℕ) : Type 0 where
+-- at the head of a turn: n variables, b the budget, u the ceiling
+pub record Turning (cs : List (List ℕ)) (n b u : ℕ) (v t ms : List ℕ) (from count depth made low : ℕ) : Type 0 where
   pub ready : Ready cs v t count
   pub queue : Queue cs v t from count
   pub size : length v ≡ n
@@ -144,7 +185,9 @@ pub record Turning (cs : List (List ℕ)) (n b : ℕ) (v t ms : List ℕ) (from 
   pub low-in : low ≤ n
   pub lower : (j : ℕ) → j < low → valueOf v j ≢ 2
   pub few : made ≤ b
-  pub leads : (o : Outcome) → LeadsTo cs n b (goes (stateOf v guesses made)) o → LeadsTo cs n b (atStart n) o
+  pub held : List ℕ
+  pub holds : Holds cs n v guesses held
+  pub leads : (e : Tried) → TriesTo cs n b (goes (stateOf v guesses made)) (trialsOf held u) e → TriesTo cs n b (atStart n) (untried n) e
 
 -- the queue has one variable, which was set in values at rest
 queue-one : {cs : List (List ℕ)} {v t : List ℕ} {at x k : ℕ} → AtRest cs v → x < length v → k ≢ 2 → at < length t → x ≡ getD t at 0 → Queue cs (set v x k) t at (at + 1)
@@ -160,11 +203,34 @@ queue-one {cs} {v} {t} {at} {x} {k} r h n l e = record {
     is-set : (y : ℕ) → y ≡ x → (y < length (set v x k)) × (valueOf (set v x k) y ≢ 2)
     is-set y q = (rw (q, length-set) h, λ z. n (sym (getD-set-same v x k 2 h) ∙ ap (valueOf (set v x k)) (sym q) ∙ z))
 
+-- ---- how the search ends
+
+module _ {cs : List (List ℕ)} {n b : ℕ} (formed : Formed cs n) where
+  ended : {o : Outcome} (t : Trials) → TriesTo cs n b (atStart n) (untried n) (endOf o t) → searchTried cs n b ≡ endOf o t
+  ended {o} t l = sym (turns-tried cs n b formed (endOf o t) l)
+
+  absent-ends : {k : ℕ} (t : Trials) → TriesTo cs n b (atStart n) (untried n) (endOf (none-exists k) t) → searchTried cs n b .outcome ≡ none-exists k
+  absent-ends t l = ap (λ (e : Tried). e .outcome) (ended t l)
+
+  -- what was found is held
+  found-ends : {w : List ℕ} {k u : ℕ} (held : List ℕ) → TriesTo cs n b (atStart n) (untried n) (endOf (solved w k) (trialsOf held u)) → EndsWith (searchTried cs n b) (Found k) w u
+  found-ends {w} {k} {u} held l =
+      let e = ended (trialsOf held u) l in
+      let same : held ≡ w = sym (ap (λ (e : Tried). e .trials .held) e) ∙ solved-held cs n b formed w k (sym (tried-outcome cs n b) ∙ ap (λ (e : Tried). e .outcome) e) in
+      e ∙ (λ i. endOf (solved w k) (trialsOf (same i) u))
+
+pub ends-outcome : (cs : List (List ℕ)) (n b : ℕ) (r : Ending) (w : List ℕ) (u : ℕ) → EndsWith (searchTried cs n b) r w u → outcomeOf r w ≡ searchFrom cs n b
+ends-outcome cs n b (Found k) w u e = sym (ap (λ (e : Tried). e .outcome) e) ∙ tried-outcome cs n b
+ends-outcome cs n b (Absent k) w u e = sym e ∙ tried-outcome cs n b
+ends-outcome cs n b (Spent k) w u e = sym (ap (λ (e : Tried). e .outcome) e) ∙ tried-outcome cs n b
+
 -- ---- the first closing
 
--- values that were closed close to themselves
-rested-leads : {cs : List (List ℕ)} {n b k : ℕ} {v w : List ℕ} {gs : List Guess} {o : Outcome} → Values n v → Closes cs v (rests w) → LeadsTo cs n b (goes (stateOf w gs k)) o → LeadsTo cs n b (goes (stateOf v gs k)) o
-rested-leads {cs} {n} {b} {k} {v} {w} {gs} {o} z h (turn c y i l) = turn (rests w) z h (subst (λ (x : Closed). LeadsTo cs n b (turnTo b gs k x) o) (closes-one cs w c (rests w) i itself) l)
+-- values that were closed close to themselves; the ceiling is that of the first rest
+rested-leads : {cs : List (List ℕ)} {n b k : ℕ} {v w held : List ℕ} {gs : List Guess} {e : Tried} → Values n v → Closes cs v (rests w) → TriesTo cs n b (goes (stateOf w gs k)) (trialsOf held (notFalse w)) e → TriesTo cs n b (goes (stateOf v gs k)) (record { held = held; ceiling = none-yet }) e
+unfolding rested ceilingBy
+rested-leads {cs} {n} {b} {k} {v} {w} {held} {gs} {e} z h (turn c y i l) =
+    turn (rests w) z h (subst (λ (x : Closed). TriesTo cs n b (turnTo b gs k x) (closedTrials cs x (trialsOf held (notFalse w))) e) (closes-one cs w c (rests w) i itself) l)
   where
     itself : Closes cs w (rests w)
     itself = record { long = refl; small = h .small; extends = ⊑-refl w; at-rest = h .at-rest; least = λ u p q. p }
@@ -199,17 +265,17 @@ module _ {ws v : List ℕ} {m : ℕ} (f : Fresh ws m v) (b : ℕ) where
     closed : Closes (withTriangles ws m) (replicate (length v) 2) (closedBy isBroken w)
     closed = subst (λ (u : List ℕ). Closes (withTriangles ws m) u (closedBy isBroken w)) (f .none-set) (c .closes)
 
-    pub first-absent : isBroken ≡ true → none-exists 0 ≡ searchFrom (withTriangles ws m) (length v) b
+    pub first-absent : isBroken ≡ true → (u : ℕ) → EndsWith (searchTried (withTriangles ws m) (length v) b) (Absent 0) w u
     unfolding turnTo undo
-    first-absent e = turns-search (withTriangles ws m) (length v) b (all-formed) (none-exists 0) (turn breaks (start-values (length v)) (rw e at closed) there)
+    first-absent e u = absent-ends all-formed (untried (length v)) (turn breaks (start-values (length v)) (rw e at closed) there)
 
     module _ (e : isBroken ≡ false) where
       first-least : Closes (withTriangles ws m) (replicate (length v) 2) (rests w)
       first-least = rw e at closed
 
-      pub first-solved : count ≡ length w → solved w 0 ≡ searchFrom (withTriangles ws m) (length v) b
-      unfolding turnTo decide
-      first-solved q = turns-search (withTriangles ws m) (length v) b (all-formed) (solved w 0) (turn (rests w) (start-values (length v)) first-least (rw (lowest-none w 0 (all-set w (c .grown .counted) q)) there))
+      pub first-solved : count ≡ length w → EndsWith (searchTried (withTriangles ws m) (length v) b) (Found 0) w (notFalse w)
+      unfolding turnTo decide rested ceilingBy
+      first-solved q = found-ends all-formed (better (withTriangles ws m) (onlyTrue w) (replicate (length v) 0)) (turn (rests w) (start-values (length v)) first-least (rw (lowest-none w 0 (all-set w (c .grown .counted) q)) there))
 
       pub first-rested : length t ≡ 780 → Rested (withTriangles ws m) (length w) w s count
       first-rested p = subst (λ (n : ℕ). Rested (withTriangles ws m) n w s count) (sym (grown-length (c .grown))) (record {
@@ -223,12 +289,12 @@ module _ {ws v : List ℕ} {m : ℕ} (f : Fresh ws m v) (b : ℕ) where
       })
 
       -- what comes of the search from here on
-      pub first-outcome : {o : Outcome} → o ≡ searchFrom (withTriangles ws m) (length w) b → o ≡ searchFrom (withTriangles ws m) (length v) b
-      first-outcome q = q ∙ ap (λ (n : ℕ). searchFrom (withTriangles ws m) n b) (grown-length (c .grown))
+      pub first-outcome : (r : Ending) (x : List ℕ) {u k : ℕ} → k ≡ u → EndsWith (searchTried (withTriangles ws m) (length w) b) r x u → EndsWith (searchTried (withTriangles ws m) (length v) b) r x k
+      first-outcome r x {u} {k} p q = subst (λ (n : ℕ). EndsWith (searchTried (withTriangles ws m) n b) r x k) (grown-length (c .grown)) (subst (EndsWith (searchTried (withTriangles ws m) (length w) b) r x) (sym p) q)
 
 -- ---- from the values at rest on
 
-pub turning : {cs : List (List ℕ)} {n : ℕ} {v t : List ℕ} {count : ℕ} (b : ℕ) (ms : List ℕ) → Rested cs n v t count → length ms ≡ 780 → Turning cs n b v t ms count count 0 0 0
+pub turning : {cs : List (List ℕ)} {n : ℕ} {v t : List ℕ} {count : ℕ} (b : ℕ) (ms : List ℕ) → Rested cs n v t count → length ms ≡ 780 → Turning cs n b (notFalse v) v t ms count count 0 0 0
 turning {cs} {n} {v} {t} {count} b ms r q = record {
   ready = record {
     formed = rw (r .size) (r .formed);
@@ -251,10 +317,12 @@ turning {cs} {n} {v} {t} {count} b ms r q = record {
   low-in = zero-le;
   lower = λ j h. absurd (omega arith);
   few = zero-le;
-  leads = λ o l. rested-leads (start-values n) (r .closed) l;
+  held = replicate n 0;
+  holds = holds-closed (holds-start cs n) (r .closed);
+  leads = λ e l. rested-leads (start-values n) (r .closed) l;
 }
 
-module _ {cs : List (List ℕ)} {v t ms w s : List ℕ} {n b from count depth made low more : ℕ} {isBroken : Bool} (i : Turning cs n b v t ms from count depth made low) (c : Settles cs v t count w s isBroken more) where
+module _ {cs : List (List ℕ)} {v t ms w s : List ℕ} {n b most from count depth made low more : ℕ} {isBroken : Bool} (i : Turning cs n b most v t ms from count depth made low) (c : Settles cs v t count w s isBroken more) where
   pub after-size : length w ≡ n
   after-size = grown-length (c .grown) ∙ i .size
 
@@ -278,6 +346,9 @@ module _ {cs : List (List ℕ)} {v t ms w s : List ℕ} {n b from count depth ma
       go (inl k) = i .below x k
       go (inr k) = omega (arith, c .grown .below x k, i .size)
 
+  after-places : (j : ℕ) → j < more → getD s j 0 < length w
+  after-places j h = rw after-size (after-below (getD s j 0) (subst (λ (y : ℕ). List·Memᴰ y (take more s)) (getD-take more s j 0 h) (getD-mem (take more s) j 0 (omega (arith, trail-length)))))
+
   pub after-depth : depth ≤ more
   after-depth = omega (arith, depth-le after-stands, trail-length)
 
@@ -287,9 +358,6 @@ module _ {cs : List (List ℕ)} {v t ms w s : List ℕ} {n b from count depth ma
   values : Values n v
   values = rw (i .size) at (i .ready .values)
 
-  ends-with : (o : Outcome) → LeadsTo cs n b (goes (stateOf v (i .guesses) made)) o → o ≡ searchFrom cs n b
-  ends-with o l = turns-search cs n b formed o (i .leads o l)
-
   -- ---- a clause is broken
 
   module _ (e : isBroken ≡ true) where
@@ -297,9 +365,11 @@ module _ {cs : List (List ℕ)} {v t ms w s : List ℕ} {n b from count depth ma
     broke = rw e at (c .closes)
 
     -- no guess stands
-    pub turn-absent : depth ≡ 0 → none-exists made ≡ searchFrom cs n b
+    pub turn-absent : depth ≡ 0 → EndsWith (searchTried cs n b) (Absent made) w most
     unfolding turnTo undo
-    turn-absent z = ends-with (none-exists made) (subst (λ (gs : List Guess). LeadsTo cs n b (goes (stateOf v gs made)) (none-exists made)) (sym (no-guess (i .stands) z)) (turn breaks values broke there))
+    turn-absent z =
+        absent-ends formed (trialsOf (i .held) most)
+        (i .leads _ (subst (λ (gs : List Guess). TriesTo cs n b (goes (stateOf v gs made)) (trialsOf (i .held) most) (endOf (none-exists made) (trialsOf (i .held) most))) (sym (no-guess (i .stands) z)) (turn breaks values broke there)))
 
     module _ (d : ℕ) {mark : ℕ} (q : depth ≡ suc d) (m : mark ≡ getD ms d 0) where
       top : Latest cs n ms w (take more s) d (i .guesses)
@@ -312,7 +382,7 @@ module _ {cs : List (List ℕ)} {v t ms w s : List ℕ} {n b from count depth ma
       can-undo = record {
         inside = place;
         room = omega (arith, after-count);
-        below = λ j h. rw after-size (after-below (getD s j 0) (subst (λ (y : ℕ). List·Memᴰ y (take more s)) (getD-take more s j 0 h) (getD-mem (take more s) j 0 (omega (arith, trail-length)))));
+        below = after-places;
       }
 
       module _ {u : List ℕ} {x : ℕ} (r : Undone w s mark more u x) where
@@ -344,7 +414,7 @@ module _ {cs : List (List ℕ)} {v t ms w s : List ℕ} {n b from count depth ma
         undone-size : length u ≡ n
         undone-size = ap length undone ∙ length-set (top .values) x 0 ∙ top .formed .long
 
-        pub turn-undo : Turning cs n b u s ms mark (mark + 1) d made (x + 1)
+        pub turn-undo : Turning cs n b most u s ms mark (mark + 1) d made (x + 1)
         turn-undo = record {
           ready = record {
             formed = rw undone-size formed;
@@ -363,11 +433,13 @@ module _ {cs : List (List ℕ)} {v t ms w s : List ℕ} {n b from count depth ma
           low-in = omega (arith, inside);
           lower = rw undone (set-lower (top .values) x 0 (omega (arith, inside, top .formed .long)) (omega arith) (λ j h. top .lower j (omega (arith, guessed))));
           few = i .few;
-          leads = λ o l. i .leads o (again o l);
+          held = i .held;
+          holds = subst (λ (y : List ℕ). Holds cs n y (top .rest) (i .held)) (ap (λ (y : ℕ). set (top .values) y 0) (sym guessed) ∙ sym undone) (holds-undone (i .holds) (top .guesses) broke);
+          leads = λ e l. i .leads e (again e l);
         }
           where
-            again : (o : Outcome) → LeadsTo cs n b (goes (stateOf u (top .rest) made)) o → LeadsTo cs n b (goes (stateOf v (i .guesses) made)) o
-            again o l = rw (top .guesses) (undo-leads values broke (rw (← guessed, ← undone) l))
+            again : (e : Tried) → TriesTo cs n b (goes (stateOf u (top .rest) made)) (trialsOf (i .held) most) e → TriesTo cs n b (goes (stateOf v (i .guesses) made)) (trialsOf (i .held) most) e
+            again e l = rw (top .guesses) (undo-leads values broke (rw (← guessed, ← undone) l))
 
   -- ---- the values are at rest
 
@@ -385,14 +457,18 @@ module _ {cs : List (List ℕ)} {v t ms w s : List ℕ} {n b from count depth ma
         go (yes l) = λ z. i .lower j l (sym (least .extends .keeps j (i .lower j l)) ∙ z)
         go (no l) = f .passed j (omega arith) h
 
-    rests-with : (o : Outcome) → LeadsTo cs n b (decide b (stateOf w (i .guesses) made) (lowestUnset w 0)) o → LeadsTo cs n b (goes (stateOf v (i .guesses) made)) o
-    unfolding turnTo
-    rests-with o l = turn (rests w) values least l
+    -- the trial that is then held
+    abbrev best : List ℕ
+    best = better cs (onlyTrue w) (i .held)
+
+    rests-with : (e : Tried) → TriesTo cs n b (decide b (stateOf w (i .guesses) made) (lowestUnset w 0)) (trialsOf best most) e → TriesTo cs n b (goes (stateOf v (i .guesses) made)) (trialsOf (i .held) most) e
+    unfolding turnTo rested ceilingBy
+    rests-with e l = turn (rests w) values least l
 
     -- nothing is unset
-    pub turn-solved : x ≡ length w → solved w made ≡ searchFrom cs n b
+    pub turn-solved : x ≡ length w → EndsWith (searchTried cs n b) (Found made) w most
     unfolding decide
-    turn-solved q = ends-with (solved w made) (rests-with (solved w made) (rw (lowest-none w 0 (λ j h. after-lower j (omega arith))) there))
+    turn-solved q = found-ends formed best (i .leads (endOf (solved w made) (trialsOf best most)) (rests-with (endOf (solved w made) (trialsOf best most)) (rw (lowest-none w 0 (λ j h. after-lower j (omega arith))) there)))
 
     module _ (q : x ≡ length w → ⊥) where
       inner : x < length w
@@ -402,9 +478,25 @@ module _ {cs : List (List ℕ)} {v t ms w s : List ℕ} {n b from count depth ma
       first = let z : 0 + x ≡ x = omega arith in lowest-some w 0 x inner (f .found inner) after-lower ∙ ap some z
 
       -- the budget is spent
-      pub turn-spent : made ≡ b → spent made ≡ searchFrom cs n b
+      spent-ends : made ≡ b → searchTried cs n b ≡ endOf (spent made) (trialsOf best most)
       unfolding decide
-      turn-spent p = ends-with (spent made) (rests-with (spent made) (rw (first, eq-eqb made b p, decide) there))
+      spent-ends p = ended formed (trialsOf best most) (i .leads (endOf (spent made) (trialsOf best most)) (rests-with (endOf (spent made) (trialsOf best most)) (rw (first, eq-eqb made b p, decide) there)))
+
+      -- the values are walked back
+      pub turn-spent : (ds : List (List ℕ)) {u : List ℕ} → ((y : List ℕ) → Values n y → AtRest cs y → satisfied cs (onlyTrue y) ≡ satisfied ds (onlyTrue y)) → made ≡ b
+          → u ≡ backAlong ds ms w (take more s) depth → EndsWith (searchTried cs n b) (Spent made) u most
+      turn-spent ds {u} same p q =
+          let held : best ≡ u = holds-latest (holds-closed (i .holds) least) after-values x ∙ stands-back ds same x after-values (least .at-rest) after-stands ∙ sym q in
+          spent-ends p ∙ (λ j. endOf (spent made) (trialsOf (held j) most))
+
+      pub can-retrace : Retraceable w s ms depth more
+      can-retrace = record {
+        few = omega (arith, after-depth, after-count, i .most);
+        room = omega (arith, after-count);
+        below = after-places;
+        places = λ e h. omega (arith, stands-places after-stands e h, trail-length);
+        ascend = λ e f h k. stands-ascend after-stands e f h k;
+      }
 
       -- a guess
       further : Grown w s more (set w x 1) (set s more x) (more + 1)
@@ -428,7 +520,7 @@ module _ {cs : List (List ℕ)} {v t ms w s : List ℕ} {n b from count depth ma
       guessed-stands =
           stands-guess (omega (arith, after-depth, room-left, i .most, i .marks)) after-values (omega (arith, trail-length, c .grown .counted, after-size)) (f .found inner) after-lower (least .at-rest) after-stands
 
-      guess-made : (made ≡ b → ⊥) → Turning cs n b (set w x 1) (set s more x) (set ms depth more) more (more + 1) (depth + 1) (made + 1) (x + 1)
+      guess-made : (made ≡ b → ⊥) → Turning cs n b most (set w x 1) (set s more x) (set ms depth more) more (more + 1) (depth + 1) (made + 1) (x + 1)
       guess-made p = record {
         ready = record {
           formed = rw guess-size formed;
@@ -447,18 +539,46 @@ module _ {cs : List (List ℕ)} {v t ms w s : List ℕ} {n b from count depth ma
         low-in = omega (arith, inner, after-size);
         lower = set-lower w x 1 inner (omega arith) after-lower;
         few = omega (arith, i .few);
-        leads = λ o l. i .leads o (rests-with o (again o l));
+        held = best;
+        holds = holds-guess (holds-closed (i .holds) least) after-values x (omega (arith, inner, after-size)) (f .found inner);
+        leads = λ e l. i .leads e (rests-with e (again e l));
       }
         where
           pick : (y : ℕ) → List·Memᴰ y (take more s) ⊎ List·Memᴰ y (x ∷ []) → y < n
           pick y (inl k) = after-below y k
           pick y (inr k) = omega (arith, eq-of-singleton k, inner, after-size)
 
-          again : (o : Outcome) → LeadsTo cs n b (goes (stateOf (set w x 1) (guessOf w x ∷ i .guesses) (made + 1))) o → LeadsTo cs n b (decide b (stateOf w (i .guesses) made) (lowestUnset w 0)) o
-          again o l = unfold decide in rw (first, ne-eqb made b p, decide) l
+          again : (e : Tried) → TriesTo cs n b (goes (stateOf (set w x 1) (guessOf w x ∷ i .guesses) (made + 1))) (trialsOf best most) e → TriesTo cs n b (decide b (stateOf w (i .guesses) made) (lowestUnset w 0)) (trialsOf best most) e
+          again e l = unfold decide in rw (first, ne-eqb made b p, decide) l
 
-      pub turn-guess : (made ≡ b → ⊥) → {l m last : ℕ} {u r joined apart : List ℕ} → l ≡ 2 * x → Forced m w s more l u r joined apart last → Turning cs n b u r (set ms depth more) more last (depth + 1) (made + 1) (x + 1)
+      pub turn-guess : (made ≡ b → ⊥) → {l m last : ℕ} {u r joined apart : List ℕ} → l ≡ 2 * x → Forced m w s more l u r joined apart last → Turning cs n b most u r (set ms depth more) more last (depth + 1) (made + 1) (x + 1)
       turn-guess p {l} z h =
           let half : l / 2 ≡ x = omega arith in
           let sign : 1 - l % 2 ≡ 1 = omega arith in
           rw (h .assigned .values, h .trail, h .count-more, half, sign) (guess-made p)
+
+-- ---- group 2 holds in every trial at rest
+
+satisfied-append : (cs ds : List (List ℕ)) (a : List ℕ) → satisfied (cs ++ ds) a ≡ (satisfied cs a && satisfied ds a)
+unfolding satisfied all
+satisfied-append [] ds a = refl
+satisfied-append (c ∷ cs) ds a = ap (λ (t : Bool). any (isRight a) c && t) (satisfied-append cs ds a) ∙ sym (and-assoc (any (isRight a) c) (satisfied cs a) (satisfied ds a))
+  where
+    and-assoc : (s t u : Bool) → ((s && t) && u) ≡ (s && (t && u))
+    and-assoc true t u = refl
+    and-assoc false t u = refl
+
+-- so only the list is to be tried
+pub short-trial : (ws : List ℕ) (m : ℕ) {n : ℕ} → Formed (withTriangles ws m) n → (u : List ℕ) → Values n u → AtRest (withTriangles ws m) u → satisfied (withTriangles ws m) (onlyTrue u) ≡ satisfied (clausesIn ws) (onlyTrue u)
+short-trial ws m f u z q = satisfied-append (clausesIn ws) (triangles m) (onlyTrue u) ∙ rw group (and-left (satisfied (clausesIn ws) (onlyTrue u)))
+  where
+    group : satisfied (triangles m) (onlyTrue u) ≡ true
+    group = horn-trial (triangles-horn m) (record { below = λ c k. f .below c (Memᴰ·append-right (clausesIn ws) k) }) z (λ c k. q c (Memᴰ·append-right (clausesIn ws) k))
+
+    and-left : (t : Bool) → (t && true) ≡ t
+    and-left true = refl
+    and-left false = refl
+
+-- the clauses of the list are over the variables
+pub list-formed : (ws : List ℕ) (m : ℕ) {n : ℕ} → Formed (withTriangles ws m) n → Formed (clausesIn ws) n
+list-formed ws m f = record { below = λ c k. f .below c (Memᴰ·append-left (triangles m) k) }

@@ -47,7 +47,7 @@ module _ {ws : List ℕ} {at : ℕ} (b : Before ws at) (h : at < length ws) wher
   pub end-inside : at + 1 + getD ws at 0 ≤ length ws
   end-inside = omega (arith, leb-true (getD ws at 0) (length (drop (at + 1) ws)) (and-true (leb (getD ws at 0) (length (drop (at + 1) ws))) (whole (drop (at + 1 + getD ws at 0) ws)) at-whole .0), length-drop (at + 1) ws)
 
-  at-clauses : clausesIn (drop at ws) ≡ clauseAt ws at ∷ clausesIn (drop (at + 1 + getD ws at 0) ws)
+  pub at-clauses : clausesIn (drop at ws) ≡ clauseAt ws at ∷ clausesIn (drop (at + 1 + getD ws at 0) ws)
   at-clauses = rw (drop-cons ws at 0 h, clauses-cons, ← add-one at, drop-drop, take-drop)
 
   -- the clause is one of the list

@@ -5,5 +5,6 @@ pub mod Trail
 pub mod Rows
 pub mod Conclusions
 pub mod Chains
+pub mod Trial
 pub mod Turns
 pub mod Demands

@@ -3,11 +3,13 @@ use mathlib.Core.Path.{_≡_}
 use mathlib.Core.Logic.{_≢_}
 use mathlib.Core.Bool.{true}
 use mathlib.Core.List.{List, List·Memᴰ}
+use mathlib.Core.Option.{some}
 use Prim.Native.Nat.{ℕ, _+_, _≤_, _<_}
 use lib.ListN.{length, getD, set, take, replicate}
 use lib.Seq.{slice}
 use Rattle.cnf.specs.Clauses.{valueOf, clausesIn, whole}
 use Rattle.cnf.specs.Search.{Outcome, solved, none-exists, spent}
+use Rattle.cnf.specs.Trials.{Tried}
 use Rattle.cnf.proofs.Values.{Formed, unsetCount}
 use Rattle.cnf.proofs.Closure.{rests, Closes}
 use Rattle.pairs.specs.Pairs.{pairs}
@@ -56,7 +58,13 @@ pub record Rested (cs : List (List ℕ)) (n : ℕ) (v t : List ℕ) (count : ℕ
   pub below : (x : ℕ) → List·Memᴰ x (take count t) → x < n
   pub closed : Closes cs (replicate n 2) (rests v)
 
--- how the search ends, with the values that it leaves
+-- the end e of the search and its trials, with the values w that are left: what was found, or the trial that is held; u is the ceiling
+abbrev pub EndsWith : Tried → Ending → List ℕ → ℕ → Type 0
+EndsWith e (Found k) w u = e ≡ record { outcome = solved w k; trials = record { held = w; ceiling = some u } }
+EndsWith e (Absent k) w u = e .outcome ≡ none-exists k
+EndsWith e (Spent k) w u = e ≡ record { outcome = spent k; trials = record { held = w; ceiling = some u } }
+
+-- its outcome
 abbrev pub outcomeOf : Ending → List ℕ → Outcome
 outcomeOf (Found k) v = solved v k
 outcomeOf (Absent k) v = none-exists k

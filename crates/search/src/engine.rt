@@ -4,13 +4,13 @@ ghost use mathlib.Core.Bool.{true};
 ghost use Prim.Native.Nat.{_≤_};
 ghost use lib.ListN.{length};
 ghost use Rattle.cnf.specs.Clauses.{whole};
-ghost use Rattle.cnf.specs.Search.{searchFrom};
+ghost use Rattle.cnf.specs.Trials.{notFalse, searchTried};
 ghost use Rattle.pairs.specs.Entries.{PairTable};
 ghost use Rattle.search.specs.Chains.{LinkRoom, Chained};
 ghost use Rattle.search.specs.Conclusions.{withTriangles};
 ghost use Rattle.search.specs.Rows.{Rows};
 ghost use Rattle.search.specs.Trail.{Ready, Queue, Settles};
-ghost use Rattle.search.specs.Turns.{NextUnset, Fresh, Rested, outcomeOf};
+ghost use Rattle.search.specs.Turns.{NextUnset, Fresh, Rested, EndsWith};
 use super::chains::link;
 use super::chains::no_heads;
 use super::chains::settle_linked;
@@ -19,14 +19,22 @@ use super::rows::force;
 use super::rows::own_rows;
 use super::settle::Reached;
 use super::settle::settle;
+use super::trial::not_false;
+use super::trial::walk_back;
 use super::undo::undo;
 use pairs::pair_table;
 
-// How the search ends, with the guesses made.
+// How the search ends, with the guesses made. The values left are those found, or where the budget is spent the trial that is held.
 pub enum Ending {
     Found(u64),
     Absent(u64),
     Spent(u64),
+}
+
+// The same with the ceiling: the variables that are not false at the first rest, where there is one.
+pub struct End {
+    pub ending: Ending,
+    pub ceiling: usize,
 }
 
 // Room for 780 places.
@@ -97,8 +105,9 @@ fn close(
     settle(list, n, table, values, trail, joined, apart, from, start)
 }
 
-// Closes the values, then undoes the latest guess or makes one, until the search ends. The trail has the variables that are set, in order;
-// `marks` has the place on it of each guess that stands; every variable below `low` is set.
+// Closes the values, then undoes the latest guess or makes one, until the search ends; where the budget is spent, walks back to the trial that
+// is held. The trail has the variables that are set, in order; `marks` has the place on it of each guess that stands; every variable below `low` is
+// set.
 fn turns(
     list: &[u16],
     n: u8,
@@ -116,7 +125,7 @@ fn turns(
     requires { ⌜ Chained (now list) (now heads) (now next) (now owner) ⌝ }
     requires { ⌜ Rested (withTriangles (now list) n) (length (now values)) (now values) (now trail) start ⌝ }
     requires { ⌜ PairTable (now table) × Rows n (now values) (now joined) (now apart) ⌝ }
-    ensures { λ r. ⌜ outcomeOf r (now (values .exit)) ≡ searchFrom (withTriangles (now (list .entry)) n) (length (now (values .entry))) budget ⌝ }
+    ensures { λ r. ⌜ EndsWith (searchTried (withTriangles (now (list .entry)) n) (length (now (values .entry))) budget) r (now (values .exit)) (notFalse (now (values .entry))) ⌝ }
 {
     let mut marks = places();
     let mut at = start;
@@ -154,6 +163,18 @@ fn turns(
             return Ending::Found(made);
         }
         if made == budget {
+            walk_back(
+                list,
+                n,
+                table,
+                values,
+                trail,
+                joined,
+                apart,
+                &marks,
+                depth,
+                r.count,
+            );
             return Ending::Spent(made);
         }
         at = r.count;
@@ -183,7 +204,7 @@ fn turns_linked(
     requires { ⌜ LinkRoom (now list) (now next) (now owner) ⌝ }
     requires { ⌜ Rested (withTriangles (now list) n) (length (now values)) (now values) (now trail) start ⌝ }
     requires { ⌜ PairTable (now table) × Rows n (now values) (now joined) (now apart) ⌝ }
-    ensures { λ r. ⌜ outcomeOf r (now (values .exit)) ≡ searchFrom (withTriangles (now (list .entry)) n) (length (now (values .entry))) budget ⌝ }
+    ensures { λ r. ⌜ EndsWith (searchTried (withTriangles (now (list .entry)) n) (length (now (values .entry))) budget) r (now (values .exit)) (notFalse (now (values .entry))) ⌝ }
 {
     let mut heads = no_heads();
     link(list, &mut heads, next, owner);
@@ -218,7 +239,7 @@ fn turns_short(
     requires { ⌜ (whole (now list) ≡ true) × (length (now list) ≤ 4096) ⌝ }
     requires { ⌜ Rested (withTriangles (now list) n) (length (now values)) (now values) (now trail) start ⌝ }
     requires { ⌜ PairTable (now table) × Rows n (now values) (now joined) (now apart) ⌝ }
-    ensures { λ r. ⌜ outcomeOf r (now (values .exit)) ≡ searchFrom (withTriangles (now (list .entry)) n) (length (now (values .entry))) budget ⌝ }
+    ensures { λ r. ⌜ EndsWith (searchTried (withTriangles (now (list .entry)) n) (length (now (values .entry))) budget) r (now (values .exit)) (notFalse (now (values .entry))) ⌝ }
 {
     let mut next = [0u16; 4096];
     let mut owner = [0u16; 4096];
@@ -252,7 +273,7 @@ fn turns_long(
     requires { ⌜ (whole (now list) ≡ true) × (length (now list) ≤ 32768) ⌝ }
     requires { ⌜ Rested (withTriangles (now list) n) (length (now values)) (now values) (now trail) start ⌝ }
     requires { ⌜ PairTable (now table) × Rows n (now values) (now joined) (now apart) ⌝ }
-    ensures { λ r. ⌜ outcomeOf r (now (values .exit)) ≡ searchFrom (withTriangles (now (list .entry)) n) (length (now (values .entry))) budget ⌝ }
+    ensures { λ r. ⌜ EndsWith (searchTried (withTriangles (now (list .entry)) n) (length (now (values .entry))) budget) r (now (values .exit)) (notFalse (now (values .entry))) ⌝ }
 {
     let mut next = [0u16; 32768];
     let mut owner = [0u16; 32768];
@@ -286,7 +307,7 @@ fn turns_any(
     requires { ⌜ whole (now list) ≡ true ⌝ }
     requires { ⌜ Rested (withTriangles (now list) n) (length (now values)) (now values) (now trail) start ⌝ }
     requires { ⌜ PairTable (now table) × Rows n (now values) (now joined) (now apart) ⌝ }
-    ensures { λ r. ⌜ outcomeOf r (now (values .exit)) ≡ searchFrom (withTriangles (now (list .entry)) n) (length (now (values .entry))) budget ⌝ }
+    ensures { λ r. ⌜ EndsWith (searchTried (withTriangles (now (list .entry)) n) (length (now (values .entry))) budget) r (now (values .exit)) (notFalse (now (values .entry))) ⌝ }
 {
     if list.len() <= 4096 {
         return turns_short(list, n, table, values, trail, joined, apart, budget, start);
@@ -311,11 +332,11 @@ fn turns_any(
     )
 }
 
-// Closes the values by passes; where a guess is due, links the clauses and goes on. Group 2 of n states is not in the list: its conclusions are
-// drawn from the words of joined and apart states. With n = 0 there is no group 2.
-pub fn solve(list: &[u16], n: u8, values: &mut [u8], budget: u64) -> Ending
+// Closes the values by passes, and counts the ceiling; where a guess is due, links the clauses and goes on. Group 2 of n states is not in
+// the list: its conclusions are drawn from the words of joined and apart states. With n = 0 there is no group 2.
+pub fn solve(list: &[u16], n: u8, values: &mut [u8], budget: u64) -> End
     requires { ⌜ Fresh (now list) n (now values) ⌝ }
-    ensures { λ r. ⌜ outcomeOf r (now (values .exit)) ≡ searchFrom (withTriangles (now (list .entry)) n) (length (now (values .entry))) budget ⌝ }
+    ensures { λ r. ⌜ EndsWith (searchTried (withTriangles (now (list .entry)) n) (length (now (values .entry))) budget) (r .ending) (now (values .exit)) (r .ceiling) ⌝ }
 {
     let table = pair_table();
     let mut joined = own_rows();
@@ -333,13 +354,20 @@ pub fn solve(list: &[u16], n: u8, values: &mut [u8], budget: u64) -> Ending
         0,
     );
     if r.broken {
-        return Ending::Absent(0);
+        return End {
+            ending: Ending::Absent(0),
+            ceiling: 0,
+        };
     }
+    let ceiling = not_false(values);
     if r.count == values.len() {
-        return Ending::Found(0);
+        return End {
+            ending: Ending::Found(0),
+            ceiling,
+        };
     }
     let start = r.count;
-    turns_any(
+    let ending = turns_any(
         list,
         n,
         &table,
@@ -349,5 +377,6 @@ pub fn solve(list: &[u16], n: u8, values: &mut [u8], budget: u64) -> Ending
         &mut apart,
         budget,
         start,
-    )
+    );
+    End { ending, ceiling }
 }

@@ -17,10 +17,13 @@ mod engine;
 mod fits;
 mod rows;
 mod settle;
+mod trial;
 mod undo;
 
+pub use engine::End;
 pub use engine::Ending;
 pub use engine::solve;
+pub use trial::not_false;
 
 // What the search answers.
 pub enum Solution {
@@ -60,7 +63,8 @@ fn search_at(
     }
     let mut values = none_set();
     let end = solve(list, 0, &mut values[..variables], budget);
-    match end {
+    let ending = end.ending;
+    match ending {
         Ending::Found(k) => {
             bytes::copy(&values[..variables], answer);
             Solution::Solved(k)

@@ -36,7 +36,7 @@ fn unset(
 }
 
 // Unsets the variables of the trail from `mark` on.
-fn unwind(
+pub(crate) fn unwind(
     n: u8,
     table: &[u16],
     values: &mut [u8],

@@ -14,10 +14,10 @@ mod random;
 mod reference;
 
 use frames::{Cases, Room};
-use named::{faults, joined_stack_symbols, longest, more_faults, not_transitive, one_undone, one_way, pigeons};
+use named::{faults, fewer_pairs, joined_stack_symbols, longest, more_classes, more_faults, not_transitive, one_undone, one_way, pigeons};
 use named::{silent, t, t_with_call, t_with_return, two_undone, unreachable_stack};
 use random::Random;
-use reference::{Limits, Table, LARGEST, STANDARD};
+use reference::{Delivery, Limits, Table, LARGEST, STANDARD};
 
 /// The words of the list that reduce writes.
 fn short_words(table: &Table) -> usize {
@@ -120,7 +120,9 @@ fn marked(c: &mut Cases) {
     assert_eq!(c.check(&b, &[0, 2, 1, 1]), Err(16));
     assert_eq!(c.check(&b, &[0, 1, 1]), Err(15));
     assert_eq!(c.check(&t_with_call([0, 1, 2]).bytes(), &[0, 1, 1, 2]), Err(20));
-    assert_eq!(c.reduce(&b, 0, Room { list: 100, map: 9, out: 50 }).0, Err(13));
+    let (answer, map, out) = c.reduce(&b, 0, Room { list: 100, map: 9, out: 50 });
+    assert_eq!(answer.map(|x| x.values()), Ok([4, 0, 24, 35, 0, 1, 1]));
+    assert_eq!((&map[..4], &out[..35]), (&[0, 1, 2, 3][..], &named::T[..]));
     assert_eq!(c.quotient(&b, &[0, 1, 2, 3], 40), Ok(b.clone()));
     assert_eq!(c.quotient(&t_with_return([2, 2, 0, 3]).bytes(), &[0, 1, 2, 3], 35), Ok(b.clone()));
     assert_eq!(c.quotient(&b, &[0, 1, 1, 2], 31), Ok(named::T_REDUCED.to_vec()));
@@ -133,7 +135,7 @@ fn edges(c: &mut Cases) {
     let wide = Room { list: 80, map: 24, out: 64 };
     for room in [just, wide] {
         let (answer, map, out) = c.reduce(&b, 1, room);
-        assert_eq!(answer, Ok((3, 1, 24, 31)));
+        assert_eq!(answer.map(|x| x.values()), Ok([3, 1, 24, 31, 1, 1, 0]));
         assert_eq!((&map[..4], &out[..31]), (&[0, 1, 1, 2][..], &named::T_REDUCED[..]));
     }
     let (few_words, few_states, few_bytes) = (Room { list: 23, ..just }, Room { map: 3, ..just }, Room { out: 30, ..just });
@@ -142,7 +144,10 @@ fn edges(c: &mut Cases) {
     assert_eq!(c.reduce(&b, 1, few_states).0, Err(22));
     assert_eq!(c.reduce(&b, 1, Room { map: 3, ..few_words }).0, Err(22));
     assert_eq!(c.reduce(&b, 0, few_words).0, Err(10));
-    assert_eq!(c.reduce(&b, 0, few_bytes).0, Err(13));
+    // 21 is judged on the map delivered: with no guess it is 0 1 2 3, whose quotient is T itself
+    assert_eq!(c.reduce(&b, 0, just).0, Err(21));
+    assert_eq!(c.reduce(&b, 0, Room { out: 34, ..just }).0, Err(21));
+    assert_eq!(c.reduce(&b, 0, Room { out: 35, ..just }).0.map(|x| x.length), Ok(35));
     assert_eq!(c.reduce(&b, 0, few_states).0, Err(22));
     let none = Room { list: 0, map: 0, out: 0 };
     assert_eq!(c.reduce(&b, 0, none).0, Err(22));
@@ -215,7 +220,7 @@ fn tempting(c: &mut Cases) {
     assert_eq!(c.check(&b, &[0, 1, 1, 2, 3]), Err(20));
     assert_eq!(c.quotient(&b, &[0, 1, 1, 2, 3], 60), Err(20));
     let (answer, map, out) = c.reduce(&dead.bytes(), 9, Room { list: 80, map: 4, out: 31 });
-    assert_eq!((answer.map(|x| x.0), &map[..], &out[..]), (Ok(3), &[0, 1, 1, 2][..], &named::T_REDUCED[..]));
+    assert_eq!((answer.map(|x| x.classes), &map[..], &out[..]), (Ok(3), &[0, 1, 1, 2][..], &named::T_REDUCED[..]));
     for table in [not_transitive(), joined_stack_symbols()] {
         let (answer, map, _) = c.reduce(&table.bytes(), 9, Room { list: 250, map: 5, out: 60 });
         assert!(answer.is_ok() && (map[1] != map[2] || map[2] != map[3]));
@@ -246,15 +251,15 @@ fn corners(c: &mut Cases) {
         assert_eq!(c.quotient(&b, &[0], 13), Ok(b.clone()));
         assert_eq!(c.quotient(&b, &[0], 12), Err(21));
         let just = Room { list: 0, map: 1, out: 13 };
-        assert_eq!(c.reduce(&b, 0, just).0, Ok((1, 0, 0, 13)));
+        assert_eq!(c.reduce(&b, 0, just).0.map(|x| x.values()), Ok([1, 0, 0, 13, 0, 0, 0]));
         assert_eq!(c.reduce(&b, 0, Room { map: 0, ..just }).0, Err(22));
         assert_eq!(c.reduce(&b, 0, Room { out: 12, ..just }).0, Err(21));
     }
     let b = silent(&[1, 2]).bytes();
-    assert_eq!(c.reduce(&b, 0, Room { list: 2, map: 2, out: 14 }).0, Ok((2, 0, 2, 14)));
+    assert_eq!(c.reduce(&b, 0, Room { list: 2, map: 2, out: 14 }).0.map(|x| x.values()), Ok([2, 0, 2, 14, 0, 0, 0]));
     let b = silent(&[0, 2, 1, 3, 0]).bytes();
     let (answer, map, out) = c.reduce(&b, 9, Room { list: 140, map: 6, out: 20 });
-    assert_eq!(answer.map(|x| (x.0, x.3)), Ok((2, 14)));
+    assert_eq!(answer.map(|x| (x.classes, x.length)), Ok((2, 14)));
     assert_eq!((&map[..], &out[..2]), (&[0, 1, 0, 1, 0, 7][..], &[1, 3][..]));
     // state 2 is never reached: its return is dead, and it may be joined with 1, which has another return
     let mut lonely = t();
@@ -263,35 +268,76 @@ fn corners(c: &mut Cases) {
     assert_eq!(c.tops(&lonely.bytes()).unwrap().0[2], 0);
     assert_eq!(c.check(&lonely.bytes(), &[0, 1, 1, 2]), Ok(3));
     assert_eq!(c.quotient(&lonely.bytes(), &[0, 1, 2, 3], 40).map(|x| x.len()), Ok(32));
-    assert_eq!(c.reduce(&lonely.bytes(), 9, Room { list: 90, map: 4, out: 40 }).0.map(|x| x.0), Ok(3));
+    assert_eq!(c.reduce(&lonely.bytes(), 9, Room { list: 90, map: 4, out: 40 }).0.map(|x| x.classes), Ok(3));
 }
 
 /// Undone guesses stay counted: the guess {0, 1} and then {2, 3}; and {0, 1}, {2, 3}, again {2, 3}, {2, 4}, {3, 4}, {5, 6}.
 fn undone_guesses(c: &mut Cases) {
     let (answer, map, _) = c.reduce(&one_undone().bytes(), 9, Room { list: 400, map: 6, out: 80 });
-    assert_eq!((answer.map(|x| (x.0, x.1)), &map[..]), (Ok((5, 2)), &[0, 1, 2, 2, 3, 4][..]));
+    assert_eq!((answer.map(|x| (x.classes, x.guesses)), &map[..]), (Ok((5, 2)), &[0, 1, 2, 2, 3, 4][..]));
     let b = two_undone().bytes();
     let room = Room { list: 1100, map: 8, out: 90 };
     let (answer, map, _) = c.reduce(&b, 6, room);
-    assert_eq!((answer.map(|x| (x.0, x.1)), &map[..]), (Ok((6, 6)), &[0, 1, 2, 3, 3, 4, 4, 5][..]));
-    assert_eq!(c.reduce(&b, 5, room).0, Err(13));
+    assert_eq!((answer.map(|x| (x.classes, x.guesses)), &map[..]), (Ok((6, 6)), &[0, 1, 2, 3, 3, 4, 4, 5][..]));
+}
+
+/// Spent budgets: the trial at the spent rest is held where it satisfies (three states that nothing tells apart, budget 1), else an earlier one.
+fn spent_budgets(c: &mut Cases) {
+    let b = silent(&[1, 0, 0]).bytes();
+    let room = Room { list: 0, map: 3, out: 15 };
+    for (budget, map, values) in [(0, [0, 1, 2], [3, 0, 0, 15, 0, 3, 1]), (1, [0, 0, 1], [2, 1, 0, 14, 1, 3, 1]), (2, [0, 0, 0], [1, 2, 0, 13, 3, 3, 0])] {
+        let (answer, found, _) = c.reduce(&b, budget, room);
+        assert_eq!((answer.map(|x| x.values()), &found[..]), (Ok(values), &map[..]));
+    }
+    for (table, solved) in [(one_undone(), 2), (two_undone(), 6), (not_transitive(), 1), (joined_stack_symbols(), 0)] {
+        let b = table.bytes();
+        for budget in 0..=solved {
+            let (answer, _, _) = c.reduce(&b, budget, Room { list: short_words(&table), map: 8, out: b.len() });
+            let answer = answer.unwrap();
+            assert_eq!((answer.spent, answer.guesses), (budget < solved, budget));
+        }
+    }
+    // the guess made last contradicts nothing, but the pairs true so far break a clause: what is delivered was tried before
+    let b = two_undone().bytes();
+    let (answer, map, _) = c.reduce(&b, 1, Room { list: 1100, map: 8, out: 90 });
+    assert_eq!((answer.map(|x| (x.joined, x.spent)), &map[..]), (Ok((0, true)), &[0, 1, 2, 3, 4, 5, 6, 7][..]));
+}
+
+/// Solved maps have none coarser, but need not have the most pairs or the fewest classes.
+fn not_the_most(c: &mut Cases) {
+    for (table, delivered, other) in [
+        (fewer_pairs(), vec![0, 1, 1, 2, 2, 3], vec![0, 1, 2, 2, 2, 3]),
+        (more_classes(), vec![0, 1, 1, 2, 3, 4, 5, 6], vec![0, 1, 2, 1, 2, 3, 4, 5]),
+    ] {
+        let b = table.bytes();
+        let (answer, map, _) = c.reduce(&b, 9, Room { list: short_words(&table), map: delivered.len(), out: b.len() });
+        let answer = answer.unwrap();
+        assert_eq!((answer.spent, &map), (false, &delivered));
+        assert!(answer.joined < reference::joined_pairs(&other));
+        assert!(c.check(&b, &other).unwrap() <= answer.classes);
+    }
+    assert_eq!(reference::joined_pairs(&[0, 1, 1, 0, 1]), 4);
 }
 
 /// Reduced with more room than needed, with just enough, and with too little of one thing; the quotient under the map delivered, which comes back.
 fn around_needs(c: &mut Cases, table: &Table, turn: usize) -> Vec<u8> {
     let (b, n, need) = (table.bytes(), table.count(), short_words(table));
     let (answer, map, out) = c.reduce(&b, 2000, Room { list: need + 3, map: n + 2, out: b.len() + 5 });
-    let (classes, guesses, words, length) = answer.expect("the budget is enough");
+    let Delivery { classes, guesses, words, length, spent, .. } = answer.expect("buffers are ample");
+    assert!(!spent, "the budget is enough");
     let just = Room { list: words, map: n, out: length };
     let again = c.reduce(&b, guesses, just);
     assert_eq!((again.0, &again.1[..], &again.2[..]), (answer, &map[..n], &out[..length]));
-    let (budget, short, number) = match turn % 4 {
-        0 => (guesses, Room { map: n - 1, ..just }, 22),
-        1 if words > 0 => (guesses, Room { list: words - 1, ..just }, 10),
-        2 if guesses > 0 => (guesses - 1, just, 13),
-        _ => (guesses, Room { out: length - 1, ..just }, 21),
+    let (short, number) = match turn % 4 {
+        0 => (Room { map: n - 1, ..just }, 22),
+        1 if words > 0 => (Room { list: words - 1, ..just }, 10),
+        _ => (Room { out: length - 1, ..just }, 21),
     };
-    assert_eq!(c.reduce(&b, budget, short).0, Err(number));
+    assert_eq!(c.reduce(&b, guesses, short).0, Err(number));
+    if guesses > 0 && turn % 4 == 2 {
+        let (answer, _, _) = c.reduce(&b, guesses - 1, Room { out: b.len(), ..just });
+        assert_eq!(answer.map(|x| (x.spent, x.guesses, x.joined <= x.ceiling)), Ok((true, guesses - 1, true)));
+    }
     assert_eq!(c.check(&b, &map[..n]), Ok(classes));
     assert_eq!(c.quotient(&b, &map[..n], length + turn % 3), Ok(out[..length].to_vec()));
     assert_eq!(c.quotient(&b, &map[..n], length - 1 - turn % 3), Err(21));
@@ -375,7 +421,7 @@ fn large_tables(c: &mut Cases, r: &mut Random) {
     for one in [true, false] {
         let b = large_table(r, 24, one, 1500).bytes();
         let (mut map, mut out) = ([0; 24], [0; 1500]);
-        let length = reference::reduce(STANDARD, &b, 100_000, &mut vec![0; 1_000_000], &mut map, &mut out).unwrap().3;
+        let length = reference::reduce(STANDARD, &b, 100_000, &mut vec![0; 1_000_000], &mut map, &mut out).unwrap().length;
         c.check(&b, &map).unwrap();
         assert_eq!(c.quotient(&b, &map, length), Ok(out[..length].to_vec()));
         let apart: Vec<u8> = (0..24).collect();
@@ -397,8 +443,9 @@ fn without_transitivity(c: &mut Cases) {
     let both_ways = from_text("01 02 00 00 01 00 00 01 01 00 01 02 00 01 01 01 02 01 12 00 10 00 0d 00 0d 00 04 00 01 00");
     for (b, guesses) in [(one_variable, 2), (both_ways, 1)] {
         let (answer, _, _) = c.reduce(&b, 9, Room { list: 300, map: 5, out: 60 });
-        assert_eq!(answer.map(|x| x.1), Ok(guesses));
-        assert_eq!(c.reduce(&b, guesses - 1, Room { list: 300, map: 5, out: 60 }).0, Err(13));
+        assert_eq!(answer.map(|x| (x.guesses, x.spent)), Ok((guesses, false)));
+        let (answer, _, _) = c.reduce(&b, guesses - 1, Room { list: 300, map: 5, out: 60 });
+        assert_eq!(answer.map(|x| (x.guesses, x.spent)), Ok((guesses - 1, true)));
     }
     c.limits = LARGEST;
     for n in [27, 40] {
@@ -486,7 +533,7 @@ fn reduced_within(c: &mut Cases, r: &mut Random) {
     for limits in [Limits { states: 4, symbols: 3 }, LARGEST] {
         c.limits = limits;
         let (answer, map, out) = c.reduce(&named::T, 1, Room { list: 24, map: 4, out: 31 });
-        assert_eq!(answer, Ok((3, 1, 24, 31)));
+        assert_eq!(answer.map(|x| x.values()), Ok([3, 1, 24, 31, 1, 1, 0]));
         assert_eq!((&map[..], &out[..]), (&[0, 1, 1, 2][..], &named::T_REDUCED[..]));
         assert_eq!(c.clauses(&named::T, 72), Ok((23, 72)));
     }
@@ -496,7 +543,7 @@ fn reduced_within(c: &mut Cases, r: &mut Random) {
         assert_eq!(c.clauses(&named::T, 72), Err(4));
     }
     c.limits = LARGEST;
-    let b = large_table(r, 30, false, 900).bytes();
+    let b = large_table(r, 30, false, 2500).bytes();
     assert_eq!(c.reduce(&b, 9, Room { list: 60, map: 30, out: 12 }).0, Err(10));
     assert_eq!(c.reduce(&b, 9, Room { list: 60, map: 29, out: 12 }).0, Err(22));
     c.limits = STANDARD;
@@ -516,6 +563,8 @@ fn main() {
     tempting(&mut c);
     corners(&mut c);
     undone_guesses(&mut c);
+    spent_budgets(&mut c);
+    not_the_most(&mut c);
     random_tables(&mut c, &mut r);
     large_tables(&mut c, &mut r);
     without_transitivity(&mut c);

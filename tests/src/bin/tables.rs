@@ -23,6 +23,8 @@ fn main() {
         ("unreachable_stack", named::unreachable_stack().bytes()),
         ("not_transitive", named::not_transitive().bytes()),
         ("joined_stack_symbols", named::joined_stack_symbols().bytes()),
+        ("fewer_pairs", named::fewer_pairs().bytes()),
+        ("more_classes", named::more_classes().bytes()),
         ("two_undone", named::two_undone().bytes()),
         ("copies", random::blown_up(&mut r, 20, true).bytes()),
         ("longest", named::longest().bytes()),

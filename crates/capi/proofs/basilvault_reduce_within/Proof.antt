@@ -13,6 +13,9 @@ reduce-within-requires c κs = search needs
 enum-known-reduction : tie.Need-enum-known-reduction
 enum-known-reduction c = search needs
 
+spent-value-requires : tie.Need-spent-value-requires
+spent-value-requires c κs = search needs
+
 slice-aggregate-store : tie.Need-slice-aggregate-store
 slice-aggregate-store c = search needs
 
@@ -40,9 +43,9 @@ same-length-4 c = search needs
 returns : tie.Need-returns
 unfolding reduceOut reductionNumber reductionValues
 returns c =
-    let e = c .before .before .before .before .before .before in
+    let e = c .before .before .before .before .before .before .before in
     let f = e .reduction .given .1 in
-    answered _ (ap reductionNumber f) (ap reductionValues f) (c .before .before .store .ensures)
+    answered _ (ap reductionNumber f) (ap reductionValues f) (rw (c .before .before .before .before .before .spent-value .ensures) at (c .before .before .store .ensures))
     ∙ ap (reduceOut _) (e .before .before .before .before .before .before .before .before .reduce-within .ensures .0)
 
 same-length-5 : tie.Need-same-length-5
@@ -67,6 +70,7 @@ basilvault-reduce-within-spec =
     (tie.spec
     reduce-within-requires
     enum-known-reduction
+    spent-value-requires
     slice-aggregate-store
     store-requires
     enum-known-reduction-2

@@ -70,8 +70,8 @@ solve-requires c κs =
     let f = laws.list-formed k n l fits in
     laws.fresh n room (c .before .none-set .ensures) (f .1) (f .2)
 
-enum-known-end : tie.Need-enum-known-end
-enum-known-end c = search needs
+enum-known-ending : tie.Need-enum-known-ending
+enum-known-ending c = search needs
 
 array-share-prefix-values : tie.Need-array-share-prefix-values
 array-share-prefix-values c =
@@ -129,7 +129,7 @@ returns-4 c =
     let v = c .before .before .before .before .before .before .before .before .before .solve .last .1 .1 .0 in
     let long = c .before .before .before .before .before .before .before .before .before .solve .kept .1 .1 .0 in
     let size = laws.prefix-length n room none in
-    let found = laws.is-found l n b (c .before .before .before .before .before .before .before .before .before .solve .result) v size (c .before .before .before .before .before .before .before .before .before .solve .ensures) (c .before .before .before .before .before .before .end .given .1) in
+    let found = laws.is-found l n b (c .before .before .before .before .before .before .before .before .before .solve .result .ending) v (c .before .before .before .before .before .before .before .before .before .solve .result .ceiling) size (c .before .before .before .before .before .before .before .before .before .solve .ensures) (c .before .before .before .before .before .before .ending .given .1) in
     let written = copied (take n (c .before .before .before .before .before .before .before .before .before .solve .last .1 .1 .0 ++ drop n (c .before .before .before .before .before .before .before .before .before .before .before .none-set .result))) a (c .before .before .copy .ensures .1) ∙ ap (λ (u : List ℕ). over u a) (laws.prefix-values n room none v long) in
     laws.promised k l n b a (laws.answer-found k l n b a fits (c .before .before .before .before .before .before .before .before .before .before .before .before .if3 .left) found written)
 
@@ -146,7 +146,7 @@ returns-5 c =
     let none = c .before .before .before .before .before .none-set .ensures in
     let v = c .before .before .before .solve .last .1 .1 .0 in
     let size = laws.prefix-length n room none in
-    let absent = laws.is-absent l n b (c .before .before .before .solve .result) v size (c .before .before .before .solve .ensures) (c .enum-told .given .1) in
+    let absent = laws.is-absent l n b (c .before .before .before .solve .result .ending) v (c .before .before .before .solve .result .ceiling) size (c .before .before .before .solve .ensures) (c .enum-told .given .1) in
     laws.promised k l n b a (laws.answer-absent k l n b a fits (c .before .before .before .before .before .before .if3 .left) absent)
 
 returns-6 : tie.Need-returns-6
@@ -162,7 +162,7 @@ returns-6 c =
     let none = c .before .before .before .before .before .none-set .ensures in
     let v = c .before .before .before .solve .last .1 .1 .0 in
     let size = laws.prefix-length n room none in
-    let spent = laws.is-spent l n b (c .before .before .before .solve .result) v size (c .before .before .before .solve .ensures) (c .enum-told2 .given .1) in
+    let spent = laws.is-spent l n b (c .before .before .before .solve .result .ending) v (c .before .before .before .solve .result .ceiling) size (c .before .before .before .solve .ensures) (c .enum-told2 .given .1) in
     laws.promised k l n b a (laws.answer-spent k l n b a fits (c .before .before .before .before .before .before .if3 .left) spent)
 
 pub search-at-spec : {M : Type 1} → statement M
@@ -177,7 +177,7 @@ search-at-spec =
     array-borrow-prefix-values
     slice-aggregate-solve
     solve-requires
-    enum-known-end
+    enum-known-ending
     array-share-prefix-values
     slice-aggregate-copy
     copy-requires

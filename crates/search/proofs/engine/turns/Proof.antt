@@ -1,10 +1,12 @@
--- `search::engine::turns` meets its contract. The loop's invariant: whatever outcome the turns lead to from here, they lead to from the start. The measure is
+-- `search::engine::turns` meets its contract. The loop's invariant: whatever end the turns lead to from here, with the trial held, they lead to from the start. The measure is
 -- twice the guesses left and the guesses that stand. Assumes nothing.
 use borrow.Author.Needs.{needs}
 use Prim.Native.Nat.{_+_, _-_, _*_}
 use native.Mathlib.Omega.{arith}
 use mathlib.Core.Path.{refl, sym, _∙_}
 use lib.ListN.{length}
+use Rattle.cnf.specs.Clauses.{clausesIn}
+use Rattle.cnf.specs.Trials.{notFalse}
 use Rattle.search.specs.Conclusions.{withTriangles}
 use Rattle.search.specs.Rows.{Rows}
 use Rattle.search.proofs.Turns as laws
@@ -13,7 +15,7 @@ use Rattle.search.proofs.engine.turns.Tie as tie
 
 abbrev Inv-turns : tie.InvT-turns
 Inv-turns list n table heads next owner values₀ trail₀ joined₀ apart₀ budget start marks₀ at₀ count₀ depth₀ made₀ low₀ values trail joined apart marks at count depth made low =
-    laws.Turning (withTriangles list n) (length values₀) budget values trail marks at count depth made low × Rows n values joined apart
+    laws.Turning (withTriangles list n) (length values₀) budget (notFalse values₀) values trail marks at count depth made low × Rows n values joined apart
 
 abbrev μ-turns : tie.MeasureT-turns
 μ-turns list n table heads next owner values₀ trail₀ joined₀ apart₀ budget start marks₀ at₀ count₀ depth₀ made₀ low₀ values trail joined apart marks at count depth made low =
@@ -87,14 +89,24 @@ same-length-4 c = laws.after-long (c .before .before .before .before .before .be
 returns-2 : tie.Need-returns-2 Inv-turns μ-turns
 returns-2 c = laws.turn-solved (c .before .before .before .before .before .before .before .before .before .before .before .before .before .turns .inv .0) (c .before .before .before .before .before .before .before .before .close .ensures .0) (c .before .before .before .if1 .left) (c .before .next-unset .ensures) (c .if3 .taken)
 
+walk-back-requires : tie.Need-walk-back-requires Inv-turns μ-turns
+walk-back-requires c κs =
+    let s = c .before .before .before .before .before .before .before .before .before .before .before .before .before .before .before .before .before .before .before .before .before .before .before .before .before .before .before in
+    let i = c .before .before .before .before .before .before .before .before .before .before .before .before .before .before .before .before .before .before .before .turns .inv .0 in
+    let e = c .before .before .before .before .before .before .before .before .before .before .before .before .before .before .close .ensures in
+    ((s .pre .0 .all-there, rw (laws.after-size i (e .0)) (laws.list-formed (s .args .list .now) (s .args .n) (s .pre .1 .0 .formed))), ((s .pre .1 .1 .0, e .1), laws.can-retrace i (e .0) (c .before .before .before .before .before .before .before .before .before .if1 .left) (c .before .before .before .before .before .before .before .next-unset .ensures) (c .before .before .before .before .before .before .if3 .left)))
+
 same-length-5 : tie.Need-same-length-5 Inv-turns μ-turns
-same-length-5 c = laws.after-size (c .before .before .before .before .before .before .before .before .before .before .before .before .before .before .turns .inv .0) (c .before .before .before .before .before .before .before .before .before .close .ensures .0)
+same-length-5 c = c .before .before .walk-back .kept .1 .1 .1 .0 ∙ laws.after-size (c .before .before .before .before .before .before .before .before .before .before .before .before .before .before .before .before .before .before .before .before .before .before .turns .inv .0) (c .before .before .before .before .before .before .before .before .before .before .before .before .before .before .before .before .before .close .ensures .0)
 
 same-length-6 : tie.Need-same-length-6 Inv-turns μ-turns
-same-length-6 c = laws.after-long (c .before .before .before .before .before .before .before .before .before .before .before .before .before .before .turns .inv .0) (c .before .before .before .before .before .before .before .before .before .close .ensures .0) ∙ sym (c .before .before .before .before .before .before .before .before .before .before .before .before .before .before .before .before .before .before .before .before .before .before .pre .1 .0 .long)
+same-length-6 c = laws.after-long (c .before .before .before .before .before .before .before .before .before .before .before .before .before .before .before .before .before .before .before .before .before .before .turns .inv .0) (c .before .before .before .before .before .before .before .before .before .before .before .before .before .before .before .before .before .close .ensures .0) ∙ sym (c .before .before .before .before .before .before .before .before .before .before .before .before .before .before .before .before .before .before .before .before .before .before .before .before .before .before .before .before .before .before .pre .1 .0 .long)
 
 returns-3 : tie.Need-returns-3 Inv-turns μ-turns
-returns-3 c = laws.turn-spent (c .before .before .before .before .before .before .before .before .before .before .before .before .before .before .turns .inv .0) (c .before .before .before .before .before .before .before .before .before .close .ensures .0) (c .before .before .before .before .if1 .left) (c .before .before .next-unset .ensures) (c .before .if3 .left) (c .if4 .taken)
+returns-3 c =
+    let s = c .before .before .before .before .before .before .before .before .before .before .before .before .before .before .before .before .before .before .before .before .before .before .before .before .before .before .before .before .before .before in
+    laws.turn-spent (c .before .before .before .before .before .before .before .before .before .before .before .before .before .before .before .before .before .before .before .before .before .before .turns .inv .0) (c .before .before .before .before .before .before .before .before .before .before .before .before .before .before .before .before .before .close .ensures .0) (c .before .before .before .before .before .before .before .before .before .before .before .before .if1 .left) (c .before .before .before .before .before .before .before .before .before .before .next-unset .ensures) (c .before .before .before .before .before .before .before .before .before .if3 .left) (clausesIn (s .args .list .now))
+    (laws.short-trial (s .args .list .now) (s .args .n) (s .pre .1 .0 .formed)) (c .before .before .before .before .before .before .before .before .if4 .taken) (c .before .before .walk-back .ensures)
 
 cast-marks : tie.Need-cast-marks Inv-turns μ-turns
 cast-marks c =
@@ -167,6 +179,7 @@ turns-spec =
     same-length-3
     same-length-4
     returns-2
+    walk-back-requires
     same-length-5
     same-length-6
     returns-3
