@@ -131,7 +131,10 @@ fn compare_words(r: &mut Random, a: &Table, b: &Table, c: &mut Counts) {
         }
     }
     for w in &words {
-        assert_eq!(reference::accepts(a, w), reference::accepts(b, w), "word {w:?} separates {a:?} and {b:?}");
+        let accepted = reference::accepts(a, w);
+        assert_eq!(accepted, reference::accepts(b, w), "word {w:?} separates {a:?} and {b:?}");
+        let kinds = |k: u8| w.iter().filter(|&&s| a.symbols[s as usize] == k).count();
+        assert!(!accepted || kinds(1) == kinds(2), "word {w:?} leaves something open, and {a:?} accepts it");
     }
     c.add("words of input and quotient", Ok(()));
 }

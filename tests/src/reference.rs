@@ -665,7 +665,7 @@ pub fn reduce(l: Limits, b: &[u8], budget: u64, list: &mut [u16], map: &mut [u8]
     Ok(Delivery { classes, guesses, words: words.len(), length: bytes.len(), joined: joined_pairs(&found), ceiling, spent })
 }
 
-/// Whether a run over the whole word ends in an accepting state: all configurations at once.
+/// Whether a run over the whole word ends in an accepting state on the empty stack: all configurations at once.
 pub fn accepts(t: &Table, word: &[u8]) -> bool {
     let mut now: BTreeSet<(u8, Vec<u8>)> = (0..t.count()).filter(|&q| t.initial(q)).map(|q| (q as u8, Vec::new())).collect();
     for &a in word {
@@ -687,5 +687,5 @@ pub fn accepts(t: &Table, word: &[u8]) -> bool {
         }
         now = next;
     }
-    now.iter().any(|(q, _)| t.accepting(*q as usize))
+    now.iter().any(|(q, stack)| stack.is_empty() && t.accepting(*q as usize))
 }

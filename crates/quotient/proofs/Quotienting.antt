@@ -29,7 +29,7 @@ use Rattle.maps.specs.Check.{checkNumber}
 use Rattle.maps.specs.Sections.{ofStates, kept, Known}
 use Rattle.maps.proofs.Matched.{move-kept, return-kept}
 use Rattle.quotient.specs.Quotient.{image, images, memberHas, classByte, quotientTable, quotientBytes, quotientNumber, QuotientDone, quotientOf}
-use Rattle.quotient.specs.Demands.{WritesQuotient, WritesSameWords}
+use Rattle.quotient.specs.Demands.{WritesQuotient, WritesSameWords, WritesNoneOpen}
 use Rattle.table.specs.Keys.{key}
 use Rattle.table.proofs.Keys.{part-bytes}
 use Rattle.quotient.specs.Keys.{lastBytes, Holds}
@@ -37,7 +37,7 @@ use Rattle.quotient.specs.Sections.{classBytes, keyedTable, Sized, image
 use Rattle.quotient.specs.declared.Written.{Written}
 use Rattle.quotient.specs.declared.Written.the-variants.{Length, Refused}
 use Rattle.quotient.proofs.Image.{images-mem, images-length, image-length}
-use Rattle.quotient.proofs.Theorems.{writes-quotient, writes-same-words}
+use Rattle.quotient.proofs.Theorems.{writes-quotient, writes-same-words, writes-none-open}
 use Rattle.quotient.proofs.ClassBytes.{length-bytes}
 use Rattle.quotient.proofs.Keys.{Same, last-key}
 use Rattle.quotient.proofs.Collecting.{image-bytes}
@@ -239,11 +239,14 @@ module _ (L : Limits) (b m out : List ℕ) where
 
   -- demands 2 and 3
   pub quotiented : {r : Written} {now : List ℕ} → record { answer = r; out = now } ≡ quotientOf L b m out
-      → (record { answer = r; out = now } ≡ quotientOf L b m out) × (WritesQuotient L r b m now × WritesSameWords r b now)
+      → (record { answer = r; out = now } ≡ quotientOf L b m out) × (WritesQuotient L r b m now × (WritesSameWords r b now × WritesNoneOpen r b now))
   quotiented e = (
     e,
     (
       subst (λ (d : QuotientDone). WritesQuotient L (d .answer) b m (d .out)) (sym e) (writes-quotient L b m out),
-      subst (λ (d : QuotientDone). WritesSameWords (d .answer) b (d .out)) (sym e) (writes-same-words L b m out),
+      (
+        subst (λ (d : QuotientDone). WritesSameWords (d .answer) b (d .out)) (sym e) (writes-same-words L b m out),
+        subst (λ (d : QuotientDone). WritesNoneOpen (d .answer) b (d .out)) (sym e) (writes-none-open L b m out),
+      ),
     ),
   )

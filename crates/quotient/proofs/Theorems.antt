@@ -16,17 +16,18 @@ use Rattle.vpa.proofs.Equal.{Same, same-words}
 use Rattle.limits.specs.declared.Limits.{Limits}
 use Rattle.table.specs.File.{Table, tableOf}
 use Rattle.table.specs.Reading.{Readable, WellFormed}
-use Rattle.table.specs.Language.{count, automaton, automatonOf, SameWords}
+use Rattle.table.specs.Language.{count, automaton, automatonOf, SameWords, OpenByNeither}
 use Rattle.table.specs.Maps.{classOf, Proper}
 use Rattle.table.proofs.Passed.{formed-wide}
 use Rattle.table.proofs.Bytes.{read-well-formed, table-of-bytes, read-bytes}
+use Rattle.table.proofs.Open.{open-refused}
 use Rattle.tops.proofs.Bounded.{lawful}
 use Rattle.tops.proofs.Formed.{bounded}
 use Rattle.tops.proofs.Exact.{live-exact}
 use Rattle.maps.specs.Check.{checkNumber}
 use Rattle.maps.proofs.Accepted.{accepted}
 use Rattle.quotient.specs.Quotient.{quotientTable, quotientBytes, quotientNumber, QuotientDone, quotientOf}
-use Rattle.quotient.specs.Demands.{IsQuotient, OnWriting, WritesQuotient, WritesSameWords}
+use Rattle.quotient.specs.Demands.{IsQuotient, OnWriting, WritesQuotient, WritesSameWords, WritesNoneOpen}
 use Rattle.quotient.specs.declared.Written.the-variants.{Length, Refused}
 use Rattle.quotient.proofs.States.{count-classes}
 use Rattle.quotient.proofs.Automaton.{quotient-initial, quotient-accepting, quotient-internal, quotient-call, quotient-return}
@@ -79,6 +80,14 @@ module _ (L : Limits) (b m : List ℕ) where
           let a = accepted L b m e in
           same-words (subst (λ (t : Table). Same (automaton t) (quotient (automatonOf b) (classOf m))) (sym (quotient-table (a .readable) (a .proper))) (table-same L (tableOf b) (read-well-formed L b (a .readable)) m (a .proper)))
 
+  -- request (iv): a word that leaves something open is accepted by neither
+  pub open-neither : checkNumber L b m ≡ 0 → OpenByNeither b (quotientBytes b m)
+  open-neither e = record {
+    each = λ w o.
+        let n = open-refused L b (accepted L b m e .readable) w o in
+        (n, λ h. n (keeps-words e .each w .1 h));
+  }
+
   -- ---- the operation
 
   pub number-checked : (out : List ℕ) → quotientNumber L b m out ≡ 0 → checkNumber L b m ≡ 0
@@ -109,3 +118,6 @@ module _ (L : Limits) (b m : List ℕ) where
 
   pub writes-same-words : (out : List ℕ) → WritesSameWords (quotientOf L b m out .answer) b (quotientOf L b m out .out)
   writes-same-words = on-writing (SameWords b) keeps-words
+
+  pub writes-none-open : (out : List ℕ) → WritesNoneOpen (quotientOf L b m out .answer) b (quotientOf L b m out .out)
+  writes-none-open = on-writing (OpenByNeither b) open-neither

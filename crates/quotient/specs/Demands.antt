@@ -8,7 +8,7 @@ use Rattle.vpa.specs.Quotients.{quotient}
 use Rattle.limits.specs.declared.Limits.{Limits}
 use Rattle.table.specs.File.{tableOf}
 use Rattle.table.specs.Reading.{Readable}
-use Rattle.table.specs.Language.{count, automatonOf, SameWords}
+use Rattle.table.specs.Language.{count, automatonOf, SameWords, OpenByNeither}
 use Rattle.table.specs.Maps.{classOf, classes}
 use Rattle.quotient.specs.declared.Written.{Written}
 use Rattle.quotient.specs.declared.Written.the-variants.{Length, Refused}
@@ -36,3 +36,7 @@ WritesQuotient L r b m out = OnWriting r (λ n. IsQuotient L b m (take n out))
 -- demand 3: "for every word of any length, the written quotient accepts the word exactly when the input does"
 abbrev pub WritesSameWords : Written → List ℕ → List ℕ → Type 0
 WritesSameWords r b out = OnWriting r (λ n. SameWords b (take n out))
+
+-- request (iv): "scripts left open are accepted by neither"
+abbrev pub WritesNoneOpen : Written → List ℕ → List ℕ → Type 0
+WritesNoneOpen r b out = OnWriting r (λ n. OpenByNeither b (take n out))

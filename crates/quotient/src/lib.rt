@@ -6,7 +6,7 @@ ghost use Rattle.table.specs.File.{bytesOf};
 ghost use Rattle.table.specs.Reading.{Readable};
 ghost use Rattle.maps.specs.Sections.{Known};
 ghost use Rattle.quotient.specs.Quotient.{quotientBytes, quotientOf};
-ghost use Rattle.quotient.specs.Demands.{WritesQuotient, WritesSameWords};
+ghost use Rattle.quotient.specs.Demands.{WritesQuotient, WritesSameWords, WritesNoneOpen};
 ghost use Rattle.quotient.specs.Sections.{Sized, partedQuotient, writtenFor};
 
 mod images;
@@ -106,6 +106,7 @@ pub fn quotient_within(limits: Limits, table: &[u8], map: &[u8], out: &mut [u8])
     ensures { λ r. ⌜ record { answer = r; out = now (out .exit) } ≡ quotientOf limits (now (table .entry)) (now (map .entry)) (now (out .entry)) ⌝ }
     ensures exact { λ r. ⌜ WritesQuotient limits r (now (table .entry)) (now (map .entry)) (now (out .exit)) ⌝ }
     ensures words { λ r. ⌜ WritesSameWords r (now (table .entry)) (now (out .exit)) ⌝ }
+    ensures open { λ r. ⌜ WritesNoneOpen r (now (table .entry)) (now (out .exit)) ⌝ }
 {
     let examined = tops::examine(limits, table);
     if examined.number != 0 {
@@ -121,6 +122,7 @@ pub fn quotient(table: &[u8], map: &[u8], out: &mut [u8]) -> Written
     ensures { λ r. ⌜ record { answer = r; out = now (out .exit) } ≡ quotientOf standard (now (table .entry)) (now (map .entry)) (now (out .entry)) ⌝ }
     ensures exact { λ r. ⌜ WritesQuotient standard r (now (table .entry)) (now (map .entry)) (now (out .exit)) ⌝ }
     ensures words { λ r. ⌜ WritesSameWords r (now (table .entry)) (now (out .exit)) ⌝ }
+    ensures open { λ r. ⌜ WritesNoneOpen r (now (table .entry)) (now (out .exit)) ⌝ }
 {
     quotient_within(limits::standard(), table, map, out)
 }

@@ -5,7 +5,7 @@ use mathlib.Core.Bool.{Bool, true, true≢false}
 use mathlib.Core.List.{List}
 use Prim.Native.Nat.{ℕ, _≤_}
 use native.Mathlib.Omega.{arith}
-use lib.ListN.{length, drop}
+use lib.ListN.{length, take, drop}
 use lib.Seq.{take-at, take-append-seam}
 use borrow.Author.Tests.{eq-eqb}
 use Rattle.lists.specs.Lists.{over}
@@ -15,7 +15,7 @@ use Rattle.cnf.proofs.Trials.{spent-budget}
 use Rattle.limits.specs.declared.Limits.{Limits}
 use Rattle.pairs.specs.Pairs.{pairs}
 use Rattle.table.specs.File.{tableOf}
-use Rattle.table.specs.Language.{count, SameWords}
+use Rattle.table.specs.Language.{count, SameWords, OpenByNeither}
 use Rattle.table.specs.Maps.{classes, NoneCoarser}
 use Rattle.table.proofs.Bytes.{read-well-formed}
 use Rattle.maps.specs.Check.{checkNumber, checkOf}
@@ -26,9 +26,9 @@ use Rattle.clauses.proofs.Formed.{list-horn}
 use Rattle.clauses.proofs.Theorems.{map-proper, none-coarser}
 use Rattle.quotient.specs.Quotient.{quotientBytes}
 use Rattle.quotient.specs.Demands.{IsQuotient}
-use Rattle.quotient.proofs.Theorems.{is-quotient, keeps-words}
+use Rattle.quotient.proofs.Theorems.{is-quotient, keeps-words, open-neither}
 use Rattle.reduce.specs.Reduce.{Reduced, searchOfTable, joinedPairs, reduceOf, reductionNumber}
-use Rattle.reduce.specs.Demands.{OnDelivery, KeepsWords, DeliversQuotient, DeliversChecked, DeliversMaximal, FewGuesses, DeliversCeiling, SameSearch, SpentSaid, mapWritten}
+use Rattle.reduce.specs.Demands.{OnDelivery, KeepsWords, DeliversQuotient, DeliversChecked, DeliversMaximal, FewGuesses, DeliversCeiling, SameSearch, SpentSaid, DeliversNoneOpen, mapWritten}
 use Rattle.reduce.specs.declared.Reduction.{Reduction}
 use Rattle.reduce.specs.declared.Reduction.the-variants.{Delivered}
 use Rattle.reduce.proofs.Ways.{FirstNumber, of-limits, of-reading, map-short, list-long, first-number, list-formed, Held, Ways, refused-first, refused-short, delivers, reduce-ways}
@@ -154,6 +154,22 @@ module _ (L : Limits) (b : List ℕ) (budget : ℕ) (list map out : List ℕ) wh
   pub spent-said : SpentSaid (reduceOf L b budget list map out .answer) b budget
   spent-said = spent-ways (reduce-ways L b budget list map out)
 
+  -- what holds of an accepted map and its quotient's bytes holds of the map and the bytes that are delivered
+  delivered-ways : (P : List ℕ → List ℕ → Type 0) → ((m : List ℕ) → checkNumber L b m ≡ 0 → P m (quotientBytes b m))
+      → {r : Reduced} → Ways L b budget list map out r → OnDelivery (r .answer) (λ c g w l. P (mapWritten b (r .map)) (take l (r .out)))
+  unfolding over
+  delivered-ways P h (refused-first k e n) = tt
+  delivered-ways P h (refused-short v g u z s l) = tt
+  delivered-ways P h (delivers v g u z s l) =
+      let m = mapOf v (count (tableOf b)) in
+      let c = quotientBytes b m in
+      subst (λ (d : List ℕ). P (mapWritten b (over m map)) d) (sym (take-append-seam c (drop (length c) out)))
+      (subst (λ (k : List ℕ). P k c) (sym (map-written v g u z s)) (h m (s .accepted)))
+
+  -- request (iv): a word that leaves something open is accepted by neither
+  pub delivers-none-open : DeliversNoneOpen (reduceOf L b budget list map out .answer) b (reduceOf L b budget list map out .out)
+  delivers-none-open = delivered-ways (λ m c. OpenByNeither b c) (open-neither L b) (reduce-ways L b budget list map out)
+
   -- the numbers that reduce refuses by: 39, "1 to 8; 22 ..; 10; .. 21". None other comes out, 12, 13 and those of the check among them
   pub data Number (k : ℕ) : Type 0 where
     first : FirstNumber k → Number k
@@ -186,8 +202,8 @@ module _ (L : Limits) (b : List ℕ) (budget : ℕ) (list map out : List ℕ) wh
 
 -- what the contract of reduce says, of the answer and the buffers that the definition gives
 module _ (L : Limits) (b : List ℕ) (budget : ℕ) (list map out : List ℕ) {r : Reduction} {list' map' out' : List ℕ} (e : record { answer = r; list = list'; map = map'; out = out' } ≡ reduceOf L b budget list map out) where
-  pub promised : (_≡_ {A = Reduced} (record { answer = r; list = list'; map = map'; out = out' }) (reduceOf L b budget list map out)) × (KeepsWords r b out' × (DeliversQuotient L r b map' out' × (DeliversChecked L r b map' × (DeliversMaximal r b map' × (FewGuesses r b × (DeliversCeiling r b map' × (SameSearch r b budget × SpentSaid r b budget)))))))
-  promised = (e, (kept, (quotient, (checked, (maximal, (few, (ceiling, (same, ended))))))))
+  pub promised : (_≡_ {A = Reduced} (record { answer = r; list = list'; map = map'; out = out' }) (reduceOf L b budget list map out)) × (KeepsWords r b out' × (DeliversQuotient L r b map' out' × (DeliversChecked L r b map' × (DeliversMaximal r b map' × (FewGuesses r b × (DeliversCeiling r b map' × (SameSearch r b budget × (SpentSaid r b budget × DeliversNoneOpen r b out'))))))))
+  promised = (e, (kept, (quotient, (checked, (maximal, (few, (ceiling, (same, (ended, none-open)))))))))
     where
       kept : KeepsWords r b out'
       kept = subst (λ (d : Reduced). KeepsWords (d .answer) b (d .out)) (sym e) (delivers-words L b budget list map out)
@@ -212,6 +228,9 @@ module _ (L : Limits) (b : List ℕ) (budget : ℕ) (list map out : List ℕ) {r
 
       ended : SpentSaid r b budget
       ended = subst (λ (d : Reduced). SpentSaid (d .answer) b budget) (sym e) (spent-said L b budget list map out)
+
+      none-open : DeliversNoneOpen r b out'
+      none-open = subst (λ (d : Reduced). DeliversNoneOpen (d .answer) b (d .out)) (sym e) (delivers-none-open L b budget list map out)
 
   pub delivered-fits : {c g w l j u : ℕ} {z : Bool} → r ≡ Delivered c g w l j u z → l ≤ length out
   delivered-fits f =

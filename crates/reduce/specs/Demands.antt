@@ -7,7 +7,7 @@ use lib.ListN.{take}
 use Rattle.cnf.specs.Search.{spent, madeOf, isSpent}
 use Rattle.limits.specs.declared.Limits.{Limits}
 use Rattle.table.specs.File.{tableOf}
-use Rattle.table.specs.Language.{count, SameWords, OneTarget}
+use Rattle.table.specs.Language.{count, SameWords, OpenByNeither, OneTarget}
 use Rattle.table.specs.Maps.{RaqMap, NoneCoarser}
 use Rattle.maps.specs.Check.{checkOf}
 use Rattle.quotient.specs.Demands.{IsQuotient}
@@ -33,6 +33,10 @@ mapWritten b map = take (count (tableOf b)) map
 -- "for every word of any length, the written quotient accepts the word exactly when the input does"
 abbrev pub KeepsWords : Reduction → List ℕ → List ℕ → Type 0
 KeepsWords r b out = OnDelivery r (λ c g w l. SameWords b (take l out))
+
+-- request (iv): "scripts left open are accepted by neither"
+abbrev pub DeliversNoneOpen : Reduction → List ℕ → List ℕ → Type 0
+DeliversNoneOpen r b out = OnDelivery r (λ c g w l. OpenByNeither b (take l out))
 
 -- the map delivered is one that the check accepts, with as many classes
 abbrev pub DeliversChecked : Limits → Reduction → List ℕ → List ℕ → Type 0

@@ -14,7 +14,7 @@ ghost use Rattle.clauses.specs.Clauses.{shortWords};
 ghost use Rattle.clauses.specs.Maps.{mapOf};
 ghost use Rattle.reduce.specs.Reduce.{Reduced, triedOfTable, deliver, afterSearch, reduceOf};
 ghost use Rattle.reduce.specs.Held.{MadeBy, HeldFor};
-ghost use Rattle.reduce.specs.Demands.{KeepsWords, DeliversQuotient, DeliversChecked, DeliversMaximal, FewGuesses, DeliversCeiling, SameSearch, SpentSaid};
+ghost use Rattle.reduce.specs.Demands.{KeepsWords, DeliversQuotient, DeliversChecked, DeliversMaximal, FewGuesses, DeliversCeiling, SameSearch, SpentSaid, DeliversNoneOpen};
 use clauses::Listed;
 use limits::Limits;
 use map::map_of;
@@ -188,6 +188,7 @@ pub fn reduce_within(
     ensures ceiling { λ r. ⌜ DeliversCeiling r (now (table .entry)) (now (map .exit)) ⌝ }
     ensures same { λ r. ⌜ SameSearch r (now (table .entry)) budget ⌝ }
     ensures spent { λ r. ⌜ SpentSaid r (now (table .entry)) budget ⌝ }
+    ensures open { λ r. ⌜ DeliversNoneOpen r (now (table .entry)) (now (out .exit)) ⌝ }
 {
     let examined = tops::examine(limits, table);
     if examined.number != 0 {
@@ -220,6 +221,7 @@ pub fn reduce(
     ensures ceiling { λ r. ⌜ DeliversCeiling r (now (table .entry)) (now (map .exit)) ⌝ }
     ensures same { λ r. ⌜ SameSearch r (now (table .entry)) budget ⌝ }
     ensures spent { λ r. ⌜ SpentSaid r (now (table .entry)) budget ⌝ }
+    ensures open { λ r. ⌜ DeliversNoneOpen r (now (table .entry)) (now (out .exit)) ⌝ }
 {
     reduce_within(limits::standard(), table, budget, list, map, out)
 }

@@ -11,3 +11,4 @@ pub mod Numbers
 pub mod Handed
 pub mod Parts
 pub mod Spanning
+pub mod Open

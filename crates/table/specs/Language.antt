@@ -1,11 +1,11 @@
--- The automaton of a table, and the words that bytes accept (document 01, "Runs and reachable tops"). Assumes nothing.
+-- The automaton of a table, and the words that bytes accept (document 01, "Runs and reachable tops"; document 02, (iv)). Assumes nothing.
 use mathlib.Core.Path.{_≡_}
 use mathlib.Core.Logic.{_↔_}
 use mathlib.Core.List.{List, [], _∷_, _++_, map, List·Memᴰ}
 use Prim.Native.Nat.{ℕ, _/_, _%_, _<_}
 use lib.ListN.{length, getD, take}
 use Rattle.lists.specs.Lists.{keep, same}
-use Rattle.vpa.specs.Automata.{Automaton, Accepts}
+use Rattle.vpa.specs.Automata.{Automaton, Accepts, openAfter}
 use Rattle.table.specs.File.{Table, tableOf}
 
 -- how many states
@@ -39,13 +39,25 @@ automaton t = record {
 abbrev pub automatonOf : List ℕ → Automaton ℕ
 automatonOf b = automaton (tableOf b)
 
--- the word is accepted by the table that the bytes hold
+-- a symbol's kind, its byte: "0 internal, 1 call, 2 return"
+abbrev pub kindOf : Table → ℕ → ℕ
+kindOf t a = getD (t .symbols) a 0
+
+-- request (iv), "a script that ends with something still open": some call of the word is closed by no return behind it, by the symbols' bytes
+abbrev pub LeavesOpen : List ℕ → List ℕ → Type 0
+LeavesOpen b w = 0 < openAfter (kindOf (tableOf b)) 0 w
+
+-- the word is accepted by the table that the bytes hold: some run over it ends in an accepting state on the empty stack
 abbrev pub AcceptsWord : List ℕ → List ℕ → Type 0
 AcceptsWord b w = Accepts (automatonOf b) w
 
 -- two files accept the same words
 pub record SameWords (b c : List ℕ) : Type 0 where
   pub each : (w : List ℕ) → AcceptsWord b w ↔ AcceptsWord c w
+
+-- request (iv), "scripts left open are accepted by neither": c has the symbols of b
+pub record OpenByNeither (b c : List ℕ) : Type 0 where
+  pub each : (w : List ℕ) → LeavesOpen b w → (¬ AcceptsWord b w) × (¬ AcceptsWord c w)
 
 -- "Each move has at most one target where no two records of one section differ in their target alone."
 pub record OneTarget (t : Table) : Type 0 where

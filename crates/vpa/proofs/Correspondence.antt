@@ -5,7 +5,7 @@ use mathlib.Core.Logic.{_↔_}
 use mathlib.Core.List.{List, [], _∷_, map}
 use Prim.Native.Nat.{ℕ}
 use native.Mathlib.Omega.{arith}
-use Rattle.vpa.specs.Automata.{Automaton, Configuration, _at_, Lawful, Step, internally, calling, returning, Run, Reachable, start, next, AcceptsBy, Accepts}
+use Rattle.vpa.specs.Automata.{Automaton, Configuration, _at_, Lawful, Step, internally, calling, returning, Run, Reachable, start, next, AcceptsBy, Ended, Accepts}
 use Rattle.vpa.specs.Quotients.{Raq, Joined, quotient, Corresponds}
 use Rattle.vpa.proofs.Tops.{chain, chain-top, reachable-top, top-named, reachable-state}
 use Rattle.vpa.proofs.Simulation.{Simulation, Together, sim-together, together-map, together-swap, sim-accepts}
@@ -26,6 +26,11 @@ module _ {S T : Type 0} (A : Automaton S) (m : S → T) where
 
   image-corresponds : (c : Configuration S) → Corresponds A m c (image c)
   image-corresponds c = record { states = refl; stacks = refl }
+
+  -- a stack and its image are empty together
+  empty-exact : (σ : List S) (ξ : List T) → map m σ ≡ ξ → σ ≡ [] ↔ ξ ≡ []
+  empty-exact [] ξ e = (λ f. sym e, λ f. refl)
+  empty-exact (s ∷ σ) ξ e = (λ f. let z : _≡_ {A = ℕ} 0 1 = cc in absurd (omega arith), λ f. let z : _≡_ {A = ℕ} 0 1 = cc in absurd (omega arith))
 
   -- ---- a run of the input gives one of the quotient: the image. Nothing is asked of the map
 
@@ -114,9 +119,15 @@ module _ {S T : Type 0} (A : Automaton S) (m : S → T) where
       λ (p, f, k). raq .accepting (joined (lawful .finally k) f (reachable-state A lawful h) (e .states)) .0 k,
     )
 
-    -- Theorem 1
+    pub ended-exact : (c : Configuration S) (C : Configuration T) → Reachable A c → Corresponds A m c C → Ended A c ↔ Ended (quotient A m) C
+    ended-exact c C h e =
+        let a = accepting-exact c C h e in
+        let n = empty-exact (c .stack) (C .stack) (e .stacks) in
+        (λ k. record { accepting = a .0 (k .accepting); empty = n .0 (k .empty) }, λ k. record { accepting = a .1 (k .accepting); empty = n .1 (k .empty) })
+
+    -- Theorem 1, of words that end on the empty stack
     pub quotient-words : (w : List ℕ) → Accepts A w ↔ Accepts (quotient A m) w
-    quotient-words = quotient-exact accepting-exact
+    quotient-words = quotient-exact ended-exact
 
   -- the quotient names states only
   pub quotient-lawful : Lawful A → Lawful (quotient A m)

@@ -70,4 +70,7 @@ module _ {S : Type 0} {A B : Automaton S} (alike : Same A B) where
   same-accepts f w = (within-accepts (same-forth A B alike) (λ c. f c .0), within-accepts (same-back A B alike) (λ c. f c .1))
 
   pub same-words : (w : List ℕ) → Accepts A w ↔ Accepts B w
-  same-words = same-accepts (λ c. alike .finally (c .state))
+  same-words = same-accepts (λ c. (
+    λ h. record { accepting = alike .finally (c .state) .0 (h .accepting); empty = h .empty },
+    λ h. record { accepting = alike .finally (c .state) .1 (h .accepting); empty = h .empty },
+  ))

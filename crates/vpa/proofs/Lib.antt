@@ -1,4 +1,5 @@
 pub mod Tops
+pub mod Calls
 pub mod Simulation
 pub mod Equal
 pub mod Relations

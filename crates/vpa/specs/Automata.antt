@@ -1,9 +1,9 @@
 -- Visibly pushdown automata over any type of states, given by relations: configurations, steps, runs, reachable stack tops, accepted words
--- (source 000, Sect. 2; document 01, "Runs and reachable tops"). Assumes nothing.
+-- (source 000, Sect. 2; document 01, "Runs and reachable tops"; document 02, (iv)). Assumes nothing.
 use mathlib.Core.Path.{_≡_}
 use mathlib.Core.List.{List, [], _∷_}
 use mathlib.Core.Option.{Option, none, some}
-use Prim.Native.Nat.{ℕ}
+use Prim.Native.Nat.{ℕ, zero, suc, _-_}
 
 -- source 000, Sect. 2.1: the states Q, the initial and the accepting ones, and the internal, call and return transitions; symbols are numbers
 pub record Automaton (S : Type 0) : Type 1 where
@@ -67,7 +67,7 @@ module _ {S : Type 0} (A : Automaton S) where
     pushed : {q q' : S} {a : ℕ} {t : Option S} → A .call q a q' → Top q t → Top q' (some q)
     popped : {q s q' : S} {a : ℕ} {t : Option S} → A .return q a s q' → Top q (some s) → Top s t → Top q' t
 
-  -- "It is accepted when some run over all of it ends in" a configuration that meets F
+  -- some run over all of the word ends in a configuration that meets F
   pub record AcceptsBy (F : Configuration S → Type 0) (w : List ℕ) : Type 0 where
     pub first : S
     pub last : Configuration S
@@ -75,6 +75,23 @@ module _ {S : Type 0} (A : Automaton S) where
     pub run : Run (first at []) w last
     pub finally : F last
 
-  -- ".. an accepting state; the stack may be nonempty"
+  -- "an accepting state on the empty stack"
+  pub record Ended (c : Configuration S) : Type 0 where
+    pub accepting : A .accepting (c .state)
+    pub empty : c .stack ≡ []
+
+  -- request (iv): "A word is now accepted when some run ends in an accepting state on the empty stack."
   abbrev pub Accepts : List ℕ → Type 0
-  Accepts = AcceptsBy (λ c. A .accepting (c .state))
+  Accepts = AcceptsBy Ended
+
+-- how many calls are open behind a symbol where n were before it, by the symbol's kind, "0 internal, 1 call, 2 return": a call opens, a return
+-- closes the latest that is open, and where none is open it closes nothing
+unfoldable pub openBehind : ℕ → ℕ → ℕ
+openBehind zero n = n
+openBehind (suc zero) n = suc n
+openBehind (suc (suc k)) n = n - 1
+
+-- how many are open behind a word, where n were before it and kind gives each symbol's kind
+unfoldable pub openAfter : (ℕ → ℕ) → ℕ → List ℕ → ℕ
+openAfter kind n [] = n
+openAfter kind n (a ∷ w) = openAfter kind (openBehind (kind a) n) w
