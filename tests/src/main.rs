@@ -20,7 +20,7 @@ impl Counts {
 }
 
 /// The numbers that each operation can give, 0 for none: a run of many cases must have met each of them.
-const NUMBERS: [(&str, &[u8]); 11] = [
+const NUMBERS: [(&str, &[u8]); 12] = [
     ("read", &[0, 39, 1, 2, 3, 4, 5, 6, 7, 8]),
     ("tops", &[0, 39, 2, 3, 5, 7, 8]),
     ("clauses", &[0, 39, 3, 5, 7, 8, 10]),
@@ -31,6 +31,7 @@ const NUMBERS: [(&str, &[u8]); 11] = [
     ("reduce, spent", &[0]),
     ("reduce, spent with pairs joined", &[0]),
     ("words of input and quotient", &[0]),
+    ("runs of more than two steps", &[0]),
     ("every map of a small table", &[0]),
 ];
 
@@ -100,7 +101,13 @@ fn compare_map(r: &mut Random, l: Limits, b: &[u8], m: &[u8], c: &mut Counts) {
     same("check", b, a, e);
     c.add("check", e);
     let need = match (reference::parse(l, b), e) {
-        (Ok((t, _)), Ok(_)) => reference::quotient_table(&t, m).bytes().len(),
+        (Ok((t, _)), Ok(_)) => {
+            let small = reference::quotient_table(&t, m);
+            if t.count() <= 8 {
+                compare_steps(r, &t, m, &small, c);
+            }
+            small.bytes().len()
+        }
         _ => b.len(),
     };
     let mut ours = vec![0x55u8; around(r, need)];
@@ -139,6 +146,25 @@ fn compare_words(r: &mut Random, a: &Table, b: &Table, c: &mut Counts) {
     c.add("words of input and quotient", Ok(()));
 }
 
+/// Every run over random short words, one by one: the runs of the quotient are the classes of the table's, step by step.
+fn compare_steps(r: &mut Random, t: &Table, map: &[u8], small: &Table, c: &mut Counts) {
+    let mut word = Vec::new();
+    let mut longest = 0;
+    while word.len() < 6 && !t.symbols.is_empty() {
+        word.push(r.below(t.symbols.len()) as u8);
+        let ours = reference::runs(t, &word);
+        if ours.len() > 3000 {
+            return;
+        }
+        let shown: std::collections::BTreeSet<_> = ours.iter().map(|run| reference::classes_of(map, run)).collect();
+        assert!(shown == reference::runs(small, &word), "runs over {word:?} of {t:?} and of its quotient under {map:?} differ");
+        longest = if shown.is_empty() { longest } else { word.len() };
+    }
+    if longest > 2 {
+        c.add("runs of more than two steps", Ok(()));
+    }
+}
+
 fn compare_reduce(r: &mut Random, l: Limits, b: &[u8], c: &mut Counts) {
     let budget = match r.below(4) {
         0 => r.below(4) as u64,
@@ -170,6 +196,7 @@ fn compare_reduce(r: &mut Random, l: Limits, b: &[u8], c: &mut Counts) {
         let small = reference::parse(l, &out[..v.length]).expect("the quotient is readable").0;
         if t.count() <= 8 {
             compare_words(r, &t, &small, c);
+            compare_steps(r, &t, &map[..t.count()], &small, c);
         }
     }
 }

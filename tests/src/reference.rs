@@ -665,27 +665,44 @@ pub fn reduce(l: Limits, b: &[u8], budget: u64, list: &mut [u16], map: &mut [u8]
     Ok(Delivery { classes, guesses, words: words.len(), length: bytes.len(), joined: joined_pairs(&found), ceiling, spent })
 }
 
+/// A state and a stack, the topmost last.
+pub type Configuration = (u8, Vec<u8>);
+
+/// Where a symbol leads from a configuration.
+fn steps(t: &Table, (q, stack): &Configuration, a: u8) -> Vec<Configuration> {
+    let mut next = Vec::new();
+    for r in t.internals.iter().filter(|r| r[0] == *q && r[1] == a) {
+        next.push((r[2], stack.clone()));
+    }
+    for r in t.calls.iter().filter(|r| r[0] == *q && r[1] == a) {
+        next.push((r[2], [&stack[..], &[*q]].concat()));
+    }
+    for r in t.returns.iter().filter(|r| r[0] == *q && r[1] == a && stack.last() == Some(&r[2])) {
+        next.push((r[3], stack[..stack.len() - 1].to_vec()));
+    }
+    next
+}
+
+/// Where runs start.
+fn starts(t: &Table) -> BTreeSet<Configuration> {
+    (0..t.count()).filter(|&q| t.initial(q)).map(|q| (q as u8, Vec::new())).collect()
+}
+
 /// Whether a run over the whole word ends in an accepting state on the empty stack: all configurations at once.
 pub fn accepts(t: &Table, word: &[u8]) -> bool {
-    let mut now: BTreeSet<(u8, Vec<u8>)> = (0..t.count()).filter(|&q| t.initial(q)).map(|q| (q as u8, Vec::new())).collect();
-    for &a in word {
-        let mut next = BTreeSet::new();
-        for (q, stack) in &now {
-            for r in t.internals.iter().filter(|r| r[0] == *q && r[1] == a) {
-                next.insert((r[2], stack.clone()));
-            }
-            for r in t.calls.iter().filter(|r| r[0] == *q && r[1] == a) {
-                let mut s = stack.clone();
-                s.push(*q);
-                next.insert((r[2], s));
-            }
-            for r in t.returns.iter().filter(|r| r[0] == *q && r[1] == a && stack.last() == Some(&r[2])) {
-                let mut s = stack.clone();
-                s.pop();
-                next.insert((r[3], s));
-            }
-        }
-        now = next;
-    }
-    now.iter().any(|(q, stack)| stack.is_empty() && t.accepting(*q as usize))
+    let last = word.iter().fold(starts(t), |now, &a| now.iter().flat_map(|c| steps(t, c, a)).collect());
+    last.iter().any(|(q, stack)| stack.is_empty() && t.accepting(*q as usize))
+}
+
+/// Every run over the whole word, configuration by configuration, accepted or not.
+pub fn runs(t: &Table, word: &[u8]) -> BTreeSet<Vec<Configuration>> {
+    let first = starts(t).into_iter().map(|c| vec![c]).collect();
+    word.iter().fold(first, |now: BTreeSet<Vec<Configuration>>, &a| {
+        now.iter().flat_map(|run| steps(t, run.last().unwrap(), a).into_iter().map(|c| [&run[..], &[c]].concat())).collect()
+    })
+}
+
+/// The classes of a run, state and whole stack at every step.
+pub fn classes_of(map: &[u8], run: &[Configuration]) -> Vec<Configuration> {
+    run.iter().map(|(q, stack)| (map[*q as usize], stack.iter().map(|&s| map[s as usize]).collect())).collect()
 }

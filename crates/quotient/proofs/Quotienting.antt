@@ -29,7 +29,7 @@ use Rattle.maps.specs.Check.{checkNumber}
 use Rattle.maps.specs.Sections.{ofStates, kept, Known}
 use Rattle.maps.proofs.Matched.{move-kept, return-kept}
 use Rattle.quotient.specs.Quotient.{image, images, memberHas, classByte, quotientTable, quotientBytes, quotientNumber, QuotientDone, quotientOf}
-use Rattle.quotient.specs.Demands.{WritesQuotient, WritesSameWords, WritesNoneOpen}
+use Rattle.quotient.specs.Demands.{WritesQuotient, WritesSameWords, WritesNoneOpen, WritesSteps}
 use Rattle.table.specs.Keys.{key}
 use Rattle.table.proofs.Keys.{part-bytes}
 use Rattle.quotient.specs.Keys.{lastBytes, Holds}
@@ -37,7 +37,7 @@ use Rattle.quotient.specs.Sections.{classBytes, keyedTable, Sized, image
 use Rattle.quotient.specs.declared.Written.{Written}
 use Rattle.quotient.specs.declared.Written.the-variants.{Length, Refused}
 use Rattle.quotient.proofs.Image.{images-mem, images-length, image-length}
-use Rattle.quotient.proofs.Theorems.{writes-quotient, writes-same-words, writes-none-open}
+use Rattle.quotient.proofs.Theorems.{writes-quotient, writes-same-words, writes-none-open, writes-steps}
 use Rattle.quotient.proofs.ClassBytes.{length-bytes}
 use Rattle.quotient.proofs.Keys.{Same, last-key}
 use Rattle.quotient.proofs.Collecting.{image-bytes}
@@ -237,16 +237,22 @@ module _ (L : Limits) (b m out : List ℕ) where
           let n : quotientNumber L b m out ≡ 21 = rw (eq-eqb _ _ e, quotientNumber) (rw p) in
           rw (p, writtenFor) (sym (rw (ne-eqb (quotientNumber L b m out) 0 (λ q. omega (arith, n, q)), quotientOf) (λ j. record { answer = Refused (n j); out = out })))
 
-  -- demands 2 and 3
+  -- demands 2 and 3, requests (iv) and (xii)
   pub quotiented : {r : Written} {now : List ℕ} → record { answer = r; out = now } ≡ quotientOf L b m out
-      → (record { answer = r; out = now } ≡ quotientOf L b m out) × (WritesQuotient L r b m now × (WritesSameWords r b now × WritesNoneOpen r b now))
-  quotiented e = (
-    e,
-    (
-      subst (λ (d : QuotientDone). WritesQuotient L (d .answer) b m (d .out)) (sym e) (writes-quotient L b m out),
-      (
-        subst (λ (d : QuotientDone). WritesSameWords (d .answer) b (d .out)) (sym e) (writes-same-words L b m out),
-        subst (λ (d : QuotientDone). WritesNoneOpen (d .answer) b (d .out)) (sym e) (writes-none-open L b m out),
-      ),
-    ),
-  )
+      → (record { answer = r; out = now } ≡ quotientOf L b m out) × (WritesQuotient L r b m now × (WritesSameWords r b now × (WritesNoneOpen r b now × WritesSteps r b m now)))
+  quotiented {r} {now} e = (e, (exact, (words, (none-open, steps))))
+    where
+      answered : (P : Written → List ℕ → Type 0) → P (quotientOf L b m out .answer) (quotientOf L b m out .out) → P r now
+      answered P = subst (λ (d : QuotientDone). P (d .answer) (d .out)) (sym e)
+
+      exact : WritesQuotient L r b m now
+      exact = answered (λ r now. WritesQuotient L r b m now) (writes-quotient L b m out)
+
+      words : WritesSameWords r b now
+      words = answered (λ r now. WritesSameWords r b now) (writes-same-words L b m out)
+
+      none-open : WritesNoneOpen r b now
+      none-open = answered (λ r now. WritesNoneOpen r b now) (writes-none-open L b m out)
+
+      steps : WritesSteps r b m now
+      steps = answered (λ r now. WritesSteps r b m now) (writes-steps L b m out)

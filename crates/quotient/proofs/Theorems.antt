@@ -11,7 +11,7 @@ use borrow.Author.Tests.{eqb-true}
 use Rattle.lists.specs.Lists.{over}
 use Rattle.vpa.specs.Automata.{Accepts}
 use Rattle.vpa.specs.Quotients.{quotient}
-use Rattle.vpa.proofs.Correspondence.{quotient-words}
+use Rattle.vpa.proofs.Correspondence.{quotient-words, every-step}
 use Rattle.vpa.proofs.Equal.{Same, same-words}
 use Rattle.limits.specs.declared.Limits.{Limits}
 use Rattle.table.specs.File.{Table, tableOf}
@@ -27,7 +27,7 @@ use Rattle.tops.proofs.Exact.{live-exact}
 use Rattle.maps.specs.Check.{checkNumber}
 use Rattle.maps.proofs.Accepted.{accepted}
 use Rattle.quotient.specs.Quotient.{quotientTable, quotientBytes, quotientNumber, QuotientDone, quotientOf}
-use Rattle.quotient.specs.Demands.{IsQuotient, OnWriting, WritesQuotient, WritesSameWords, WritesNoneOpen}
+use Rattle.quotient.specs.Demands.{IsQuotient, ShowsSteps, OnWriting, WritesQuotient, WritesSameWords, WritesNoneOpen, WritesSteps}
 use Rattle.quotient.specs.declared.Written.the-variants.{Length, Refused}
 use Rattle.quotient.proofs.States.{count-classes}
 use Rattle.quotient.proofs.Automaton.{quotient-initial, quotient-accepting, quotient-internal, quotient-call, quotient-return}
@@ -51,12 +51,16 @@ module _ (L : Limits) (b m : List ℕ) where
   unfolding quotientBytes
   quotient-table r p = table-of-bytes L (quotientTable (tableOf b) m) (quotient-well-formed L (tableOf b) m (read-well-formed L b r) (p .long) (p .in-order))
 
+  -- and so the quotient of the automaton
+  bytes-same : Readable L b → Proper (tableOf b) m → Same (automatonOf (quotientBytes b m)) (quotient (automatonOf b) (classOf m))
+  bytes-same r p = subst (λ (t : Table). Same (automaton t) (quotient (automatonOf b) (classOf m))) (sym (quotient-table r p)) (table-same L (tableOf b) (read-well-formed L b r) m p)
+
   -- demand 2: the written table is the paper's quotient
   pub is-quotient : Readable L b → Proper (tableOf b) m → IsQuotient L b m (quotientBytes b m)
   unfolding quotientBytes quotientTable
   is-quotient r p =
       let e = quotient-table r p in
-      let s : Same (automatonOf (quotientBytes b m)) (quotient (automatonOf b) (classOf m)) = subst (λ (t : Table). Same (automaton t) (quotient (automatonOf b) (classOf m))) (sym e) (table-same L (tableOf b) (read-well-formed L b r) m p) in
+      let s = bytes-same r p in
       record {
         readable = read-bytes L (quotientTable (tableOf b) m) (quotient-well-formed L (tableOf b) m (read-well-formed L b r) (p .long) (p .in-order));
         symbols = ap (λ (t : Table). t .symbols) e;
@@ -76,9 +80,7 @@ module _ (L : Limits) (b m : List ℕ) where
       exact = let a = accepted L b m e in quotient-words (automatonOf b) (classOf m) (lawful (bounded (read-well-formed L b (a .readable)))) (a .raq)
 
       same : (w : List ℕ) → Accepts (automatonOf (quotientBytes b m)) w ↔ Accepts (quotient (automatonOf b) (classOf m)) w
-      same =
-          let a = accepted L b m e in
-          same-words (subst (λ (t : Table). Same (automaton t) (quotient (automatonOf b) (classOf m))) (sym (quotient-table (a .readable) (a .proper))) (table-same L (tableOf b) (read-well-formed L b (a .readable)) m (a .proper)))
+      same = let a = accepted L b m e in same-words (bytes-same (a .readable) (a .proper))
 
   -- request (iv): a word that leaves something open is accepted by neither
   pub open-neither : checkNumber L b m ≡ 0 → OpenByNeither b (quotientBytes b m)
@@ -87,6 +89,12 @@ module _ (L : Limits) (b m : List ℕ) where
         let n = open-refused L b (accepted L b m e .readable) w o in
         (n, λ h. n (keeps-words e .each w .1 h));
   }
+
+  -- request (xii): at every step, for every map that the check accepts
+  pub keeps-steps : checkNumber L b m ≡ 0 → ShowsSteps b m (quotientBytes b m)
+  keeps-steps e =
+      let a = accepted L b m e in
+      every-step (automatonOf b) (classOf m) (lawful (bounded (read-well-formed L b (a .readable)))) (a .raq) (bytes-same (a .readable) (a .proper))
 
   -- ---- the operation
 
@@ -121,3 +129,6 @@ module _ (L : Limits) (b m : List ℕ) where
 
   pub writes-none-open : (out : List ℕ) → WritesNoneOpen (quotientOf L b m out .answer) b (quotientOf L b m out .out)
   writes-none-open = on-writing (OpenByNeither b) open-neither
+
+  pub writes-steps : (out : List ℕ) → WritesSteps (quotientOf L b m out .answer) b m (quotientOf L b m out .out)
+  writes-steps = on-writing (ShowsSteps b m) keeps-steps

@@ -4,7 +4,7 @@ use mathlib.Core.Logic.{_↔_}
 use mathlib.Core.List.{List}
 use Prim.Native.Nat.{ℕ}
 use lib.ListN.{take}
-use Rattle.vpa.specs.Quotients.{quotient}
+use Rattle.vpa.specs.Quotients.{quotient, EveryStep}
 use Rattle.limits.specs.declared.Limits.{Limits}
 use Rattle.table.specs.File.{tableOf}
 use Rattle.table.specs.Reading.{Readable}
@@ -25,6 +25,10 @@ pub record IsQuotient (L : Limits) (b m c : List ℕ) : Type 0 where
   pub calls : (P a Q : ℕ) → automatonOf c .call P a Q ↔ quotient (automatonOf b) (classOf m) .call P a Q
   pub returns : (P a U Q : ℕ) → automatonOf c .return P a U Q ↔ quotient (automatonOf b) (classOf m) .return P a U Q
 
+-- request (xii), of the table b, the map m and the quotient c: "at every step"
+abbrev pub ShowsSteps : List ℕ → List ℕ → List ℕ → Type 0
+ShowsSteps b m c = EveryStep (automatonOf b) (automatonOf c) (classOf m)
+
 -- where the quotient was written, of its bytes: "the output's first bytes, as many as that length"
 abbrev pub OnWriting : Written → (ℕ → Type 0) → Type 0
 OnWriting (Length n) P = P n
@@ -40,3 +44,7 @@ WritesSameWords r b out = OnWriting r (λ n. SameWords b (take n out))
 -- request (iv): "scripts left open are accepted by neither"
 abbrev pub WritesNoneOpen : Written → List ℕ → List ℕ → Type 0
 WritesNoneOpen r b out = OnWriting r (λ n. OpenByNeither b (take n out))
+
+-- request (xii): "the input must have a run over that word whose states and stacks, at every step, are members of the classes shown"
+abbrev pub WritesSteps : Written → List ℕ → List ℕ → List ℕ → Type 0
+WritesSteps r b m out = OnWriting r (λ n. ShowsSteps b m (take n out))

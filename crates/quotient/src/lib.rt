@@ -6,7 +6,7 @@ ghost use Rattle.table.specs.File.{bytesOf};
 ghost use Rattle.table.specs.Reading.{Readable};
 ghost use Rattle.maps.specs.Sections.{Known};
 ghost use Rattle.quotient.specs.Quotient.{quotientBytes, quotientOf};
-ghost use Rattle.quotient.specs.Demands.{WritesQuotient, WritesSameWords, WritesNoneOpen};
+ghost use Rattle.quotient.specs.Demands.{WritesQuotient, WritesSameWords, WritesNoneOpen, WritesSteps};
 ghost use Rattle.quotient.specs.Sections.{Sized, partedQuotient, writtenFor};
 
 mod images;
@@ -107,6 +107,7 @@ pub fn quotient_within(limits: Limits, table: &[u8], map: &[u8], out: &mut [u8])
     ensures exact { λ r. ⌜ WritesQuotient limits r (now (table .entry)) (now (map .entry)) (now (out .exit)) ⌝ }
     ensures words { λ r. ⌜ WritesSameWords r (now (table .entry)) (now (out .exit)) ⌝ }
     ensures open { λ r. ⌜ WritesNoneOpen r (now (table .entry)) (now (out .exit)) ⌝ }
+    ensures steps { λ r. ⌜ WritesSteps r (now (table .entry)) (now (map .entry)) (now (out .exit)) ⌝ }
 {
     let examined = tops::examine(limits, table);
     if examined.number != 0 {
@@ -123,6 +124,7 @@ pub fn quotient(table: &[u8], map: &[u8], out: &mut [u8]) -> Written
     ensures exact { λ r. ⌜ WritesQuotient standard r (now (table .entry)) (now (map .entry)) (now (out .exit)) ⌝ }
     ensures words { λ r. ⌜ WritesSameWords r (now (table .entry)) (now (out .exit)) ⌝ }
     ensures open { λ r. ⌜ WritesNoneOpen r (now (table .entry)) (now (out .exit)) ⌝ }
+    ensures steps { λ r. ⌜ WritesSteps r (now (table .entry)) (now (map .entry)) (now (out .exit)) ⌝ }
 {
     quotient_within(limits::standard(), table, map, out)
 }

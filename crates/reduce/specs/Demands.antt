@@ -10,7 +10,7 @@ use Rattle.table.specs.File.{tableOf}
 use Rattle.table.specs.Language.{count, SameWords, OpenByNeither, OneTarget}
 use Rattle.table.specs.Maps.{RaqMap, NoneCoarser}
 use Rattle.maps.specs.Check.{checkOf}
-use Rattle.quotient.specs.Demands.{IsQuotient}
+use Rattle.quotient.specs.Demands.{IsQuotient, ShowsSteps}
 use Rattle.maps.specs.declared.Checked.the-variants.{Accepted}
 use Rattle.reduce.specs.Reduce.{searchOfTable, joinedPairs}
 use Rattle.reduce.specs.declared.Reduction.{Reduction}
@@ -37,6 +37,10 @@ KeepsWords r b out = OnDelivery r (λ c g w l. SameWords b (take l out))
 -- request (iv): "scripts left open are accepted by neither"
 abbrev pub DeliversNoneOpen : Reduction → List ℕ → List ℕ → Type 0
 DeliversNoneOpen r b out = OnDelivery r (λ c g w l. OpenByNeither b (take l out))
+
+-- request (xii), under the map delivered: "at every step"
+abbrev pub DeliversSteps : Reduction → List ℕ → List ℕ → List ℕ → Type 0
+DeliversSteps r b map out = OnDelivery r (λ c g w l. ShowsSteps b (mapWritten b map) (take l out))
 
 -- the map delivered is one that the check accepts, with as many classes
 abbrev pub DeliversChecked : Limits → Reduction → List ℕ → List ℕ → Type 0

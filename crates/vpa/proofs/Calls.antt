@@ -1,7 +1,7 @@
 -- Behind a run the stack is as high as the symbols of its word say, so that an accepted word leaves nothing open (document 02, (iv)).
 -- Assumes nothing.
 use mathlib.Core.Path.{_≡_, refl, ap, _∙_}
-use mathlib.Core.List.{List}
+use mathlib.Core.List.{List, []}
 use Prim.Native.Nat.{ℕ}
 use native.Mathlib.Omega.{arith}
 use lib.ListN.{length}
@@ -28,4 +28,6 @@ module _ {S : Type 0} (A : Automaton S) (kind : ℕ → ℕ) where
 
     -- what is accepted leaves nothing open
     pub accepted-closed : {w : List ℕ} → Accepts A w → openAfter kind 0 w ≡ 0
-    accepted-closed h = run-open (h .run) ∙ ap length (h .finally .empty)
+    accepted-closed h =
+        let empty : h .last .stack ≡ [] = h .finally .empty in
+        run-open (h .run) ∙ ap length empty

@@ -6,9 +6,10 @@ use mathlib.Core.List.{List, [], _∷_, map}
 use Prim.Native.Nat.{ℕ}
 use native.Mathlib.Omega.{arith}
 use Rattle.vpa.specs.Automata.{Automaton, Configuration, _at_, Lawful, Step, internally, calling, returning, Run, Reachable, start, next, AcceptsBy, Ended, Accepts}
-use Rattle.vpa.specs.Quotients.{Raq, Joined, quotient, Corresponds}
+use Rattle.vpa.specs.Quotients.{Raq, Joined, quotient, Corresponds, AtEveryStep, at-end, at-step, EveryStep}
 use Rattle.vpa.proofs.Tops.{chain, chain-top, reachable-top, top-named, reachable-state}
-use Rattle.vpa.proofs.Simulation.{Simulation, Together, sim-together, together-map, together-swap, sim-accepts}
+use Rattle.vpa.proofs.Simulation.{trace, Simulation, steps-map, steps-swap, sim-steps, sim-accepts}
+use Rattle.vpa.proofs.Equal.{Same, same-forth, same-back, sim-from, sim-to}
 use Rattle.vpa.proofs.Relations.{raq-returns}
 
 module _ {S T : Type 0} (A : Automaton S) (m : S → T) where
@@ -22,7 +23,15 @@ module _ {S T : Type 0} (A : Automaton S) (m : S → T) where
   image c = m (c .state) at map m (c .stack)
 
   image-path : {c : Configuration S} {C : Configuration T} → Corresponds A m c C → image c ≡ C
-  image-path h = λ i. record { state = h .states i; stack = h .stacks i }
+  image-path {c} {C} h =
+      let stacks : map m (c .stack) ≡ C .stack = h .stacks in
+      λ i. record { state = h .states i; stack = stacks i }
+
+  -- the configurations of the class run are, one by one, the images of the input's
+  pub steps-image : {B : Automaton T} {c d : Configuration S} {C D : Configuration T} {w : List ℕ} {r : Run A c w d} {u : Run B C w D} → AtEveryStep (Corresponds A m) r u → map image (trace r) ≡ trace u
+  unfolding trace
+  steps-image (at-end h) = λ i. image-path h i ∷ []
+  steps-image (at-step h k) = λ i. image-path h i ∷ steps-image k i
 
   image-corresponds : (c : Configuration S) → Corresponds A m c (image c)
   image-corresponds c = record { states = refl; stacks = refl }
@@ -85,24 +94,22 @@ module _ {S T : Type 0} (A : Automaton S) (m : S → T) where
       steps = λ h s. lift-step s h;
     }
 
-  -- ---- whole runs, corresponding before and after every step
-
-  abbrev pub RunsTogether : Configuration S → Configuration T → List ℕ → Configuration S → Configuration T → Type 0
-  RunsTogether = Together A (quotient A m) (Corresponds A m)
-
-  pub class-run : {p : S} {d : Configuration S} {w : List ℕ} → A .initial p → Run A (p at []) w d → quotient A m .initial (m p) × (D : Configuration T) × RunsTogether (p at []) (m p at []) w d D
-  unfolding quotient
-  class-run i r =
-      let k = sim-together A (quotient A m) Linked image-sim r record { corresponds = image-corresponds _; reachable = start i } in
-      ((_, refl, i), k .0, together-map (λ c C h. h .corresponds) (k .1))
-
   module _ (lawful : Lawful A) (raq : Raq A (Joined A m)) where
-    -- Lemma 1
-    pub input-run : {P : T} {D : Configuration T} {w : List ℕ} → quotient A m .initial P → Run (quotient A m) (P at []) w D → (p : S) × A .initial p × (d : Configuration S) × RunsTogether (p at []) (P at []) w d D
-    input-run i r =
-        let j = lift-sim lawful raq .starts i in
-        let k = sim-together (quotient A m) A (λ C c. Linked c C) (lift-sim lawful raq) r (j .2) in
-        (j .0, j .1, k .0, together-map (λ c C h. h .corresponds) (together-swap (k .1)))
+    -- ---- whole runs, corresponding at every step (Lemma 1), for any B that is the quotient
+
+    pub every-step : {B : Automaton T} → Same B (quotient A m) → EveryStep A B m
+    every-step {B} alike = record {
+      members = λ i u.
+          let sim = sim-from (same-forth B (quotient A m) alike) (lift-sim lawful raq) in
+          let j = sim .starts i in
+          let k = sim-steps B A (λ C c. Linked c C) sim u (j .2) in
+          (j .0, j .1, k .0, k .1, steps-map (λ c C h. h .corresponds) (steps-swap (k .2)));
+      classes = λ i r.
+          let sim = sim-to (same-back B (quotient A m) alike) image-sim in
+          let j = sim .starts i in
+          let k = sim-steps A B Linked sim r (j .2) in
+          (j .0, j .1, k .0, k .1, steps-map (λ c C h. h .corresponds) (k .2));
+    }
 
     -- ---- the same words, for any acceptance that corresponding configurations agree on
 

@@ -52,6 +52,16 @@ module _ {S : Type 0} {A B : Automaton S} (within : Within A B) where
   pub within-tops : {q : S} {t : Option S} → Tops A q t → Tops B q t
   within-tops h = record { stack = h .stack; topmost = h .topmost; reachable = within-reachable (h .reachable) }
 
+  -- who follows B follows A, and who is followed by A is followed by B
+  pub sim-from : {T : Type 0} {C : Automaton T} {R : Configuration S → Configuration T → Type 0} → Simulation B C R → Simulation A C R
+  sim-from sim = record { starts = λ i. sim .starts (within .initially i); steps = λ h s. sim .steps h (within-step s) }
+
+  pub sim-to : {T : Type 0} {C : Automaton T} {R : Configuration T → Configuration S → Type 0} → Simulation C A R → Simulation C B R
+  sim-to sim = record {
+    starts = λ i. let k = sim .starts i in (k .0, within .initially (k .1), k .2);
+    steps = λ h s. let k = sim .steps h s in (k .0, within-step (k .1), k .2);
+  }
+
   within-sim : Simulation A B (λ c d. c ≡ d)
   within-sim = record {
     starts = λ {p} i. (p, within .initially i, refl);

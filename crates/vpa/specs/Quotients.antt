@@ -1,10 +1,11 @@
--- Source 000, Sect. 2.1 and 3: the quotient, closure under successors and Definition 1, in the paper's own form. Assumes nothing.
+-- Source 000, Sect. 2.1 and 3: the quotient, closure under successors and Definition 1, in the paper's own form; runs compared at every step
+-- (document 02, (xii)). Assumes nothing.
 use mathlib.Core.Path.{_≡_}
 use mathlib.Core.Logic.{_↔_}
-use mathlib.Core.List.{map}
+use mathlib.Core.List.{List, [], _∷_, map}
 use mathlib.Core.Option.{some}
 use Prim.Native.Nat.{ℕ}
-use Rattle.vpa.specs.Automata.{Automaton, Configuration, Tops}
+use Rattle.vpa.specs.Automata.{Automaton, Configuration, _at_, Step, Run, done, then, Tops}
 
 -- "R is closed under .. successors": p moves by f and q by g. For each move of one there is a move of the other by the same symbol, to related states
 pub record Closed {S : Type 0} (R : S → S → Type 0) (f g : ℕ → S → Type 0) : Type 0 where
@@ -56,3 +57,24 @@ module _ {S T : Type 0} (A : Automaton S) (m : S → T) where
   pub record Corresponds (c : Configuration S) (C : Configuration T) : Type 0 where
     pub states : m (c .state) ≡ C .state
     pub stacks : map m (c .stack) ≡ C .stack
+
+module _ {S T : Type 0} {A : Automaton S} {B : Automaton T} (R : Configuration S → Configuration T → Type 0) where
+  -- two runs over one word, from c to d and from C to D, with R before its first symbol and behind each: one case a step
+  pub data StepByStep : (c d : Configuration S) (C D : Configuration T) (w : List ℕ) → Run A c w d → Run B C w D → Type 0 where
+    at-end : {c : Configuration S} {C : Configuration T} → R c C → StepByStep c c C C [] done done
+    at-step : {c d e : Configuration S} {C D E : Configuration T} {a : ℕ} {w : List ℕ} {s : Step A c a d} {t : Step B C a D} {r : Run A d w e} {u : Run B D w E}
+        → R c C → StepByStep d e D E w r u → StepByStep c e C E (a ∷ w) (then s r) (then t u)
+
+  -- the same of two runs, which say their ends and their word
+  abbrev pub AtEveryStep : {c d : Configuration S} {C D : Configuration T} {w : List ℕ} → Run A c w d → Run B C w D → Type 0
+  AtEveryStep {c} {d} {C} {D} {w} r u = StepByStep c d C D w r u
+
+-- request (xii), of an input A and a quotient B under the map m: over every word, from their starts
+pub record EveryStep {S T : Type 0} (A : Automaton S) (B : Automaton T) (m : S → T) : Type 0 where
+  -- "For each run of the quotient over a word, the input must have a run over that word whose states and stacks, at every step, are members of
+  -- the classes shown."
+  pub members : {P : T} {D : Configuration T} {w : List ℕ} → B .initial P → (u : Run B (P at []) w D)
+      → (p : S) × A .initial p × (d : Configuration S) × (r : Run A (p at []) w d) × AtEveryStep (Corresponds A m) r u
+  -- "Every input run appears as a class run too."
+  pub classes : {p : S} {d : Configuration S} {w : List ℕ} → A .initial p → (r : Run A (p at []) w d)
+      → (P : T) × B .initial P × (D : Configuration T) × (u : Run B (P at []) w D) × AtEveryStep (Corresponds A m) r u
