@@ -1,4 +1,4 @@
-/* The reducer's C interface: the seven operations of the proved library `capi` (rt staticlib capi),
+/* The reducer's C interface: the operations of the proved library `capi` (rt staticlib capi),
  * each at the limits of 24 states and 32 symbols and, as NAME_within, at given limits of 1 to 40 states and 1 to 64 symbols; others are refused by 39.
  *
  * Each function returns the refusal's number, or 0. Where it is 0 and `values` has room for all the answer's values, they are its first
@@ -39,6 +39,11 @@ uint32_t basilvault_quotient(const uint8_t *table, size_t table_len, const uint8
 uint32_t basilvault_reduce(const uint8_t *table, size_t table_len, uint64_t budget, uint16_t *list, size_t list_len, uint8_t *map,
                            size_t map_len, uint8_t *out, size_t out_len, uint64_t *values, size_t values_len);
 
+/* 41 values: the use counts of the lines added up, a sum for each possible state by its number as a class, then the total. A line is a state (one
+ * byte) and a use count (32 bits, little-endian). */
+uint32_t basilvault_uses(const uint8_t *table, size_t table_len, const uint8_t *map, size_t map_len, const uint8_t *lines, size_t lines_len,
+                         uint64_t *values, size_t values_len);
+
 /* The same at limits. */
 uint32_t basilvault_read_within(size_t states, size_t symbols, const uint8_t *table, size_t table_len, uint64_t *values, size_t values_len);
 uint32_t basilvault_tops_within(size_t states, size_t symbols, const uint8_t *table, size_t table_len, uint64_t *values, size_t values_len);
@@ -52,6 +57,8 @@ uint32_t basilvault_quotient_within(size_t states, size_t symbols, const uint8_t
                                     uint8_t *out, size_t out_len, uint64_t *values, size_t values_len);
 uint32_t basilvault_reduce_within(size_t states, size_t symbols, const uint8_t *table, size_t table_len, uint64_t budget, uint16_t *list,
                                   size_t list_len, uint8_t *map, size_t map_len, uint8_t *out, size_t out_len, uint64_t *values, size_t values_len);
+uint32_t basilvault_uses_within(size_t states, size_t symbols, const uint8_t *table, size_t table_len, const uint8_t *map, size_t map_len,
+                                const uint8_t *lines, size_t lines_len, uint64_t *values, size_t values_len);
 
 #ifdef __cplusplus
 }

@@ -40,6 +40,8 @@ extern "C" {
         values: *mut u64,
         k: usize,
     ) -> u32;
+    fn basilvault_uses(table: *const u8, n: usize, map: *const u8, m: usize, lines: *const u8, l: usize, values: *mut u64, k: usize) -> u32;
+    fn basilvault_uses_within(states: usize, symbols: usize, table: *const u8, n: usize, map: *const u8, m: usize, lines: *const u8, l: usize, values: *mut u64, k: usize) -> u32;
 }
 
 fn answer<const K: usize>(number: u32, values: [u64; K]) -> Result<[u64; K], u8> {
@@ -113,6 +115,13 @@ pub fn reduce(table: &[u8], budget: u64, list: &mut [u16], map: &mut [u8], out: 
     answer(k, v)
 }
 
+/// 40 sums, then the total.
+pub fn uses(table: &[u8], map: &[u8], lines: &[u8]) -> Result<[u64; 41], u8> {
+    let mut v = [0u64; 41];
+    let k = unsafe { basilvault_uses(table.as_ptr(), table.len(), map.as_ptr(), map.len(), lines.as_ptr(), lines.len(), v.as_mut_ptr(), v.len()) };
+    answer(k, v)
+}
+
 /// The same operations at given limits.
 #[allow(dead_code)]
 pub mod within {
@@ -173,6 +182,13 @@ pub mod within {
                 v.len(),
             )
         };
+        answer(k, v)
+    }
+
+    /// 40 sums, then the total.
+    pub fn uses(l: Limits, table: &[u8], map: &[u8], lines: &[u8]) -> Result<[u64; 41], u8> {
+        let mut v = [0u64; 41];
+        let k = unsafe { super::basilvault_uses_within(l.states, l.symbols, table.as_ptr(), table.len(), map.as_ptr(), map.len(), lines.as_ptr(), lines.len(), v.as_mut_ptr(), v.len()) };
         answer(k, v)
     }
 }

@@ -23,7 +23,7 @@ pub struct Cases {
     pub limits: Limits,
     pub input: Vec<u8>,
     pub output: String,
-    pub counts: [usize; 8],
+    pub counts: [usize; 15],
 }
 
 /// 16-bit little-endian numbers.
@@ -39,7 +39,7 @@ fn longs<T: Copy + Into<u64>>(values: &[T]) -> Vec<u64> {
 impl Cases {
     /// None yet, and the limits of a caller that gives none.
     pub fn new() -> Cases {
-        Cases { limits: reference::STANDARD, input: vec![], output: String::new(), counts: [0; 8] }
+        Cases { limits: reference::STANDARD, input: vec![], output: String::new(), counts: [0; 15] }
     }
 
     /// An operation's number, the limits, the length of the rest, and the rest.
@@ -125,6 +125,20 @@ impl Cases {
         self.frame(5, &[&words(&[map.len()]), map, b]);
         let answer = reference::check(self.limits, b, map);
         self.line("check", answer.map(|classes| vec![classes as u64]));
+        self.end();
+        answer
+    }
+
+    /// The sums and the total; with a refusal, 0 in all of them.
+    pub fn uses(&mut self, b: &[u8], map: &[u8], lines: &[u8]) -> Result<([u64; 40], u64), u8> {
+        self.frame(10, &[&words(&[map.len(), lines.len()]), map, lines, b]);
+        let answer = reference::uses(self.limits, b, map, lines);
+        let (number, sums, total) = match answer {
+            Ok((sums, total)) => (0, sums, total),
+            Err(k) => (k, [0; 40], 0),
+        };
+        write!(self.output, "uses {number}").unwrap();
+        sums.iter().chain([&total]).for_each(|x| write!(self.output, " {x}").unwrap());
         self.end();
         answer
     }

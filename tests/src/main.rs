@@ -20,7 +20,7 @@ impl Counts {
 }
 
 /// The numbers that each operation can give, 0 for none: a run of many cases must have met each of them.
-const NUMBERS: [(&str, &[u8]); 12] = [
+const NUMBERS: [(&str, &[u8]); 13] = [
     ("read", &[0, 39, 1, 2, 3, 4, 5, 6, 7, 8]),
     ("tops", &[0, 39, 2, 3, 5, 7, 8]),
     ("clauses", &[0, 39, 3, 5, 7, 8, 10]),
@@ -28,6 +28,7 @@ const NUMBERS: [(&str, &[u8]); 12] = [
     ("check", &[0, 39, 3, 7, 8, 15, 16, 17, 18, 19, 20]),
     ("quotient", &[0, 39, 3, 7, 8, 15, 16, 17, 18, 19, 20, 21]),
     ("reduce", &[0, 39, 3, 7, 8, 10, 21, 22]),
+    ("uses", &[0, 39, 3, 7, 8, 15, 16, 17, 18, 19, 20, 32, 33]),
     ("reduce, spent", &[0]),
     ("reduce, spent with pairs joined", &[0]),
     ("words of input and quotient", &[0]),
@@ -116,6 +117,35 @@ fn compare_map(r: &mut Random, l: Limits, b: &[u8], m: &[u8], c: &mut Counts) {
     let e = reference::quotient(l, b, m, &mut theirs).map(|k| [k as u64]);
     same("quotient", b, (a, ours), (e, theirs));
     c.add("quotient", e);
+}
+
+fn compare_uses(r: &mut Random, l: Limits, b: &[u8], m: &[u8], lines: &[u8], c: &mut Counts) {
+    let e = reference::uses(l, b, m, lines).map(|(sums, total)| {
+        let mut v = [total; 41];
+        v[..40].copy_from_slice(&sums);
+        v
+    });
+    let a = if l == STANDARD { capi::uses(b, m, lines) } else { capi::within::uses(l, b, m, lines) };
+    same("uses", b, a, e);
+    c.add("uses", e);
+    // the lines in another order
+    let mut turned: Vec<&[u8]> = lines.chunks_exact(5).collect();
+    let k = r.below(turned.len() + 1);
+    turned.rotate_left(k);
+    if lines.len() % 5 == 0 {
+        same("uses in another order", b, capi::within::uses(l, b, m, &turned.concat()), e);
+    }
+}
+
+/// As many lines as there may be, and one more.
+fn compare_many_lines() {
+    let b = Table { symbols: vec![], states: vec![3], internals: vec![], calls: vec![], returns: vec![] }.bytes();
+    for lines in [65_535, 65_536, 65_537] {
+        let bytes: Vec<u8> = (0..lines).flat_map(|_| [0, 255, 255, 255, 255]).collect();
+        let e = reference::uses(STANDARD, &b, &[0], &bytes).map(|x| x.1);
+        assert_eq!(e, if lines > 65_536 { Err(32) } else { Ok(lines * u64::from(u32::MAX)) });
+        assert_eq!(capi::uses(&b, &[0], &bytes).map(|x| (x[0], x[40])), e.map(|x| (x, x)));
+    }
 }
 
 /// Every word of up to eight symbols over both tables where these are at most 10,000, else as many random ones.
@@ -394,6 +424,8 @@ fn main() {
             3 => {
                 let m = any_map(&mut r, l, &t, &valid);
                 compare_map(&mut r, l, &b, &m, &mut c);
+                let lines = random::lines(&mut r, t.count());
+                compare_uses(&mut r, l, &b, &m, &lines, &mut c);
             }
             4 => compare_reduce(&mut r, l, &b, &mut c),
             _ => {
@@ -408,6 +440,7 @@ fn main() {
         }
     }
     compare_hard(&mut c);
+    compare_many_lines();
     compare_program();
     for ((name, number), k) in &c.0 {
         println!("{k:7} {name}: {number}");

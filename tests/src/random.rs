@@ -203,3 +203,17 @@ pub fn map(r: &mut Random, n: usize) -> Vec<u8> {
     }
     m
 }
+
+/// Lines of a state and a use count: mostly of the table's states, with a whole number of lines.
+pub fn lines(r: &mut Random, n: usize) -> Vec<u8> {
+    let mut lines = Vec::new();
+    for _ in 0..r.below(20) {
+        lines.push(if r.chance(99) { r.below(n) } else { n + r.below(3) } as u8);
+        let most = [10, 1 << 16, 1 << 32][r.below(3)];
+        lines.extend((r.below(most) as u32).to_le_bytes());
+    }
+    if r.chance(5) {
+        lines.resize(lines.len() + 1 + r.below(4), 0);
+    }
+    lines
+}

@@ -9,6 +9,8 @@ use borrow.Author.Tests.{le-leb, lt-leb, ne-eqb}
 use Rattle.lists.specs.Lists.{over}
 use Rattle.tops.specs.declared.TopWords.{TopWords}
 use Rattle.tops.specs.Tops.{topsValues}
+use Rattle.uses.specs.declared.Counted.{Counted}
+use Rattle.uses.specs.Uses.{countedValues}
 use Rattle.lists.proofs.Copying.{Writing, write-all}
 use Rattle.capi.specs.Answers.{stored, out}
 
@@ -27,10 +29,10 @@ unfolding over
 stored-none values = stored-all [] values (omega arith)
 
 -- the words stand in all places but the last
-module _ {found : ℕ} {words all : List ℕ} {q : ℕ} (l : length words ≡ 40) (w : Writing words (replicate 41 found) all q) where
-  pub last-kept : 40 ≤ q → all ≡ words ++ (found ∷ [])
+module _ {last : ℕ} {words all : List ℕ} {q : ℕ} (l : length words ≡ 40) (w : Writing words (replicate 41 last) all q) where
+  pub last-kept : 40 ≤ q → all ≡ words ++ (last ∷ [])
   unfolding over
-  last-kept h = write-all w (omega arith) ∙ ap (λ n. words ++ drop n (replicate 41 found)) l
+  last-kept h = write-all w (omega arith) ∙ ap (λ n. words ++ drop n (replicate 41 last)) l
 
 -- ---- an answer whose number is m and whose values are vs, as the code found them
 
@@ -51,3 +53,11 @@ tops-found r e = rw (e, topsValues)
 pub tops-refused : (r : TopWords) → r .number ≢ 0 → topsValues r ≡ []
 unfolding topsValues
 tops-refused r h = rw (ne-eqb (r .number) 0 h, topsValues)
+
+pub uses-counted : (r : Counted) → r .number ≡ 0 → countedValues r ≡ r .sums ++ (r .total ∷ [])
+unfolding countedValues
+uses-counted r e = rw (e, countedValues)
+
+pub uses-refused : (r : Counted) → r .number ≢ 0 → countedValues r ≡ []
+unfolding countedValues
+uses-refused r h = rw (ne-eqb (r .number) 0 h, countedValues)

@@ -15,6 +15,8 @@ use Rattle.maps.specs.declared.Checked.{Checked}
 use Rattle.maps.specs.Check.{checkedNumber, checkedValues}
 use Rattle.quotient.specs.Quotient.{QuotientDone, writtenNumber, writtenValues}
 use Rattle.reduce.specs.Reduce.{Reduced, reductionNumber, reductionValues}
+use Rattle.uses.specs.declared.Counted.{Counted}
+use Rattle.uses.specs.Uses.{countedValues}
 
 -- the values at the front of the buffer, where it has room for all of them
 unfoldable pub stored : List ℕ → List ℕ → List ℕ
@@ -51,3 +53,6 @@ module _ (values : List ℕ) where
 
   unfoldable pub reduceOut : Reduced → Out
   reduceOut r = out values (reductionNumber (r .answer)) (reductionValues (r .answer)) (r .list ∷ r .map ∷ r .out ∷ [])
+
+  unfoldable pub usesOut : Counted → Out
+  usesOut r = out values (r .number) (countedValues r) []

@@ -11,7 +11,8 @@ ghost use Rattle.search.specs.Answers.{searchOf};
 ghost use Rattle.maps.specs.Check.{checkOf};
 ghost use Rattle.quotient.specs.Quotient.{quotientOf};
 ghost use Rattle.reduce.specs.Reduce.{reduceOf, spentValue};
-ghost use Rattle.capi.specs.Answers.{stored, readOut, topsOut, clausesOut, searchOut, checkOut, quotientOut, reduceOut};
+ghost use Rattle.uses.specs.Uses.{usesOf};
+ghost use Rattle.capi.specs.Answers.{stored, readOut, topsOut, clausesOut, searchOut, checkOut, quotientOut, reduceOut, usesOut};
 use clauses::Listed;
 use limits::Limits;
 use maps::Checked;
@@ -34,11 +35,11 @@ fn store(answer: &[u64], values: &mut [u64])
     }
 }
 
-// The words, then the number found: the words take all places but the last.
-fn words_and_count(words: [u64; 40], found: u32) -> [u64; 41]
-    ensures { λ r. ⌜ r ≡ words ++ (found ∷ []) ⌝ }
+// The words, then one number more: the words take all places but the last.
+fn words_and_count(words: [u64; 40], last: u64) -> [u64; 41]
+    ensures { λ r. ⌜ r ≡ words ++ (last ∷ []) ⌝ }
 {
-    let mut all = [found as u64; 41];
+    let mut all = [last; 41];
     let mut q: usize = 0;
     'words: while q < 40 {
         all[q] = words[q];
@@ -106,7 +107,7 @@ pub extern "C" fn basilvault_tops_within(
         return number as u32;
     }
     let words = tops.words;
-    let answer = words_and_count(words, tops.found);
+    let answer = words_and_count(words, tops.found as u64);
     store(&answer, values);
     0
 }
@@ -360,4 +361,40 @@ pub extern "C" fn basilvault_reduce(
         out,
         values,
     )
+}
+
+// Adds up use counts by class. 41 values: a sum for each possible state, then the total.
+#[no_mangle]
+pub extern "C" fn basilvault_uses_within(
+    states: usize,
+    symbols: usize,
+    table: &[u8],
+    map: &[u8],
+    lines: &[u8],
+    values: &mut [u64],
+) -> u32
+    ensures { λ r. ⌜
+        record { number = r; buffers = []; values = now (values .exit) }
+        ≡ usesOut (now (values .entry)) (usesOf (record { states = states; symbols = symbols }) (now (table .entry)) (now (map .entry)) (now (lines .entry))) ⌝ }
+{
+    let limits = Limits { states, symbols };
+    let counted = uses::uses_within(limits, table, map, lines);
+    let number = counted.number;
+    if number != 0 {
+        return number as u32;
+    }
+    let sums = counted.sums;
+    let answer = words_and_count(sums, counted.total);
+    store(&answer, values);
+    0
+}
+
+// The same at the limits of a caller that gives none.
+#[no_mangle]
+pub extern "C" fn basilvault_uses(table: &[u8], map: &[u8], lines: &[u8], values: &mut [u64]) -> u32
+    ensures { λ r. ⌜
+        record { number = r; buffers = []; values = now (values .exit) }
+        ≡ usesOut (now (values .entry)) (usesOf standard (now (table .entry)) (now (map .entry)) (now (lines .entry))) ⌝ }
+{
+    basilvault_uses_within(limits::STATES, limits::SYMBOLS, table, map, lines, values)
 }

@@ -10,6 +10,7 @@
 //   5 check     the map's length; the map; the table
 //   6 quotient  the map's length, the output's length; the map; the table
 //   7 reduce    the budget, the lengths of the list, of the map buffer and of the output; the table
+//   10 uses     the map's length, the number of line bytes; the map; the lines; the table
 //
 // A line is the operation's name, the refusal's number or 0, the answer's values and, each behind a bar, the buffers at exit, which are filled
 // with 7 beforehand.
@@ -349,6 +350,30 @@ fn say_reduce(limits: Limits, rest: &[u8]) -> bool {
     say_reduced(limits, rest, &mut list, &mut map, &mut out)
 }
 
+// The sums by class, and the total.
+fn say_counted(limits: Limits, table: &[u8], map: &[u8], lines: &[u8]) -> bool {
+    let counted = uses::uses_within(limits, table, map, lines);
+    number(counted.number as u64);
+    let mut c: usize = 0;
+    'sums: while c < 40 {
+        number(counted.sums[c]);
+        c += 1;
+    }
+    number(counted.total);
+    say(b"\n")
+}
+
+// The use counts of the lines behind the map, by the classes of the map, of the table behind both.
+fn say_uses(limits: Limits, rest: &[u8]) -> bool {
+    say(b"uses");
+    let middle = 4 + word_at(rest, 0);
+    let end = middle + word_at(rest, 2);
+    if rest.len() < end {
+        return say(b" ?\n");
+    }
+    say_counted(limits, &rest[end..], &rest[4..middle], &rest[middle..end])
+}
+
 // One case by its operation's number.
 fn say_case(operation: u8, limits: Limits, rest: &[u8]) -> bool {
     match operation {
@@ -359,6 +384,7 @@ fn say_case(operation: u8, limits: Limits, rest: &[u8]) -> bool {
         5 => say_check(limits, rest),
         6 => say_quotient(limits, rest),
         7 => say_reduce(limits, rest),
+        10 => say_uses(limits, rest),
         _ => say(b"?\n"),
     }
 }

@@ -153,3 +153,30 @@ module _ (L : Limits) (b m : List ℕ) where
 
   pub checked : {r : Checked} → r ≡ checkOf L b m → (r ≡ checkOf L b m) × AcceptsExactly L b m r
   checked {r} e = (e, subst (λ (y : Checked). AcceptsExactly L b m y) (sym e) exactly)
+
+  -- by cases: the class count where the number is 0, else the number
+  pub data Answers : Checked → Type 0 where
+    passes-by : checkNumber L b m ≡ 0 → Answers (Accepted (classes m))
+    refuses-by : (checkNumber L b m ≡ 0 → ⊥) → Answers (Refused (checkNumber L b m))
+
+  pub answers : Answers (checkOf L b m)
+  unfolding checkOf
+  answers = go (eqb (checkNumber L b m) 0) refl
+    where
+      go : (t : Bool) → eqb (checkNumber L b m) 0 ≡ t → Answers (elim t [ true ↦ Accepted (classes m) | false ↦ Refused (checkNumber L b m) ])
+      go true p = passes-by (eqb-true _ _ p)
+      go false p = refuses-by (eqb-false _ _ p)
+
+  pub accepted-number : {n : ℕ} → checkOf L b m ≡ Accepted n → checkNumber L b m ≡ 0
+  accepted-number {n} f = go answers f
+    where
+      go : {x : Checked} → Answers x → x ≡ Accepted n → checkNumber L b m ≡ 0
+      go (passes-by z) e = z
+      go (refuses-by h) e = let z : _≡_ {A = ℕ} 0 1 = cc in absurd (omega arith)
+
+  pub refused-number : {k : ℕ} → checkOf L b m ≡ Refused k → (checkNumber L b m ≡ k) × (k ≡ 0 → ⊥)
+  refused-number {k} f = go answers f
+    where
+      go : {x : Checked} → Answers x → x ≡ Refused k → (checkNumber L b m ≡ k) × (k ≡ 0 → ⊥)
+      go (passes-by z) e = let w : _≡_ {A = ℕ} 0 1 = cc in absurd (omega arith)
+      go (refuses-by h) e = let w : checkNumber L b m ≡ k = cc in (w, λ z. h (w ∙ z))

@@ -6,8 +6,8 @@ use Prim.Native.Nat.{ℕ, zero, suc, _+_, _<_, _≤_, max}
 use native.Mathlib.Omega.{arith}
 use lib.ListN.{length, getD, drop, drop-of-length-le}
 use lib.Dec.{leb}
-use borrow.Author.Tests.{le-leb, lt-leb}
-use Rattle.lists.proofs.Members.{one-on}
+use borrow.Author.Tests.{leb-true, le-leb, lt-leb}
+use Rattle.lists.proofs.Members.{and-true, one-on}
 use Rattle.table.specs.Maps.{classOf, classes, numberedFrom, numbered}
 
 pub class-below : (m : List ℕ) (q : ℕ) → q < length m → classOf m q < classes m
@@ -15,6 +15,16 @@ unfolding classes
 class-below [] q h = absurd (omega arith)
 class-below (c ∷ m) zero h = omega arith
 class-below (c ∷ m) (suc q) h = omega (arith, class-below m q (omega arith))
+
+-- a properly numbered map has no more classes than states
+classes-from : (next : ℕ) (m : List ℕ) → numberedFrom next m ≡ true → classes m ≤ next + length m
+unfolding numberedFrom classes
+classes-from next [] e = omega arith
+classes-from next (x ∷ m) e = omega (arith, leb-true x next (and-true _ _ e .0), classes-from (max next (suc x)) m (and-true (leb x next) _ e .1))
+
+pub classes-few : (m : List ℕ) → numbered m ≡ true → classes m ≤ length m
+unfolding numbered
+classes-few m e = omega (arith, classes-from 0 m e)
 
 -- ---- the numbering: the states from q on, where next is the number of a new class
 

@@ -4,7 +4,7 @@ use mathlib.Core.Path.{_≡_, sym}
 use mathlib.Core.Logic.{_⊎_, inl, inr}
 use mathlib.Core.Bool.{true}
 use mathlib.Core.List.{List, [], _∷_}
-use Prim.Native.Nat.{ℕ, suc, _+_, _≤_, _<_, max}
+use Prim.Native.Nat.{ℕ, suc, _≤_, _<_, max}
 use native.Mathlib.Omega.{arith}
 use native.Mathlib.Decide.{ℕ-discrete, decLt}
 use lib.ListN.{length}
@@ -40,12 +40,3 @@ class-member m e c h = go (member-from 0 m e c h)
     go : (c < 0) ⊎ Member m c → Member m c
     go (inl l) = absurd (omega arith)
     go (inr s) = s
-
-classes-from : (next : ℕ) (m : List ℕ) → numberedFrom next m ≡ true → classes m ≤ next + length m
-unfolding numberedFrom classes
-classes-from next [] e = omega arith
-classes-from next (x ∷ m) e = omega (arith, leb-true x next (and-true _ _ e .0), classes-from (max next (suc x)) m (and-true (leb x next) _ e .1))
-
-pub classes-few : (m : List ℕ) → numbered m ≡ true → classes m ≤ length m
-unfolding numbered
-classes-few m e = omega (arith, classes-from 0 m e)

@@ -17,11 +17,10 @@ use Rattle.table.specs.Language.{count}
 use Rattle.table.specs.Maps.{classOf, classes, numbered}
 use Rattle.table.proofs.Passed.{Wide, Tested, formed-wide, formed-tested, formed-of}
 use Rattle.tops.specs.Tops.{topWords, live, liveReturns}
-use Rattle.maps.proofs.Numbered.{class-below}
+use Rattle.maps.proofs.Numbered.{class-below, classes-few}
 use Rattle.quotient.specs.Quotient.{image, images, classByte, quotientTable}
 use Rattle.quotient.proofs.Ascending.{ascending-ascends}
 use Rattle.quotient.proofs.Image.{images-mem, images-length, image-length}
-use Rattle.quotient.proofs.Classes.{classes-few}
 use Rattle.quotient.proofs.States.{byte-small, count-classes, class-initial}
 
 -- a member stands at an index

@@ -549,6 +549,46 @@ fn reduced_within(c: &mut Cases, r: &mut Random) {
     c.limits = STANDARD;
 }
 
+/// A line: a state, and its uses as 32 bits.
+fn line(state: u8, uses: u32) -> Vec<u8> {
+    [&[state][..], &uses.to_le_bytes()].concat()
+}
+
+/// Use counts: sums by class, the refusals in their order, and pseudo-random lines.
+fn using(c: &mut Cases, r: &mut Random) {
+    let b = t().bytes();
+    let map = [0, 1, 1, 2];
+    let lines = [line(1, 5), line(3, 0x0102_0304), line(2, u32::MAX), line(1, u32::MAX), line(0, 0)].concat();
+    let (sums, total) = c.uses(&b, &map, &lines).unwrap();
+    assert_eq!((&sums[..4], total), (&[0, 5 + 2 * u64::from(u32::MAX), 0x0102_0304, 0][..], 5 + 2 * u64::from(u32::MAX) + 0x0102_0304));
+    let other = [line(0, 0), line(1, u32::MAX), line(1, 5), line(2, u32::MAX), line(3, 0x0102_0304)].concat();
+    assert_eq!(c.uses(&b, &map, &other), Ok((sums, total)));
+    assert_eq!(c.uses(&b, &map, &[]), Ok(([0; 40], 0)));
+    assert_eq!(c.uses(&b, &map, &lines[1..]), Err(32));
+    assert_eq!(c.uses(&b, &map, &line(4, 1)), Err(33));
+    // state 3 is past the class count but not past the state count
+    assert_eq!(c.uses(&b, &map, &line(3, 1)).unwrap().0[2], 1);
+    assert_eq!(c.uses(&b, &map, &[line(4, 1), vec![0]].concat()), Err(32));
+    assert_eq!(c.uses(&b, &[0, 1, 1, 1], &[9]), Err(17));
+    assert_eq!(c.uses(&b, &[0, 1, 1], &line(9, 1)), Err(15));
+    for (f, k) in faults().iter().zip(1..) {
+        assert_eq!(c.uses(f, &map, &[9]), Err(k));
+    }
+    c.limits = Limits { states: 41, symbols: 1 };
+    assert_eq!(c.uses(&[], &[9], &[9]), Err(39));
+    c.limits = LARGEST;
+    let (b, last) = (bare(40, 2), (0..40).collect::<Vec<u8>>());
+    let all: Vec<u8> = (0..40).flat_map(|q| line(q, 1 << (q % 32))).collect();
+    c.uses(&b, &last, &all).unwrap();
+    c.limits = STANDARD;
+    for turn in 0..40 {
+        let table = small_table(r, turn);
+        let (b, n) = (table.bytes(), table.count());
+        let map = if turn % 4 == 0 { random::map(r, n) } else { (0..n as u8).collect() };
+        c.uses(&b, &map, &random::lines(r, n)).ok();
+    }
+}
+
 /// Writes the cases and their lines.
 fn main() {
     let root = std::env::args().nth(1).expect("the repository's folder");
@@ -572,7 +612,8 @@ fn main() {
     at_limits(&mut c);
     state_24(&mut c);
     reduced_within(&mut c, &mut r);
-    println!("cases of the operations 1 to 7: {:?}; {} bytes", &c.counts[1..], c.input.len() + c.output.len());
+    using(&mut c, &mut r);
+    println!("cases of the operations by number: {:?}; {} bytes", &c.counts[1..], c.input.len() + c.output.len());
     std::fs::write(format!("{root}/crates/cases/stdin"), &c.input).unwrap();
     std::fs::write(format!("{root}/crates/cases/stdout"), &c.output).unwrap();
 }

@@ -16,6 +16,9 @@ returns : tie.Need-returns
 unfolding topsOut
 returns c = refused _ refl (tops-refused (c .before .tops-within .result) (c .if1 .taken)) ∙ ap (topsOut _) (c .before .tops-within .ensures .0)
 
+cast-words-and-count : tie.Need-cast-words-and-count
+cast-words-and-count c = search needs
+
 words-and-count-requires : tie.Need-words-and-count-requires
 words-and-count-requires c κs = search needs
 
@@ -31,7 +34,7 @@ same-length c = search needs
 returns-2 : tie.Need-returns-2
 unfolding topsOut
 returns-2 c =
-    let e = c .before .before .before .before .before .before .before in
+    let e = c .before .before .before .before .before .before .before .before in
     let f = tops-found (e .before .tops-within .result) (e .if1 .left) ∙ sym (c .before .before .before .before .before .words-and-count .ensures) in
     answered _ (e .if1 .left) f (c .before .before .store .ensures) ∙ ap (topsOut _) (e .before .tops-within .ensures .0)
 
@@ -42,6 +45,7 @@ basilvault-tops-within-spec =
     tops-within-requires
     cast-result
     returns
+    cast-words-and-count
     words-and-count-requires
     slice-aggregate-store
     store-requires

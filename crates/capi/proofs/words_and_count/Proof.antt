@@ -1,4 +1,4 @@
--- `capi::words_and_count` meets its contract. The loop's invariant: the first words stand in front of places that hold the count.
+-- `capi::words_and_count` meets its contract. The loop's invariant: the first words stand in front of places that hold the last number.
 -- Assumes nothing.
 use borrow.Author.Needs.{needs}
 use Prim.Native.Nat.{_-_}
@@ -9,10 +9,10 @@ use Rattle.capi.proofs.words_and_count.Statement.{statement}
 use Rattle.capi.proofs.words_and_count.Tie as tie
 
 abbrev Inv-words : tie.InvT-words
-Inv-words found words all₀ q₀ all q = Writing words (replicate 41 found) all q
+Inv-words last words all₀ q₀ all q = Writing words (replicate 41 last) all q
 
 abbrev μ-words : tie.MeasureT-words
-μ-words found words all₀ q₀ all q = 40 - q
+μ-words last words all₀ q₀ all q = 40 - q
 
 words-holds : tie.Need-words-holds Inv-words μ-words
 words-holds c = writing (search needs)

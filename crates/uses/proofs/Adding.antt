@@ -1,0 +1,149 @@
+-- Adding lines up one by one: what is still to come of the sums and the total, and a law for each way through the loops of src/. Assumes nothing.
+use mathlib.Core.Path.{_≡_, refl, sym, ap, _∙_}
+use mathlib.Core.Bool.{Bool, true, false, _&&_}
+use mathlib.Core.List.{List, [], _∷_, map}
+use Prim.Native.Nat.{ℕ, zero, suc, _+_, _-_, _*_, _≤_, _<_}
+use native.Mathlib.Omega.{arith}
+use lib.ListN.{length, getD, set, take, drop, replicate, length-set, length-map}
+use lib.Seq.{ext-getD, getD-set-same, getD-set-other}
+use lib.Dec.{eqb, ltb}
+use borrow.Author.Tests.{eqb-true, eqb-false}
+use Rattle.lists.specs.Lists.{all, keep, upto}
+use Rattle.lists.proofs.Members.{getD-map, getD-upto, length-upto}
+use Rattle.limits.specs.Limits.{stateMost}
+use Rattle.table.specs.File.{records}
+use Rattle.table.specs.Maps.{classOf}
+use Rattle.table.proofs.Walks.{record-on, records-end}
+use Rattle.uses.specs.Uses.{Line, lineOf, linesOf, sum, usesIn, classSum, classSums, statesFit, counted}
+use Rattle.uses.specs.Demands.{Fits}
+use Rattle.uses.proofs.Sums.{weigh, sum-first}
+
+-- ---- the lines from a place on
+
+pub lines-on : (s : List ℕ) (at : ℕ) → 5 ≤ length s - at → linesOf (drop at s) ≡ lineOf (take (at + 5 - at) (drop at s)) ∷ linesOf (drop (at + 5) s)
+unfolding linesOf
+lines-on s at h = ap (map lineOf) (record-on 5 s at (omega arith) h)
+
+pub lines-end : (s : List ℕ) (at : ℕ) → length s - at < 5 → linesOf (drop at s) ≡ []
+unfolding linesOf
+lines-end s at h = ap (map lineOf) (records-end 5 s at h)
+
+-- 33 is told by the records
+pub states-tests : (n : ℕ) (s : List ℕ) → statesFit n s ≡ all (λ r. ltb (lineOf r .state) n) (records 5 s)
+unfolding statesFit linesOf all
+states-tests n s = go (records 5 s)
+  where
+    go : (rs : List (List ℕ)) → all (λ l. ltb (l .state) n) (map lineOf rs) ≡ all (λ r. ltb (lineOf r .state) n) rs
+    go [] = refl
+    go (r ∷ rs) = λ i. ltb (lineOf r .state) n && go rs i
+
+-- ---- the sums
+
+pub zeros : (n c : ℕ) → _≡_ {A = ℕ} (getD (replicate n 0) c 0) 0
+zeros zero c = refl
+zeros (suc n) zero = refl
+zeros (suc n) (suc c) = zeros n c
+
+pub length-sums : (m : List ℕ) (ls : List Line) → length (classSums m ls) ≡ stateMost
+unfolding classSums
+length-sums m ls = length-map (upto stateMost) (classSum m ls) ∙ length-upto stateMost
+
+pub sum-at : (m : List ℕ) (ls : List Line) (c : ℕ) → c < stateMost → getD (classSums m ls) c 0 ≡ classSum m ls c
+unfolding classSums
+sum-at m ls c h = getD-map (classSum m ls) (upto stateMost) c 0 0 (omega (arith, length-upto stateMost)) ∙ ap (classSum m ls) (getD-upto stateMost c 0 h)
+
+-- the lines from `at` on are still to be added
+pub record Adding (m s : List ℕ) (at : ℕ) (sums : List ℕ) (total : ℕ) : Type 0 where
+  pub inside : at ≤ length s
+  pub few : length s ≤ 5 * 65536
+  pub long : length sums ≡ stateMost
+  pub each : (c : ℕ) → c < stateMost → getD sums c 0 + classSum m (linesOf (drop at s)) c ≡ classSum m (linesOf s) c
+  pub every : total + usesIn (linesOf (drop at s)) ≡ usesIn (linesOf s)
+  pub small : 5 * total ≤ at * 4294967295
+  pub under : (c : ℕ) → getD sums c 0 ≤ total
+
+pub adding : (m s : List ℕ) → length s ≤ 5 * 65536 → Adding m s 0 (replicate 40 0) 0
+adding m s h = record {
+  inside = omega arith;
+  few = h;
+  long = refl;
+  each = λ c l. omega (arith, zeros 40 c);
+  every = omega arith;
+  small = omega arith;
+  under = λ c. omega (arith, zeros 40 c);
+}
+
+module _ {m s : List ℕ} {at : ℕ} {sums : List ℕ} {total : ℕ} (w : Adding m s at sums total) where
+  module _ {uses class : ℕ} (h : 5 ≤ length s - at) (l : class < 40) (b : uses ≤ 4294967295) where
+    -- neither the total nor a sum wraps
+    pub room : (5 * (total + uses) ≤ (at + 5) * 4294967295) × (at + 5 ≤ 5 * 65536) × (getD sums class 0 + uses ≤ total + uses)
+    room = (omega (arith, w .small), omega (arith, w .few), omega (arith, w .under class))
+
+    module _ (e : uses ≡ lineOf (take (at + 5 - at) (drop at s)) .uses) (k : class ≡ classOf m (lineOf (take (at + 5 - at) (drop at s)) .state)) where
+      now : List ℕ
+      now = set sums class (getD sums class 0 + uses)
+
+      rest : List Line
+      rest = linesOf (drop (at + 5) s)
+
+      -- what the line adds to the sum of class c
+      line-sum : (c : ℕ) → classSum m (linesOf (drop at s)) c ≡ weigh (eqb class c) uses + classSum m rest c
+      unfolding classSum usesIn rest
+      line-sum c =
+          ap (λ ls. classSum m ls c) (lines-on s at h)
+          ∙ sum-first (λ x. x .uses) (λ x. eqb (classOf m (x .state)) c) _ _
+          ∙ λ i. weigh (eqb (sym k i) c) (sym e i) + classSum m rest c
+
+      here : (c : ℕ) → c < stateMost → getD now c 0 + classSum m rest c ≡ classSum m (linesOf s) c
+      unfolding now weigh
+      here c lc = go (eqb class c) refl
+        where
+          go : (t : Bool) → eqb class c ≡ t → getD (set sums class (getD sums class 0 + uses)) c 0 + classSum m rest c ≡ classSum m (linesOf s) c
+          go true q =
+              let v = eqb-true class c q in
+              let g : getD (set sums class (getD sums class 0 + uses)) c 0 ≡ getD sums c 0 + uses =
+              rw (sym v) (getD-set-same sums class (getD sums class 0 + uses) 0 (omega (arith, w .long))) in
+              let f : weigh (eqb class c) uses ≡ uses = rw (q, weigh) in
+              omega (arith, g, f, line-sum c, w .each c lc)
+          go false q =
+              let g = getD-set-other sums class c (getD sums class 0 + uses) 0 (λ v. eqb-false class c q (sym v)) in
+              let f : weigh (eqb class c) uses ≡ 0 = rw (q, weigh) in
+              omega (arith, g, f, line-sum c, w .each c lc)
+
+      below : (c : ℕ) → getD now c 0 ≤ total + uses
+      unfolding now
+      below c = go (eqb class c) refl
+        where
+          go : (t : Bool) → eqb class c ≡ t → getD (set sums class (getD sums class 0 + uses)) c 0 ≤ total + uses
+          go true q =
+              let v = eqb-true class c q in
+              let g : getD (set sums class (getD sums class 0 + uses)) c 0 ≡ getD sums class 0 + uses =
+              rw (sym v) (getD-set-same sums class (getD sums class 0 + uses) 0 (omega (arith, w .long))) in
+              omega (arith, g, w .under class)
+          go false q = omega (arith, getD-set-other sums class c (getD sums class 0 + uses) 0 (λ v. eqb-false class c q (sym v)), w .under c)
+
+      pub added : Adding m s (at + 5) (set sums class (getD sums class 0 + uses)) (total + uses)
+      unfolding now rest usesIn sum
+      added = record {
+        inside = omega arith;
+        few = w .few;
+        long = length-set sums class _ ∙ w .long;
+        each = here;
+        every = omega (arith, w .every, ap usesIn (lines-on s at h), e);
+        small = room .0;
+        under = below;
+      }
+
+  module _ (h : length s - at < 5) where
+    pub added-all : record { number = 0; sums = sums; total = total } ≡ counted m s
+    unfolding counted usesIn sum classSum keep
+    added-all =
+        let f = lines-end s at h in
+        let each : (c : ℕ) → c < length sums → getD sums c 0 ≡ getD (classSums m (linesOf s)) c 0 =
+        λ c l. let lc : c < stateMost = omega (arith, w .long) in omega (arith, w .each c lc, ap (λ ls. classSum m ls c) f, sum-at m (linesOf s) c lc) in
+        let sums-are = ext-getD 0 sums (classSums m (linesOf s)) (w .long ∙ sym (length-sums m (linesOf s))) each in
+        let total-is : total ≡ usesIn (linesOf s) = omega (arith, w .every, ap usesIn f) in
+        λ i. record { number = 0; sums = sums-are i; total = total-is i }
+
+    pub added-fits : Fits (record { number = 0; sums = sums; total = total })
+    added-fits = record { total = omega (arith, w .small, w .few, w .inside); sums = w .under }

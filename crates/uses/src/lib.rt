@@ -1,0 +1,160 @@
+// Use counts by class.
+ghost use mathlib.Core.Path.{_≡_};
+ghost use Prim.Native.Nat.{ℕ, _*_, _<_, _≤_};
+ghost use lib.ListN.{length};
+ghost use Rattle.lists.specs.Lists.{firstFailed};
+ghost use Rattle.limits.specs.Limits.{standard};
+ghost use Rattle.table.specs.Maps.{classOf};
+ghost use Rattle.uses.specs.Uses.{lineOf, sum, statesFit, linesTests, counted, refusedBy, answerBy, usesOf};
+ghost use Rattle.uses.specs.Demands.{AnyOrder, ByStates, ZeroPast, Fits};
+use limits::Limits;
+use maps::Checked;
+
+// What counting answers: the refusal's number or 0, a sum for each possible state by its number as a class, and the total.
+pub struct Counted {
+    pub number: u8,
+    pub sums: [u64; 40],
+    pub total: u64,
+}
+
+// The bytes of a line: "a state (one byte) and a use count (32 bits, little-endian)".
+const LINE: usize = 5;
+
+// "over 65,536 lines"
+const LINES: usize = 65536;
+
+fn wide(x: u8) -> u64
+    ensures { λ r. ⌜ (r ≡ x) × (r < 256) ⌝ }
+{
+    x as u64
+}
+
+fn index(x: u8) -> usize
+    ensures { λ r. ⌜ r ≡ x ⌝ }
+{
+    x as usize
+}
+
+// The state of a line.
+fn state_in(line: &[u8]) -> usize
+    requires { ⌜ length (now line) ≡ 5 ⌝ }
+    ensures { λ r. ⌜ r ≡ lineOf (now (line .entry)) .state ⌝ }
+{
+    index(line[0])
+}
+
+// The use count of a line, the lowest byte first.
+fn uses_in(line: &[u8]) -> u64
+    requires { ⌜ length (now line) ≡ 5 ⌝ }
+    ensures { λ r. ⌜ r ≡ lineOf (now (line .entry)) .uses ⌝ }
+    ensures small { λ r. ⌜ r ≤ 4294967295 ⌝ }
+{
+    wide(line[1]) + 256 * wide(line[2]) + 65536 * wide(line[3]) + 16777216 * wide(line[4])
+}
+
+// 33: every line's state is below n.
+fn states_fit(lines: &[u8], n: usize) -> bool
+    ensures { λ r. ⌜ r ≡ statesFit n (now (lines .entry)) ⌝ }
+{
+    let mut at: usize = 0;
+    'lines: while LINE <= lines.len() - at {
+        let next = at + LINE;
+        if n <= state_in(&lines[at..next]) {
+            return false;
+        }
+        at = next;
+    }
+    true
+}
+
+// The first of 32 and 33 that applies, for a table of n states; or 0.
+fn lines_number(lines: &[u8], n: usize) -> u8
+    ensures { λ r. ⌜ r ≡ firstFailed (linesTests n (now (lines .entry))) ⌝ }
+{
+    if lines.len() % LINE != 0 {
+        return 32;
+    }
+    if LINES < lines.len() / LINE {
+        return 32;
+    }
+    if !states_fit(lines, n) {
+        return 33;
+    }
+    0
+}
+
+// The sums and the total, in one pass over the lines.
+fn add_lines(lines: &[u8], map: &[u8]) -> Counted
+    requires { ⌜ (length (now lines) ≤ 5 * 65536) × ((q : ℕ) → classOf (now map) q < 40) ⌝ }
+    ensures { λ r. ⌜ r ≡ counted (now (map .entry)) (now (lines .entry)) ⌝ }
+    ensures fits { λ r. ⌜ Fits r ⌝ }
+{
+    let mut sums = [0u64; 40];
+    let mut total: u64 = 0;
+    let mut at: usize = 0;
+    'lines: while LINE <= lines.len() - at {
+        let next = at + LINE;
+        let uses = uses_in(&lines[at..next]);
+        let class = index(maps::class_of(map, state_in(&lines[at..next])));
+        sums[class] += uses;
+        total += uses;
+        at = next;
+    }
+    Counted {
+        number: 0,
+        sums,
+        total,
+    }
+}
+
+// A refusal returns its number alone.
+fn refused(number: u8) -> Counted
+    ensures { λ r. ⌜ r ≡ refusedBy number ⌝ }
+{
+    Counted {
+        number,
+        sums: [0u64; 40],
+        total: 0,
+    }
+}
+
+// The lines under a map that has one byte for each state of the table.
+fn uses_under(map: &[u8], lines: &[u8]) -> Counted
+    requires { ⌜ ((q : ℕ) → classOf (now map) q < 40) ⌝ }
+    ensures { λ r. ⌜ r ≡ answerBy (firstFailed (linesTests (length (now (map .entry))) (now (lines .entry)))) (now (map .entry)) (now (lines .entry)) ⌝ }
+    ensures fits { λ r. ⌜ Fits r ⌝ }
+{
+    let number = lines_number(lines, map.len());
+    if number != 0 {
+        return refused(number);
+    }
+    add_lines(lines, map)
+}
+
+// Adds up the use counts of lines by the classes of a map, of a table that is read at limits; or the first refusal that applies.
+pub fn uses_within(limits: Limits, table: &[u8], map: &[u8], lines: &[u8]) -> Counted
+    ensures { λ r. ⌜ r ≡ usesOf limits (now (table .entry)) (now (map .entry)) (now (lines .entry)) ⌝ }
+    ensures order { λ r. ⌜ AnyOrder limits (now (table .entry)) (now (map .entry)) (now (lines .entry)) r ⌝ }
+    ensures states { λ r. ⌜ ByStates (now (table .entry)) (now (map .entry)) (now (lines .entry)) r ⌝ }
+    ensures total { λ r. ⌜ sum (r .sums) ≡ r .total ⌝ }
+    ensures past { λ r. ⌜ ZeroPast (now (map .entry)) r ⌝ }
+    ensures fits { λ r. ⌜ Fits r ⌝ }
+{
+    let checked = maps::check_within(limits, table, map);
+    match checked {
+        Checked::Accepted(_) => uses_under(map, lines),
+        Checked::Refused(number) => refused(number),
+    }
+}
+
+// Adds up the use counts of lines by class, at the limits of a caller that gives none.
+pub fn uses(table: &[u8], map: &[u8], lines: &[u8]) -> Counted
+    ensures { λ r. ⌜ r ≡ usesOf standard (now (table .entry)) (now (map .entry)) (now (lines .entry)) ⌝ }
+    ensures order { λ r. ⌜ AnyOrder standard (now (table .entry)) (now (map .entry)) (now (lines .entry)) r ⌝ }
+    ensures states { λ r. ⌜ ByStates (now (table .entry)) (now (map .entry)) (now (lines .entry)) r ⌝ }
+    ensures total { λ r. ⌜ sum (r .sums) ≡ r .total ⌝ }
+    ensures past { λ r. ⌜ ZeroPast (now (map .entry)) r ⌝ }
+    ensures fits { λ r. ⌜ Fits r ⌝ }
+{
+    uses_within(limits::standard(), table, map, lines)
+}
