@@ -44,6 +44,10 @@ uint32_t basilvault_reduce(const uint8_t *table, size_t table_len, uint64_t budg
 uint32_t basilvault_uses(const uint8_t *table, size_t table_len, const uint8_t *map, size_t map_len, const uint8_t *lines, size_t lines_len,
                          uint64_t *values, size_t values_len);
 
+/* One value: which of two maps the check accepts, 1 the first, 2 the second; the one with fewer classes where both pass, the first when equal. */
+uint32_t basilvault_choose(const uint8_t *table, size_t table_len, const uint8_t *first, size_t first_len, const uint8_t *second,
+                           size_t second_len, uint64_t *values, size_t values_len);
+
 /* The same at limits. */
 uint32_t basilvault_read_within(size_t states, size_t symbols, const uint8_t *table, size_t table_len, uint64_t *values, size_t values_len);
 uint32_t basilvault_tops_within(size_t states, size_t symbols, const uint8_t *table, size_t table_len, uint64_t *values, size_t values_len);
@@ -59,6 +63,8 @@ uint32_t basilvault_reduce_within(size_t states, size_t symbols, const uint8_t *
                                   size_t list_len, uint8_t *map, size_t map_len, uint8_t *out, size_t out_len, uint64_t *values, size_t values_len);
 uint32_t basilvault_uses_within(size_t states, size_t symbols, const uint8_t *table, size_t table_len, const uint8_t *map, size_t map_len,
                                 const uint8_t *lines, size_t lines_len, uint64_t *values, size_t values_len);
+uint32_t basilvault_choose_within(size_t states, size_t symbols, const uint8_t *table, size_t table_len, const uint8_t *first,
+                                  size_t first_len, const uint8_t *second, size_t second_len, uint64_t *values, size_t values_len);
 
 #ifdef __cplusplus
 }

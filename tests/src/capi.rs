@@ -40,6 +40,8 @@ extern "C" {
         values: *mut u64,
         k: usize,
     ) -> u32;
+    fn basilvault_choose(table: *const u8, n: usize, first: *const u8, f: usize, second: *const u8, s: usize, values: *mut u64, k: usize) -> u32;
+    fn basilvault_choose_within(states: usize, symbols: usize, table: *const u8, n: usize, first: *const u8, f: usize, second: *const u8, s: usize, values: *mut u64, k: usize) -> u32;
     fn basilvault_uses(table: *const u8, n: usize, map: *const u8, m: usize, lines: *const u8, l: usize, values: *mut u64, k: usize) -> u32;
     fn basilvault_uses_within(states: usize, symbols: usize, table: *const u8, n: usize, map: *const u8, m: usize, lines: *const u8, l: usize, values: *mut u64, k: usize) -> u32;
 }
@@ -122,6 +124,13 @@ pub fn uses(table: &[u8], map: &[u8], lines: &[u8]) -> Result<[u64; 41], u8> {
     answer(k, v)
 }
 
+/// Which of two maps is handed back, 1 or 2.
+pub fn choose(table: &[u8], first: &[u8], second: &[u8]) -> Result<[u64; 1], u8> {
+    let mut v = [0u64; 1];
+    let k = unsafe { basilvault_choose(table.as_ptr(), table.len(), first.as_ptr(), first.len(), second.as_ptr(), second.len(), v.as_mut_ptr(), v.len()) };
+    answer(k, v)
+}
+
 /// The same operations at given limits.
 #[allow(dead_code)]
 pub mod within {
@@ -189,6 +198,13 @@ pub mod within {
     pub fn uses(l: Limits, table: &[u8], map: &[u8], lines: &[u8]) -> Result<[u64; 41], u8> {
         let mut v = [0u64; 41];
         let k = unsafe { super::basilvault_uses_within(l.states, l.symbols, table.as_ptr(), table.len(), map.as_ptr(), map.len(), lines.as_ptr(), lines.len(), v.as_mut_ptr(), v.len()) };
+        answer(k, v)
+    }
+
+    /// Which of two maps is handed back, 1 or 2.
+    pub fn choose(l: Limits, table: &[u8], first: &[u8], second: &[u8]) -> Result<[u64; 1], u8> {
+        let mut v = [0u64; 1];
+        let k = unsafe { super::basilvault_choose_within(l.states, l.symbols, table.as_ptr(), table.len(), first.as_ptr(), first.len(), second.as_ptr(), second.len(), v.as_mut_ptr(), v.len()) };
         answer(k, v)
     }
 }

@@ -143,6 +143,20 @@ impl Cases {
         answer
     }
 
+    /// Which of two maps is handed back, and its bytes; with a refusal none.
+    pub fn choose(&mut self, b: &[u8], first: &[u8], second: &[u8]) -> Result<u8, u8> {
+        self.frame(14, &[&words(&[first.len(), second.len()]), first, second, b]);
+        let answer = reference::choose(self.limits, b, first, second);
+        write!(self.output, "choose {} {}", answer.err().unwrap_or(0), answer.unwrap_or(0)).unwrap();
+        self.buffer(&longs(match answer {
+            Ok(1) => first,
+            Ok(_) => second,
+            Err(_) => &[],
+        }));
+        self.end();
+        answer
+    }
+
     /// The written bytes.
     pub fn quotient(&mut self, b: &[u8], map: &[u8], room: usize) -> Result<Vec<u8>, u8> {
         self.frame(6, &[&words(&[map.len(), room]), map, b]);

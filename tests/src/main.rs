@@ -20,7 +20,7 @@ impl Counts {
 }
 
 /// The numbers that each operation can give, 0 for none: a run of many cases must have met each of them.
-const NUMBERS: [(&str, &[u8]); 13] = [
+const NUMBERS: [(&str, &[u8]); 16] = [
     ("read", &[0, 39, 1, 2, 3, 4, 5, 6, 7, 8]),
     ("tops", &[0, 39, 2, 3, 5, 7, 8]),
     ("clauses", &[0, 39, 3, 5, 7, 8, 10]),
@@ -29,6 +29,9 @@ const NUMBERS: [(&str, &[u8]); 13] = [
     ("quotient", &[0, 39, 3, 7, 8, 15, 16, 17, 18, 19, 20, 21]),
     ("reduce", &[0, 39, 3, 7, 8, 10, 21, 22]),
     ("uses", &[0, 39, 3, 7, 8, 15, 16, 17, 18, 19, 20, 32, 33]),
+    ("choose", &[0, 39, 3, 7, 8, 40]),
+    ("the first map chosen", &[0]),
+    ("the second map chosen", &[0]),
     ("reduce, spent", &[0]),
     ("reduce, spent with pairs joined", &[0]),
     ("words of input and quotient", &[0]),
@@ -134,6 +137,16 @@ fn compare_uses(r: &mut Random, l: Limits, b: &[u8], m: &[u8], lines: &[u8], c: 
     turned.rotate_left(k);
     if lines.len() % 5 == 0 {
         same("uses in another order", b, capi::within::uses(l, b, m, &turned.concat()), e);
+    }
+}
+
+fn compare_choose(l: Limits, b: &[u8], first: &[u8], second: &[u8], c: &mut Counts) {
+    let e = reference::choose(l, b, first, second).map(|which| [u64::from(which)]);
+    let a = if l == STANDARD { capi::choose(b, first, second) } else { capi::within::choose(l, b, first, second) };
+    same("choose", b, a, e);
+    c.add("choose", e);
+    if let Ok([which]) = e {
+        c.add(["the first map chosen", "the second map chosen"][which as usize - 1], Ok(()));
     }
 }
 
@@ -426,6 +439,8 @@ fn main() {
                 compare_map(&mut r, l, &b, &m, &mut c);
                 let lines = random::lines(&mut r, t.count());
                 compare_uses(&mut r, l, &b, &m, &lines, &mut c);
+                let other = any_map(&mut r, l, &t, &valid);
+                compare_choose(l, &b, &m, &other, &mut c);
             }
             4 => compare_reduce(&mut r, l, &b, &mut c),
             _ => {

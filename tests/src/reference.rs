@@ -1,4 +1,4 @@
-//! The seven operations once more, written from document 01 alone, for comparison. Plain and slow: sets, vectors and nested loops.
+//! The operations once more, written from documents 01 and 02 alone, for comparison. Plain and slow: sets, vectors and nested loops.
 
 use std::collections::{BTreeMap, BTreeSet, VecDeque};
 
@@ -680,6 +680,17 @@ pub fn uses(l: Limits, b: &[u8], map: &[u8], lines: &[u8]) -> Result<([u64; 40],
         sums[map[x[0] as usize] as usize] += u32::from_le_bytes([x[1], x[2], x[3], x[4]]) as u64;
     }
     Ok((sums, sums.iter().sum()))
+}
+
+/// The operation choose: which of two maps the check accepts, 1 or 2; of two accepted ones that with fewer classes, the first when equal.
+pub fn choose(l: Limits, b: &[u8], first: &[u8], second: &[u8]) -> Result<u8, u8> {
+    parse(l, b)?;
+    match (check(l, b, first), check(l, b, second)) {
+        (Err(_), Err(_)) => Err(40),
+        (Err(_), Ok(_)) => Ok(2),
+        (Ok(x), Ok(y)) if y < x => Ok(2),
+        _ => Ok(1),
+    }
 }
 
 /// A state and a stack, the topmost last.

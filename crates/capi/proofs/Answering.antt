@@ -11,6 +11,10 @@ use Rattle.tops.specs.declared.TopWords.{TopWords}
 use Rattle.tops.specs.Tops.{topsValues}
 use Rattle.uses.specs.declared.Counted.{Counted}
 use Rattle.uses.specs.Uses.{countedValues}
+use Rattle.choose.specs.declared.Which.the-variants.{Neither, First, Second}
+use Rattle.choose.specs.declared.Choice.{Choice}
+use Rattle.choose.specs.Choose.{choiceValues}
+use Rattle.choose.specs.Demands.{NumberTells}
 use Rattle.lists.proofs.Copying.{Writing, write-all}
 use Rattle.capi.specs.Answers.{stored, out}
 
@@ -61,3 +65,17 @@ uses-counted r e = rw (e, countedValues)
 pub uses-refused : (r : Counted) → r .number ≢ 0 → countedValues r ≡ []
 unfolding countedValues
 uses-refused r h = rw (ne-eqb (r .number) 0 h, countedValues)
+
+pub none-chosen : (r : Choice) → r .which ≡ Neither → choiceValues r ≡ []
+unfolding choiceValues
+none-chosen r e = rw (e, choiceValues)
+
+-- a map that is chosen: the number is 0, and the value says which
+module _ (r : Choice) (t : NumberTells r) where
+  pub first-chosen : r .which ≡ First → (r .number ≡ 0) × (choiceValues r ≡ 1 ∷ [])
+  unfolding choiceValues
+  first-chosen e = (t .1 (λ f. let z : _≡_ {A = ℕ} 0 1 = cc in omega arith), rw (e, choiceValues))
+
+  pub second-chosen : r .which ≡ Second → (r .number ≡ 0) × (choiceValues r ≡ 2 ∷ [])
+  unfolding choiceValues
+  second-chosen e = (t .1 (λ f. let z : _≡_ {A = ℕ} 0 1 = cc in omega arith), rw (e, choiceValues))

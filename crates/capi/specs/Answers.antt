@@ -17,6 +17,8 @@ use Rattle.quotient.specs.Quotient.{QuotientDone, writtenNumber, writtenValues}
 use Rattle.reduce.specs.Reduce.{Reduced, reductionNumber, reductionValues}
 use Rattle.uses.specs.declared.Counted.{Counted}
 use Rattle.uses.specs.Uses.{countedValues}
+use Rattle.choose.specs.declared.Choice.{Choice}
+use Rattle.choose.specs.Choose.{choiceValues}
 
 -- the values at the front of the buffer, where it has room for all of them
 unfoldable pub stored : List ℕ → List ℕ → List ℕ
@@ -56,3 +58,6 @@ module _ (values : List ℕ) where
 
   unfoldable pub usesOut : Counted → Out
   usesOut r = out values (r .number) (countedValues r) []
+
+  unfoldable pub chooseOut : Choice → Out
+  chooseOut r = out values (r .number) (choiceValues r) []

@@ -12,7 +12,9 @@ ghost use Rattle.maps.specs.Check.{checkOf};
 ghost use Rattle.quotient.specs.Quotient.{quotientOf};
 ghost use Rattle.reduce.specs.Reduce.{reduceOf, spentValue};
 ghost use Rattle.uses.specs.Uses.{usesOf};
-ghost use Rattle.capi.specs.Answers.{stored, readOut, topsOut, clausesOut, searchOut, checkOut, quotientOut, reduceOut, usesOut};
+ghost use Rattle.choose.specs.Choose.{choiceOf};
+ghost use Rattle.capi.specs.Answers.{stored, readOut, topsOut, clausesOut, searchOut, checkOut, quotientOut, reduceOut, usesOut, chooseOut};
+use choose::Which;
 use clauses::Listed;
 use limits::Limits;
 use maps::Checked;
@@ -397,4 +399,56 @@ pub extern "C" fn basilvault_uses(table: &[u8], map: &[u8], lines: &[u8], values
         ≡ usesOut (now (values .entry)) (usesOf standard (now (table .entry)) (now (map .entry)) (now (lines .entry))) ⌝ }
 {
     basilvault_uses_within(limits::STATES, limits::SYMBOLS, table, map, lines, values)
+}
+
+// Chooses that one of two maps which the check accepts. One value: 1 for the first map, 2 for the second.
+#[no_mangle]
+pub extern "C" fn basilvault_choose_within(
+    states: usize,
+    symbols: usize,
+    table: &[u8],
+    first: &[u8],
+    second: &[u8],
+    values: &mut [u64],
+) -> u32
+    ensures { λ r. ⌜
+        record { number = r; buffers = []; values = now (values .exit) }
+        ≡ chooseOut (now (values .entry)) (choiceOf (record { states = states; symbols = symbols }) (now (table .entry)) (now (first .entry)) (now (second .entry))) ⌝ }
+{
+    let limits = Limits { states, symbols };
+    let choice = choose::decide_within(limits, table, first, second);
+    let which = choice.which;
+    match which {
+        Which::Neither => choice.number as u32,
+        Which::First => {
+            store(&[1u64], values);
+            0
+        }
+        Which::Second => {
+            store(&[2u64], values);
+            0
+        }
+    }
+}
+
+// The same at the limits of a caller that gives none.
+#[no_mangle]
+pub extern "C" fn basilvault_choose(
+    table: &[u8],
+    first: &[u8],
+    second: &[u8],
+    values: &mut [u64],
+) -> u32
+    ensures { λ r. ⌜
+        record { number = r; buffers = []; values = now (values .exit) }
+        ≡ chooseOut (now (values .entry)) (choiceOf standard (now (table .entry)) (now (first .entry)) (now (second .entry))) ⌝ }
+{
+    basilvault_choose_within(
+        limits::STATES,
+        limits::SYMBOLS,
+        table,
+        first,
+        second,
+        values,
+    )
 }

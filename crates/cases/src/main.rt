@@ -11,12 +11,14 @@
 //   6 quotient  the map's length, the output's length; the map; the table
 //   7 reduce    the budget, the lengths of the list, of the map buffer and of the output; the table
 //   10 uses     the map's length, the number of line bytes; the map; the lines; the table
+//   14 choose   the lengths of the first and of the second map; the first; the second; the table
 //
 // A line is the operation's name, the refusal's number or 0, the answer's values and, each behind a bar, the buffers at exit, which are filled
-// with 7 beforehand.
+// with 7 beforehand. Choose prints which map it is, 1 or 2, or 0 with a refusal, and behind the bar the map that is handed back.
 ghost use mathlib.Core.Path.{_≡_};
 ghost use Prim.Native.Nat.{_≤_, _<_};
 ghost use lib.ListN.{length};
+use choose::Which;
 use clauses::Listed;
 use libc::STDOUT_FILENO;
 use limits::Limits;
@@ -374,6 +376,37 @@ fn say_uses(limits: Limits, rest: &[u8]) -> bool {
     say_counted(limits, &rest[end..], &rest[4..middle], &rest[middle..end])
 }
 
+// The number, which map, and the map that is handed back.
+fn say_chosen<'a>(limits: Limits, table: &[u8], first: &'a [u8], second: &'a [u8]) -> bool {
+    number(choose::choose_number_within(limits, table, first, second) as u64);
+    let choice = choose::decide_within(limits, table, first, second);
+    let which = choice.which;
+    match which {
+        Which::Neither => {
+            number(0);
+        }
+        Which::First => {
+            number(1);
+        }
+        Which::Second => {
+            number(2);
+        }
+    }
+    say_bytes(choose::choose_within(limits, table, first, second));
+    say(b"\n")
+}
+
+// Chooses between the two maps at the beginning, for the table behind them.
+fn say_choose(limits: Limits, rest: &[u8]) -> bool {
+    say(b"choose");
+    let middle = 4 + word_at(rest, 0);
+    let end = middle + word_at(rest, 2);
+    if rest.len() < end {
+        return say(b" ?\n");
+    }
+    say_chosen(limits, &rest[end..], &rest[4..middle], &rest[middle..end])
+}
+
 // One case by its operation's number.
 fn say_case(operation: u8, limits: Limits, rest: &[u8]) -> bool {
     match operation {
@@ -385,6 +418,7 @@ fn say_case(operation: u8, limits: Limits, rest: &[u8]) -> bool {
         6 => say_quotient(limits, rest),
         7 => say_reduce(limits, rest),
         10 => say_uses(limits, rest),
+        14 => say_choose(limits, rest),
         _ => say(b"?\n"),
     }
 }

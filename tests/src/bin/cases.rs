@@ -589,6 +589,48 @@ fn using(c: &mut Cases, r: &mut Random) {
     }
 }
 
+/// Two maps: one accepted, both, neither; fewer classes, the first when equal; the refusals in their order.
+fn choosing(c: &mut Cases, r: &mut Random) {
+    let b = t().bytes();
+    let (good, apart, bad): ([u8; 4], [u8; 4], [u8; 4]) = ([0, 1, 1, 2], [0, 1, 2, 3], [0, 1, 1, 1]);
+    let cases: [(&[u8], &[u8], Result<u8, u8>); 12] = [
+        (&good, &bad, Ok(1)),
+        (&bad, &good, Ok(2)),
+        (&good, &apart, Ok(1)),
+        (&apart, &good, Ok(2)),
+        (&good, &good, Ok(1)),
+        (&apart, &apart, Ok(1)),
+        (&bad, &bad, Err(40)),
+        (&[0, 1, 1, 2, 2], &apart, Ok(2)),
+        (&[0, 1, 1, 2, 2], &[0, 1, 1], Err(40)),
+        (&[], &good, Ok(2)),
+        (&apart, &[], Ok(1)),
+        (&[], &[], Err(40)),
+    ];
+    for (first, second, answer) in cases {
+        assert_eq!(c.choose(&b, first, second), answer);
+    }
+    // equal classes, other maps: the first
+    let b = not_transitive().bytes();
+    assert_eq!(c.choose(&b, &[0, 1, 1, 2, 3], &[0, 1, 2, 2, 3]), Ok(1));
+    assert_eq!(c.choose(&b, &[0, 1, 2, 2, 3], &[0, 1, 1, 2, 3]), Ok(1));
+    for (f, k) in faults().iter().zip(1..) {
+        assert_eq!(c.choose(f, &good, &apart), Err(k));
+        assert_eq!(c.choose(f, &[], &[]), Err(k));
+    }
+    c.limits = Limits { states: 24, symbols: 0 };
+    assert_eq!(c.choose(&[], &[], &[]), Err(39));
+    assert_eq!(c.choose(&named::T, &good, &apart), Err(39));
+    c.limits = STANDARD;
+    for turn in 0..40 {
+        let table = small_table(r, turn);
+        let n = table.count();
+        let maps = [random::map(r, n), random::map(r, n)];
+        let apart: Vec<u8> = (0..n as u8).collect();
+        c.choose(&table.bytes(), &maps[0], if turn % 2 == 0 { &maps[1] } else { &apart }).ok();
+    }
+}
+
 /// Writes the cases and their lines.
 fn main() {
     let root = std::env::args().nth(1).expect("the repository's folder");
@@ -613,6 +655,7 @@ fn main() {
     state_24(&mut c);
     reduced_within(&mut c, &mut r);
     using(&mut c, &mut r);
+    choosing(&mut c, &mut r);
     println!("cases of the operations by number: {:?}; {} bytes", &c.counts[1..], c.input.len() + c.output.len());
     std::fs::write(format!("{root}/crates/cases/stdin"), &c.input).unwrap();
     std::fs::write(format!("{root}/crates/cases/stdout"), &c.output).unwrap();

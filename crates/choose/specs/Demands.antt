@@ -1,0 +1,45 @@
+-- What choosing promises (document 02, request (xiv)). Assumes nothing.
+use mathlib.Core.Path.{_≡_}
+use mathlib.Core.Logic.{_↔_, _⊎_}
+use mathlib.Core.List.{List}
+use Prim.Native.Nat.{ℕ, _≤_}
+use lib.ListN.{length}
+use denote.Ref.{RefT}
+use Rattle.limits.specs.declared.Limits.{Limits}
+use Rattle.table.specs.Reading.{Readable}
+use Rattle.table.specs.Maps.{classes}
+use Rattle.maps.specs.Check.{checkOf}
+use Rattle.maps.specs.Accepting.{IsAccepted}
+use Rattle.choose.specs.declared.Which.the-variants.{Neither}
+use Rattle.choose.specs.declared.Choice.{Choice}
+use Rattle.choose.specs.Choose.{chooseNumber}
+
+-- the check accepts a map
+abbrev pub Passes : Limits → List ℕ → List ℕ → Type 0
+Passes L b m = IsAccepted (checkOf L b m)
+
+-- the map x is handed back for the maps s and t
+pub record Chosen (L : Limits) (b : List ℕ) (s t x : RefT (List ℕ)) : Type 0 where
+  -- "What is handed back is the lent map itself": one of the two references, not a copy
+  pub itself : (x ≡ s) ⊎ (x ≡ t)
+  -- "which the check accepts"
+  pub passes : Passes L b (x .now)
+  -- "the one with fewer classes"
+  pub fewest-first : Passes L b (s .now) → classes (x .now) ≤ classes (s .now)
+  pub fewest-second : Passes L b (t .now) → classes (x .now) ≤ classes (t .now)
+  -- "the first when equal"
+  pub first : Passes L b (s .now) → classes (s .now) ≤ classes (t .now) → x ≡ s
+  -- so that an empty part is handed back only with a refusal
+  pub filled : 1 ≤ length (x .now)
+
+-- "40 exactly when the check accepts neither map", of a table that is readable
+abbrev pub NeitherPasses : Limits → List ℕ → List ℕ → List ℕ → ℕ → Type 0
+NeitherPasses L b m n k = (k ≡ 40) ↔ (Readable L b × (Passes L b m → ⊥) × (Passes L b n → ⊥))
+
+-- "0 when a map is handed back"
+abbrev pub NumberTells : Choice → Type 0
+NumberTells r = (r .number ≡ 0) ↔ (r .which ≡ Neither → ⊥)
+
+-- where the number is 0, the map x is handed back for the maps s and t
+abbrev pub HandedBack : Limits → List ℕ → RefT (List ℕ) → RefT (List ℕ) → RefT (List ℕ) → Type 0
+HandedBack L b s t x = chooseNumber L b (s .now) (t .now) ≡ 0 → Chosen L b s t x
