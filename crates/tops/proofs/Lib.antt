@@ -5,4 +5,5 @@ pub mod Count
 pub mod Formed
 pub mod Padded
 pub mod Loops
+pub mod Sums
 pub mod Read

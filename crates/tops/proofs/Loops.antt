@@ -5,7 +5,7 @@ use mathlib.Core.Bool.{Bool, true, false, _&&_}
 use mathlib.Core.List.{List, [], _∷_, _++_, map, map-append, List·Memᴰ, List·Memᴰ·head, List·Memᴰ·tail}
 use Prim.Native.Nat.{ℕ, suc, _+_, _-_, _*_, _%_, _^_, _<_, _≤_}
 use native.Mathlib.Omega.{arith}
-use native.Mathlib.Nat.{add-zero, sub-zero, add-mod-right, mod-eq-of-lt, mul-le-mul}
+use native.Mathlib.Nat.{add-zero, sub-zero, add-mod-right, mod-eq-of-lt, mul-le-mul, mul-add}
 use native.Mathlib.Numerals.{add-one}
 use native.Mathlib.Decide.{decLt}
 use lib.ListN.{length, getD, take, drop, set, replicate, length-map, drop-of-length-le}
@@ -16,7 +16,6 @@ use borrow.Author.Tests.{eq-eqb, ne-eqb}
 use Rattle.lists.specs.Lists.{same}
 use Rattle.lists.specs.Bits.{onesOver}
 use Rattle.lists.proofs.Members.{same-true}
-use Rattle.lists.proofs.Words.{ones-le}
 use Rattle.limits.specs.Limits.{stateMost}
 use Rattle.table.specs.File.{Table, records}
 use Rattle.table.specs.Sections.{sectioned}
@@ -25,7 +24,7 @@ use Rattle.table.proofs.Walks.{records-cons, records-end}
 use Rattle.tops.specs.declared.Kind.{Kind}
 use Rattle.tops.specs.declared.Kind.the-variants.{Internal, Call, Return}
 use Rattle.tops.specs.Tops.{live, byInternals, byCalls, byReturns, round, rounds, startWords}
-use Rattle.tops.specs.Sections.{Section, widthOf, stepBy, byRecords}
+use Rattle.tops.specs.Sections.{Section, widthOf, stepBy, byRecords, total}
 
 -- ---- records
 
@@ -120,61 +119,41 @@ module _ {k : Kind} {s f : List ℕ} {at : ℕ} {g : List ℕ} (p : Walking k s 
             meets = p .meets ∙ ap (λ rs. byRecords k rs g) here ∙ by-cons k _ rs g ∙ (λ i. byRecords k rs (stepBy k g (first i) (third i) (last i))) ∙ ap (byRecords k rs) (sym q);
           })
 
--- ---- the first n of two lists compared from their starts
+-- ---- the first n words, summed
 
-pub record Comparing (a b : List ℕ) (n i : ℕ) : Type 0 where
-  pub inside : i ≤ n
-  pub left : n ≤ length a
-  pub right : n ≤ length b
-  pub meets : same (take n a) (take n b) ≡ same (drop i (take n a)) (drop i (take n b))
-
-pub comparing : (a b : List ℕ) (n : ℕ) → n ≤ length a → n ≤ length b → Comparing a b n 0
-comparing a b n h k = record { inside = omega arith; left = h; right = k; meets = refl }
-
-module _ {a b : List ℕ} {n i : ℕ} (p : Comparing a b n i) where
-  next : (c : List ℕ) → n ≤ length c → i < n → drop i (take n c) ≡ getD c i 0 ∷ drop (i + 1) (take n c)
-  next c k h = drop-cons (take n c) i 0 (omega (arith, length-take-le n c k)) ∙ (λ j. getD-take n c i 0 h j ∷ drop (sym (add-one i) j) (take n c))
-
-  compare-here : i < n → (t : Bool) → eqb (getD a i 0) (getD b i 0) ≡ t → same (take n a) (take n b) ≡ (t && same (drop (i + 1) (take n a)) (drop (i + 1) (take n b)))
-  unfolding same
-  compare-here h t e = p .meets ∙ (λ j. same (next a (p .left) h j) (next b (p .right) h j)) ∙ ap (λ u. u && same (drop (i + 1) (take n a)) (drop (i + 1) (take n b))) e
-
-  pub compare-on : i < n → getD a i 0 ≡ getD b i 0 → Comparing a b n (i + 1)
-  compare-on h e = record { inside = omega arith; left = p .left; right = p .right; meets = compare-here h true (eq-eqb _ _ e) }
-
-  pub differ : i < n → getD a i 0 ≢ getD b i 0 → false ≡ same (take n a) (take n b)
-  differ h d = sym (compare-here h false (ne-eqb _ _ d))
-
-  pub compared : n ≤ i → true ≡ same (take n a) (take n b)
-  unfolding same
-  compared h = sym (p .meets ∙ (λ j. same (drop-of-length-le (take n a) {i = i} (omega (arith, length-take-le n a (p .left))) j) (drop-of-length-le (take n b) {i = i} (omega (arith, length-take-le n b (p .right))) j)))
-
--- ---- the ones of the first n words, summed
-
-pub record Summing (ws : List ℕ) (n found q : ℕ) : Type 0 where
+-- what was found of the sum of what f gives, at most `most` a word
+pub record Summing (f : ℕ → ℕ) (most : ℕ) (ws : List ℕ) (n found q : ℕ) : Type 0 where
   pub inside : q ≤ n
   pub wide : n ≤ length ws
-  pub few : found ≤ 64 * q
-  pub meets : onesOver 64 (take n ws) ≡ found + onesOver 64 (drop q (take n ws))
+  pub few : found ≤ most * q
+  pub meets : total f (take n ws) ≡ found + total f (drop q (take n ws))
 
-pub summing : (ws : List ℕ) (n : ℕ) → n ≤ length ws → Summing ws n 0 0
-summing ws n h = record { inside = omega arith; wide = h; few = omega arith; meets = omega arith }
+pub summing : (f : ℕ → ℕ) (most : ℕ) (ws : List ℕ) (n : ℕ) → n ≤ length ws → Summing f most ws n 0 0
+summing f most ws n h = record { inside = omega arith; wide = h; few = omega arith; meets = omega arith }
 
-module _ {ws : List ℕ} {n found q : ℕ} (p : Summing ws n found q) where
-  pub sum-on : {k : ℕ} → q < n → k ≡ onesIn 64 (getD ws q 0) → Summing ws n (found + k) (q + 1)
-  unfolding onesOver
-  sum-on h l =
-      let e = ap (onesOver 64) (drop-cons (take n ws) q 0 (omega (arith, length-take-le n ws (p .wide)))) in
-      let f = ap (λ k. onesOver 64 (drop k (take n ws))) (add-one q) in
-      let g = ap (onesIn 64) (getD-take n ws q 0 h) in
-      record { inside = omega arith; wide = p .wide; few = omega (arith, p .few, ones-le 64 (getD ws q 0)); meets = omega (arith, p .meets, e, f, g) }
+module _ {f : ℕ → ℕ} {most : ℕ} {ws : List ℕ} {n found q : ℕ} (p : Summing f most ws n found q) where
+  pub sum-on : {k : ℕ} → q < n → k ≡ f (getD ws q 0) → f (getD ws q 0) ≤ most → Summing f most ws n (found + k) (q + 1)
+  unfolding total
+  sum-on h l m =
+      let e = ap (total f) (drop-cons (take n ws) q 0 (omega (arith, length-take-le n ws (p .wide)))) in
+      let g = ap (λ k. total f (drop k (take n ws))) (add-one q) in
+      let here = ap f (getD-take n ws q 0 h) in
+      record { inside = omega arith; wide = p .wide; few = omega (arith, p .few, mul-add most q 1); meets = omega (arith, p .meets, e, g, here) }
 
-  pub sum-fits : {k : ℕ} → (w : ℕ) → n ≤ stateMost → q < n → k ≡ onesIn 64 w → found + k < 2 ^ 32
-  sum-fits w m h e = omega (arith, p .few, ones-le 64 w)
+  pub sum-fits : {k : ℕ} → n ≤ stateMost → q < n → k ≡ f (getD ws q 0) → f (getD ws q 0) ≤ most → found + k ≤ most * stateMost
+  sum-fits h l e m =
+      let more : most * (q + 1) ≤ most * stateMost = mul-le-mul {n₁ = most} {n₂ = most} (omega arith) (omega arith) in
+      omega (arith, p .few, mul-add most q 1, more)
 
-  pub summed : n ≤ q → found ≡ onesOver 64 (take n ws)
-  unfolding onesOver
-  summed h = omega (arith, p .meets, ap (onesOver 64) (drop-of-length-le (take n ws) {i = q} (omega (arith, length-take-le n ws (p .wide)))))
+  pub summed : n ≤ q → found ≡ total f (take n ws)
+  unfolding total
+  summed h = omega (arith, p .meets, ap (total f) (drop-of-length-le (take n ws) {i = q} (omega (arith, length-take-le n ws (p .wide)))))
+
+-- the ones over all words are such a sum
+pub ones-total : (k : ℕ) (ws : List ℕ) → total (onesIn k) ws ≡ onesOver k ws
+unfolding total onesOver
+ones-total k [] = refl
+ones-total k (w ∷ ws) = ap (λ n. onesIn k w + n) (ones-total k ws)
 
 -- ---- the words at the start
 

@@ -2,8 +2,8 @@
 use mathlib.Core.Path.{_≡_}
 use mathlib.Core.Logic.{_≢_}
 use mathlib.Core.Bool.{true, false}
-use mathlib.Core.List.{List, List·Memᴰ}
-use Prim.Native.Nat.{ℕ, _%_, _^_, _<_, _≤_}
+use mathlib.Core.List.{List, [], _∷_, List·Memᴰ}
+use Prim.Native.Nat.{ℕ, suc, _+_, _%_, _^_, _<_, _≤_}
 use lib.ListN.{length, getD}
 use lib.Dec.{eqb}
 use Rattle.lists.specs.Bits.{has}
@@ -43,6 +43,20 @@ pub record Sections (states internals calls returns : List ℕ) : Type 0 where
   pub internals-whole : Section 3 (length states) internals
   pub calls-whole : Section 3 (length states) calls
   pub returns-whole : Section 4 (length states) returns
+
+-- a word for each possible state, none with a bit past bottom's
+pub record Small (f : List ℕ) : Type 0 where
+  pub long : length f ≡ stateMost
+  pub each : (q : ℕ) → getD f q 0 < 2 ^ suc stateMost
+
+-- the sum of what f gives for the words
+unfoldable pub total : (ℕ → ℕ) → List ℕ → ℕ
+total f [] = 0
+total f (w ∷ ws) = f w + total f ws
+
+-- their own sum
+abbrev pub sumOf : List ℕ → ℕ
+sumOf ws = total (λ w. w) ws
 
 -- the answer of a table that was read
 unfoldable pub topsFound : Table → TopWords

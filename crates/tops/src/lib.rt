@@ -4,14 +4,13 @@ ghost use Prim.Native.Nat.{suc, _-_, _*_, _^_, _<_, _≤_};
 ghost use mathlib.Core.List.{[], _++_};
 ghost use lib.ListN.{length, take, replicate};
 ghost use lib.Count.{onesIn};
-ghost use Rattle.lists.specs.Lists.{same};
 ghost use Rattle.lists.specs.Bits.{has, onesOver};
 ghost use Rattle.limits.specs.Limits.{standard, stateMost};
 ghost use Rattle.table.specs.File.{records, tableOf};
 ghost use Rattle.table.specs.Sections.{sectioned, HasRead};
 ghost use Rattle.tops.specs.Tops.{add, startWords, rounds, topWords, topsOf};
 ghost use Rattle.tops.specs.Demands.{examinedOf, TopsExact};
-ghost use Rattle.tops.specs.Sections.{Section, Sections, widthOf, stepBy, byRecords, topsFound};
+ghost use Rattle.tops.specs.Sections.{Section, Sections, Small, sumOf, widthOf, stepBy, byRecords, topsFound};
 use limits::Limits;
 use table::Reading;
 use table::Starts;
@@ -137,37 +136,38 @@ fn by_records(kind: Kind, section: &[u8], words: &mut [u64; 40])
     }
 }
 
-// Whether the first n words are the same.
-fn same_words(a: [u64; 40], b: [u64; 40], n: usize) -> bool
-    requires { ⌜ n ≤ 40 ⌝ }
-    ensures { λ r. ⌜ r ≡ same (take n a) (take n b) ⌝ }
+// The sum of the first n words.
+fn sum_of(words: &[u64; 40], n: usize) -> u64
+    requires { ⌜ (n ≤ 40) × Small (now words) ⌝ }
+    ensures { λ r. ⌜ r ≡ sumOf (take n (now (words .entry))) ⌝ }
 {
-    let mut i: usize = 0;
-    'words: while i < n {
-        if a[i] != b[i] {
-            return false;
-        }
-        i += 1;
+    let mut sum: u64 = 0;
+    let mut q: usize = 0;
+    'words: while q < n {
+        sum += words[q];
+        q += 1;
     }
-    true
+    sum
 }
 
-// All records pass until a round changes nothing, which the words of the states tell; so many rounds are enough (proofs/Exact).
+// All records pass until a round changes nothing: words only gain tops, so the sum of the states' words tells. So many rounds are enough
+// (proofs/Exact).
 fn rest(states: &[u8], internals: &[u8], calls: &[u8], returns: &[u8], words: &mut [u64; 40])
-    requires { ⌜ Sections (now states) (now internals) (now calls) (now returns) ⌝ }
+    requires { ⌜ Sections (now states) (now internals) (now calls) (now returns) × Small (now words) ⌝ }
     ensures { λ _. ⌜ now (words .exit) ≡ rounds (suc (length (now (states .entry)) * suc (length (now (states .entry))))) (sectioned [] (now (states .entry)) (now (internals .entry)) (now (calls .entry)) (now (returns .entry))) (now (words .entry)) ⌝ }
 {
     let n = states.len();
     let mut left = n * (n + 1) + 1;
+    let mut sum = sum_of(words, n);
     'rounds: while 0 < left {
-        let old = *words;
         by_records(Kind::Internal, internals, words);
         by_records(Kind::Call, calls, words);
         by_records(Kind::Return, returns, words);
-        let new = *words;
-        if same_words(new, old, n) {
+        let new = sum_of(words, n);
+        if new == sum {
             return;
         }
+        sum = new;
         left -= 1;
     }
 }

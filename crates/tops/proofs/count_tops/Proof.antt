@@ -1,19 +1,22 @@
 -- `tops::count_tops` meets its contract. The invariant: what was found, and the ones of the words from here on. Assumes nothing.
 use borrow.Author.Needs.{needs}
+use mathlib.Core.Path.{_∙_}
 use Prim.Native.Nat.{_-_}
 use native.Mathlib.Omega.{arith}
-use Rattle.tops.proofs.Loops.{Summing, summing, sum-on, sum-fits, summed}
+use lib.Count.{onesIn}
+use Rattle.lists.proofs.Words.{ones-le}
+use Rattle.tops.proofs.Loops.{Summing, summing, sum-on, sum-fits, summed, ones-total}
 use Rattle.tops.proofs.count_tops.Statement.{statement}
 use Rattle.tops.proofs.count_tops.Tie as tie
 
 abbrev Inv-words : tie.InvT-words
-Inv-words n words found₀ q₀ found q = Summing words n found q
+Inv-words n words found₀ q₀ found q = Summing (onesIn 64) 64 words n found q
 
 abbrev μ-words : tie.MeasureT-words
 μ-words n words found₀ q₀ found q = n - q
 
 words-holds : tie.Need-words-holds Inv-words μ-words
-words-holds c = summing _ _ (omega (arith, c .pre, c .good .0 .1 .0 .1))
+words-holds c = summing _ _ _ _ (omega (arith, c .pre, c .good .0 .1 .0 .1))
 
 mul-tops-in : tie.Need-mul-tops-in Inv-words μ-words
 mul-tops-in c = search needs
@@ -25,7 +28,7 @@ tops-in-requires : tie.Need-tops-in-requires Inv-words μ-words
 tops-in-requires c κs = search needs
 
 add-found : tie.Need-add-found Inv-words μ-words
-add-found c = record { fits = sum-fits (c .before .before .words .inv) _ (c .before .before .before .pre) (c .before .words-test .taken) (c .tops-in .ensures) }
+add-found c = record { fits = let h = sum-fits (c .before .before .words .inv) (c .before .before .before .pre) (c .before .words-test .taken) (c .tops-in .ensures) (ones-le 64 _) in omega arith }
 
 add-q : tie.Need-add-q Inv-words μ-words
 add-q c = search needs
@@ -34,10 +37,10 @@ words-less : tie.Need-words-less Inv-words μ-words
 words-less c = search needs
 
 words-again : tie.Need-words-again Inv-words μ-words
-words-again c = sum-on (c .before .before .words .inv) (c .before .words-test .taken) (c .tops-in .ensures)
+words-again c = sum-on (c .before .before .words .inv) (c .before .words-test .taken) (c .tops-in .ensures) (ones-le 64 _)
 
 returns : tie.Need-returns Inv-words μ-words
-returns c = summed (c .before .words .inv) (c .words-test .left)
+returns c = summed (c .before .words .inv) (c .words-test .left) ∙ ones-total 64 _
 
 pub count-tops-spec : {M : Type 1} → statement M
 count-tops-spec =

@@ -1,46 +1,57 @@
--- `tops::rest` meets its contract. The invariant: so many rounds from the words as they are give the words to come out. Assumes nothing.
+-- `tops::rest` meets its contract. The invariant: so many rounds from the words as they are give the words to come out, and their sum. Assumes nothing.
 use borrow.Author.Needs.{needs}
-use mathlib.Core.Path.{sym, _∙_}
 use Prim.Native.Nat.{suc, _*_}
 use native.Mathlib.Omega.{arith}
 use mathlib.Core.List.{[]}
 use lib.ListN.{length}
 use Rattle.tops.specs.Tops.{rounds}
 use Rattle.table.specs.Sections.{sectioned}
-use Rattle.tops.proofs.Loops.{Resting, resting, rest-on, rested, rounded, spent, few-rounds, section-within}
-use Rattle.tops.proofs.Padded.{round-told}
+use Rattle.tops.proofs.Loops.{resting, rounded, spent, few-rounds, section-within}
+use Rattle.tops.proofs.Sums.{Told, told-small, told-on, told-end}
 use Rattle.tops.proofs.rest.Statement.{statement}
 use Rattle.tops.proofs.rest.Tie as tie
 
 abbrev Inv-rounds : tie.InvT-rounds
-Inv-rounds states internals calls returns words₀ n left₀ words left = Resting (sectioned [] states internals calls returns) (rounds (suc (length states * suc (length states))) (sectioned [] states internals calls returns) words₀) words left
+Inv-rounds states internals calls returns words₀ n left₀ sum₀ words left sum =
+    Told states (sectioned [] states internals calls returns) (rounds (suc (length states * suc (length states))) (sectioned [] states internals calls returns) words₀) words left sum
 
 abbrev μ-rounds : tie.MeasureT-rounds
-μ-rounds states internals calls returns words₀ n left₀ words left = left
+μ-rounds states internals calls returns words₀ n left₀ sum₀ words left sum = left
 
 add-left : tie.Need-add-left Inv-rounds μ-rounds
 add-left c = search needs
 
 mul-left : tie.Need-mul-left Inv-rounds μ-rounds
-mul-left c = let h = few-rounds (c .before .before .before .before .pre .few) in search needs
+mul-left c = let h = few-rounds (c .before .before .before .before .pre .0 .few) in search needs
 
 add-left-2 : tie.Need-add-left-2 Inv-rounds μ-rounds
-add-left-2 c = let h = few-rounds (c .before .before .before .before .pre .few) in search needs
+add-left-2 c = let h = few-rounds (c .before .before .before .before .pre .0 .few) in search needs
+
+sum-of-requires : tie.Need-sum-of-requires Inv-rounds μ-rounds
+sum-of-requires c κs = let p = c .before .before .before .before .before .pre in (p .0 .few, p .1)
 
 rounds-holds : tie.Need-rounds-holds Inv-rounds μ-rounds
-rounds-holds c = resting _ _ _
+rounds-holds c = record { rest = resting _ _ _; small = c .before .before .before .before .before .before .pre .1; summed = c .sum-of .ensures }
 
 by-records-requires : tie.Need-by-records-requires Inv-rounds μ-rounds
-by-records-requires c κs = let s = c .before .before .before .before .before .before .before .before .pre in section-within (s .few) (s .internals-whole)
+by-records-requires c κs = let s = c .before .before .before .before .before .before .before .before .before .pre .0 in section-within (s .few) (s .internals-whole)
 
 by-records-requires-2 : tie.Need-by-records-requires-2 Inv-rounds μ-rounds
-by-records-requires-2 c κs = let s = c .before .before .before .before .before .before .before .before .before .before .pre in section-within (s .few) (s .calls-whole)
+by-records-requires-2 c κs = let s = c .before .before .before .before .before .before .before .before .before .before .before .pre .0 in section-within (s .few) (s .calls-whole)
 
 by-records-requires-3 : tie.Need-by-records-requires-3 Inv-rounds μ-rounds
-by-records-requires-3 c κs = let s = c .before .before .before .before .before .before .before .before .before .before .before .before .pre in section-within (s .few) (s .returns-whole)
+by-records-requires-3 c κs = let s = c .before .before .before .before .before .before .before .before .before .before .before .before .before .pre .0 in section-within (s .few) (s .returns-whole)
 
-same-words-requires : tie.Need-same-words-requires Inv-rounds μ-rounds
-same-words-requires c κs = search needs
+sum-of-requires-2 : tie.Need-sum-of-requires-2 Inv-rounds μ-rounds
+unfolding sectioned
+sum-of-requires-2 c κs =
+    let r = c .before in
+    let b = r .before .before in
+    let i = b .before .before in
+    let a = i .before .before in
+    let s = a .before .before .before .before .before .before .before .before .pre .0 in
+    let told = a .before .rounds .inv in
+    (s .few, told-small told s (a .rounds-test .taken) (rounded _ _ (i .by-records .ensures) (b .by-records2 .ensures) (r .by-records3 .ensures)))
 
 returns : tie.Need-returns Inv-rounds μ-rounds
 unfolding sectioned
@@ -48,8 +59,10 @@ returns c =
     let r = c .before .before .before in
     let b = r .before .before in
     let i = b .before .before in
-    let a = i .before .before .before in
-    rested (a .before .rounds .inv) (a .rounds-test .taken) (rounded _ _ (i .by-records .ensures) (b .by-records2 .ensures) (r .by-records3 .ensures)) (round-told _ (a .before .before .before .before .before .before .pre) (rounded _ _ (i .by-records .ensures) (b .by-records2 .ensures) (r .by-records3 .ensures)) (sym (c .before .same-words .ensures) ∙ c .if1 .taken))
+    let a = i .before .before in
+    let s = a .before .before .before .before .before .before .before .before .pre .0 in
+    let told = a .before .rounds .inv in
+    told-end told s (a .rounds-test .taken) (rounded _ _ (i .by-records .ensures) (b .by-records2 .ensures) (r .by-records3 .ensures)) (c .before .sum-of2 .ensures) (c .if1 .taken)
 
 sub-left : tie.Need-sub-left Inv-rounds μ-rounds
 sub-left c = search needs
@@ -63,11 +76,13 @@ rounds-again c =
     let r = c .before .before .before in
     let b = r .before .before in
     let i = b .before .before in
-    let a = i .before .before .before in
-    rest-on (a .before .rounds .inv) (a .rounds-test .taken) (rounded _ _ (i .by-records .ensures) (b .by-records2 .ensures) (r .by-records3 .ensures)) (round-told _ (a .before .before .before .before .before .before .pre) (rounded _ _ (i .by-records .ensures) (b .by-records2 .ensures) (r .by-records3 .ensures)) (sym (c .before .same-words .ensures) ∙ c .if1 .left))
+    let a = i .before .before in
+    let s = a .before .before .before .before .before .before .before .before .pre .0 in
+    let told = a .before .rounds .inv in
+    told-on told s (a .rounds-test .taken) (rounded _ _ (i .by-records .ensures) (b .by-records2 .ensures) (r .by-records3 .ensures)) (c .before .sum-of2 .ensures) (c .if1 .left)
 
 returns-2 : tie.Need-returns-2 Inv-rounds μ-rounds
-returns-2 c = spent (c .before .rounds .inv) (omega (arith, c .rounds-test .left))
+returns-2 c = spent (c .before .rounds .inv .rest) (omega (arith, c .rounds-test .left))
 
 pub rest-spec : {M : Type 1} → statement M
 rest-spec =
@@ -78,11 +93,12 @@ rest-spec =
     add-left
     mul-left
     add-left-2
+    sum-of-requires
     rounds-holds
     by-records-requires
     by-records-requires-2
     by-records-requires-3
-    same-words-requires
+    sum-of-requires-2
     returns
     sub-left
     rounds-less

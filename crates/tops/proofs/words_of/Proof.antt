@@ -1,6 +1,7 @@
 -- `tops::words_of` meets its contract. Assumes nothing.
 use borrow.Author.Needs.{needs}
 use Rattle.tops.proofs.Padded.{words-made}
+use Rattle.tops.proofs.Sums.{start-small}
 use Rattle.tops.proofs.words_of.Statement.{statement}
 use Rattle.tops.proofs.words_of.Tie as tie
 
@@ -8,7 +9,7 @@ start-words-requires : tie.Need-start-words-requires
 start-words-requires c κs = search needs
 
 rest-requires : tie.Need-rest-requires
-rest-requires c κs = search needs
+rest-requires c κs = let p = c .before .before .before .before .before .before .pre in (p, start-small _ (p .few) (c .before .start-words .ensures))
 
 returns : tie.Need-returns
 returns c = words-made (c .before .before .before .before .before .before .before .pre) (c .before .before .start-words .ensures) (c .rest .ensures)
