@@ -40,7 +40,7 @@ use Rattle.clauses.specs.declared.Listed.{Listed}
 use Rattle.clauses.specs.declared.Listed.the-variants.{List as Words, Refused as NotListed}
 use Rattle.clauses.proofs.Short.{short-formed, short-tried}
 use Rattle.search.specs.Turns.{noneSet, Fresh, EndsWith}
-use Rattle.search.specs.Conclusions.{withTriangles}
+use Rattle.propagate.specs.Conclusions.{withTriangles}
 use Rattle.search.specs.declared.engine.Ending.{Ending}
 use Rattle.search.specs.declared.engine.Ending.the-variants.{Found, Absent, Spent}
 use Rattle.search.proofs.Answering.{prefix-is, prefix-values}

@@ -24,13 +24,13 @@ use Rattle.search.specs.declared.Solution.{Solution}
 use Rattle.search.specs.declared.Solution.the-variants.{Solved, Refused}
 use Rattle.search.specs.declared.engine.Ending.{Ending}
 use Rattle.search.specs.declared.engine.Ending.the-variants.{Found, Absent, Spent}
-use Rattle.search.specs.Conclusions.{withTriangles}
+use Rattle.propagate.specs.Conclusions.{withTriangles}
 use Rattle.search.specs.Turns.{noneSet, Fresh, EndsWith, outcomeOf}
 use Rattle.search.specs.Answers.{listFits, searchNumber, Searched, searched, searchAt, searchOf}
 use Rattle.search.specs.Demands.{SearchSound}
 use Rattle.limits.specs.declared.Limits.{Limits}
 use Rattle.limits.specs.Limits.{limitsFit}
-use Rattle.search.proofs.Triangles.{with-none}
+use Rattle.propagate.proofs.Triangles.{with-none}
 use Rattle.search.proofs.Turns.{ends-outcome}
 
 -- ---- the refusals, in order

@@ -26,16 +26,17 @@ use Rattle.cnf.proofs.Closure.{Closed, breaks, rests, Closes, closes-one, turnT
 use Rattle.cnf.proofs.Trying.{closedTrials, endOf, TriesTo, there, turn, tried-outcome, turns-tried}
 use Rattle.cnf.proofs.Trials.{latest as latestTrial, Holds, holds-start, holds-closed, holds-undone, holds-guess, holds-latest, horn-trial, solved-held}
 use Rattle.pairs.specs.Triangles.{triangles}
-use Rattle.search.specs.Trail.{unsetting, Ready, Grown, Queue, closedBy, Settles}
-use Rattle.search.specs.Rows.{Rows, Own, Settable, Forced}
-use Rattle.search.specs.Conclusions.{withTriangles}
+use Rattle.propagate.specs.Trail.{unsetting, Ready, Grown, Queue, closedBy, Settles}
+use Rattle.propagate.specs.Rows.{Rows, Own, Settable, Forced}
+use Rattle.propagate.specs.Conclusions.{withTriangles}
 use Rattle.search.specs.Trial.{heldIf, backAlong, Retraceable}
-use Rattle.search.specs.Turns.{NextUnset, Undoable, Undone, Fresh, Rested, EndsWith, outcomeOf}
+use Rattle.search.specs.Turns.{NextUnset, Fresh, Rested, EndsWith, outcomeOf}
+use Rattle.propagate.specs.Undo.{Undoable, Undone}
 use Rattle.search.specs.declared.engine.Ending.{Ending}
 use Rattle.search.specs.declared.engine.Ending.the-variants.{Found, Absent, Spent}
-use Rattle.search.proofs.Trails.{unsetting-append, length-unsetting, unsetting-store, grown-length, grown-store}
-use Rattle.search.proofs.Marking.{rows-start}
-use Rattle.search.proofs.Triangles.{with-formed, triangles-horn, unset-rest}
+use Rattle.propagate.proofs.Trails.{unsetting-append, length-unsetting, unsetting-store, grown-length, grown-store}
+use Rattle.propagate.proofs.Marking.{rows-start}
+use Rattle.propagate.proofs.Triangles.{with-formed, triangles-horn, unset-rest}
 
 -- ---- the guesses that stand
 

@@ -1,10 +1,5 @@
 pub mod Answers
-pub mod Asked
 pub mod Marks
-pub mod Trail
-pub mod Rows
-pub mod Conclusions
-pub mod Chains
 pub mod Trial
 pub mod Turns
 pub mod Demands

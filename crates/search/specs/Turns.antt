@@ -5,8 +5,7 @@ use mathlib.Core.Bool.{true}
 use mathlib.Core.List.{List, List·Memᴰ}
 use mathlib.Core.Option.{some}
 use Prim.Native.Nat.{ℕ, _+_, _≤_, _<_}
-use lib.ListN.{length, getD, set, take, replicate}
-use lib.Seq.{slice}
+use lib.ListN.{length, set, take, replicate}
 use Rattle.cnf.specs.Clauses.{valueOf, clausesIn, whole}
 use Rattle.cnf.specs.Search.{Outcome, solved, none-exists, spent}
 use Rattle.cnf.specs.Trials.{Tried}
@@ -15,7 +14,6 @@ use Rattle.cnf.proofs.Closure.{rests, Closes}
 use Rattle.pairs.specs.Pairs.{pairs}
 use Rattle.search.specs.declared.engine.Ending.{Ending}
 use Rattle.search.specs.declared.engine.Ending.the-variants.{Found, Absent, Spent}
-use Rattle.search.specs.Trail.{unsetting}
 
 -- r is the first unset variable from low on, or the number of variables
 pub record NextUnset (v : List ℕ) (low r : ℕ) : Type 0 where
@@ -23,17 +21,6 @@ pub record NextUnset (v : List ℕ) (low r : ℕ) : Type 0 where
   pub to : r ≤ length v
   pub passed : (j : ℕ) → low ≤ j → j < r → valueOf v j ≢ 2
   pub found : r < length v → valueOf v r ≡ 2
-
--- the first count variables of the trail t are variables of v, and one of them is at mark
-pub record Undoable (v t : List ℕ) (mark count : ℕ) : Type 0 where
-  pub inside : mark < count
-  pub room : count ≤ length t
-  pub below : (i : ℕ) → i < count → getD t i 0 < length v
-
--- "undo the latest guess and all set after it, and set its variable false": the guess is at mark
-pub record Undone (v t : List ℕ) (mark count : ℕ) (w : List ℕ) (x : ℕ) : Type 0 where
-  pub variable : x ≡ getD t mark 0
-  pub values : w ≡ set (unsetting v (slice mark count t)) x 0
 
 -- the values of 780 variables, none of which is set
 unfoldable pub noneSet : List ℕ

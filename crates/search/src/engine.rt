@@ -6,23 +6,23 @@ ghost use lib.ListN.{length};
 ghost use Rattle.cnf.specs.Clauses.{whole};
 ghost use Rattle.cnf.specs.Trials.{notFalse, searchTried};
 ghost use Rattle.pairs.specs.Entries.{PairTable};
-ghost use Rattle.search.specs.Chains.{LinkRoom, Chained};
-ghost use Rattle.search.specs.Conclusions.{withTriangles};
-ghost use Rattle.search.specs.Rows.{Rows};
-ghost use Rattle.search.specs.Trail.{Ready, Queue, Settles};
+ghost use Rattle.propagate.specs.Chains.{LinkRoom, Chained};
+ghost use Rattle.propagate.specs.Conclusions.{withTriangles};
+ghost use Rattle.propagate.specs.Rows.{Rows};
+ghost use Rattle.propagate.specs.Trail.{Ready, Queue, Settles};
 ghost use Rattle.search.specs.Turns.{NextUnset, Fresh, Rested, EndsWith};
-use super::chains::link;
-use super::chains::no_heads;
-use super::chains::settle_linked;
-use super::fits::wide;
-use super::rows::force;
-use super::rows::own_rows;
-use super::settle::Reached;
-use super::settle::settle;
 use super::trial::not_false;
 use super::trial::walk_back;
-use super::undo::undo;
 use pairs::pair_table;
+use propagate::Reached;
+use propagate::force;
+use propagate::link;
+use propagate::no_heads;
+use propagate::own_rows;
+use propagate::settle;
+use propagate::settle_linked;
+use propagate::undo;
+use propagate::wide;
 
 // How the search ends, with the guesses made. The values left are those found, or where the budget is spent the trial that is held.
 pub enum Ending {

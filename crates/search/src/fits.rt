@@ -5,13 +5,7 @@ ghost use Prim.Native.Nat.{_+_, _≤_};
 ghost use Rattle.lists.specs.Lists.{all};
 ghost use Rattle.cnf.specs.Clauses.{clausesIn, whole, clauseFits};
 ghost use Rattle.search.specs.Marks.{Below};
-
-// A word as an index.
-pub fn wide(x: u16) -> usize
-    ensures { λ r. ⌜ r ≡ x ⌝ }
-{
-    x as usize
-}
+use propagate::wide;
 
 // A mark for each variable, none in use.
 fn no_marks() -> [usize; 780]

@@ -11,14 +11,9 @@ use fits::list_fits;
 use limits::Limits;
 use limits::limits_fit;
 
-mod chains;
-mod conclude;
 mod engine;
 mod fits;
-mod rows;
-mod settle;
 mod trial;
-mod undo;
 
 pub use engine::End;
 pub use engine::Ending;

@@ -9,11 +9,11 @@ ghost use Rattle.cnf.specs.Search.{isRight};
 ghost use Rattle.cnf.specs.Trials.{onlyTrue, satisfied, notFalse};
 ghost use Rattle.cnf.proofs.Values.{Formed};
 ghost use Rattle.pairs.specs.Entries.{PairTable};
-ghost use Rattle.search.specs.Asked.{Over};
-ghost use Rattle.search.specs.Rows.{Rows};
+ghost use Rattle.propagate.specs.Asked.{Over};
+ghost use Rattle.propagate.specs.Rows.{Rows};
 ghost use Rattle.search.specs.Trial.{heldValue, heldIf, backAlong, Retraceable};
-use super::fits::wide;
-use super::undo::unwind;
+use propagate::unwind;
+use propagate::wide;
 
 // How many variables are not false.
 pub fn not_false(values: &[u8]) -> usize

@@ -3,7 +3,7 @@
 use borrow.Author.Needs.{needs}
 use Prim.Native.Nat.{_-_}
 use lib.ListN.{length}
-use Rattle.search.proofs.Undoing as laws
+use Rattle.search.proofs.Seeking as laws
 use Rattle.search.proofs.engine.next_unset.Statement.{statement}
 use Rattle.search.proofs.engine.next_unset.Tie as tie
 

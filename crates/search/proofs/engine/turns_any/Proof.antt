@@ -1,7 +1,7 @@
 -- `search::engine::turns_any` meets its contract. Assumes nothing.
 use borrow.Author.Needs.{needs}
 use native.Mathlib.Omega.{arith}
-use Rattle.search.proofs.Linking.{unchained}
+use Rattle.propagate.proofs.Linking.{unchained}
 use Rattle.search.proofs.engine.turns_any.Statement.{statement}
 use Rattle.search.proofs.engine.turns_any.Tie as tie
 

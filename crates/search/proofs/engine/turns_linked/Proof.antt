@@ -2,9 +2,9 @@
 use borrow.Author.Needs.{needs}
 use Rattle.cnf.specs.Clauses.{clausesIn}
 use Rattle.pairs.specs.Triangles.{triangles}
-use Rattle.search.proofs.Working.{formed-part}
-use Rattle.search.proofs.Attending.{to-cs}
-use Rattle.search.proofs.Linking.{unlinked}
+use Rattle.propagate.proofs.Working.{formed-part}
+use Rattle.propagate.proofs.Attending.{to-cs}
+use Rattle.propagate.proofs.Linking.{unlinked}
 use Rattle.search.proofs.engine.turns_linked.Statement.{statement}
 use Rattle.search.proofs.engine.turns_linked.Tie as tie
 

@@ -2,7 +2,7 @@
 use borrow.Author.Needs.{needs}
 use Prim.Native.Nat.{ℕ}
 use lib.ListN.{length-replicate}
-use Rattle.search.proofs.Linking.{link-room}
+use Rattle.propagate.proofs.Linking.{link-room}
 use Rattle.search.proofs.engine.turns_short.Statement.{statement}
 use Rattle.search.proofs.engine.turns_short.Tie as tie
 

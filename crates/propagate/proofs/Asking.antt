@@ -1,0 +1,177 @@
+-- Laws for asking a clause: what is seen of it is what is seen of the literals still to come, with the unset literal met so far. Assumes nothing.
+use mathlib.Core.Path.{_≡_, refl, sym, ap, _∙_}
+use mathlib.Core.Logic.{_≢_}
+use mathlib.Core.Bool.{Bool, true, false, _||_}
+use mathlib.Core.List.{List, [], _∷_, _++_, append-nil, List·Memᴰ·head, List·Memᴰ·tail}
+use Prim.Native.Nat.{ℕ, zero, suc, _+_, _-_, _/_, _≤_, _<_}
+use native.Mathlib.Numerals.{add-one}
+use native.Mathlib.Omega.{arith}
+use lib.ListN.{length, getD, take, drop}
+use lib.Seq.{slice, slice-empty, slice-cons, take-length}
+use Rattle.lists.specs.Lists.{any, keep}
+use Rattle.cnf.specs.Search.{isRight, isUnset, Seen, broken, forcing, quiet, byUnset, seen}
+use Rattle.cnf.proofs.Found.{right-is, unset-is}
+use Rattle.propagate.specs.declared.passes.Asked.{Asked}
+use Rattle.propagate.specs.Asked.{Over, seenOf}
+use Rattle.propagate.specs.Chains.{clauseAt}
+use Rattle.propagate.specs.Trail.{literalValue}
+use Rattle.propagate.proofs.Trails.{value-one, value-two, value-other}
+use Rattle.propagate.proofs.Walking.{clause-words}
+
+-- by whether a literal is right, and by the unset literals
+abbrev seenBy : Bool → List ℕ → Seen
+seenBy true ks = quiet
+seenBy false ks = byUnset ks
+
+-- with no right literal and the unset literals ks so far, and c still to come
+abbrev seenFrom : List ℕ → List ℕ → List ℕ → Seen
+seenFrom v ks c = seenBy (any (isRight v) c) (ks ++ keep (isUnset v) c)
+
+-- the unset literals of a clause so far: none, or one
+abbrev oneOf : ℕ → ℕ → List ℕ
+oneOf zero l = []
+oneOf (suc n) l = l ∷ []
+
+by-none : (k l : ℕ) → k ≡ 0 → byUnset (oneOf k l) ≡ broken
+unfolding byUnset
+by-none k l e = rw e
+
+by-last : (k l : ℕ) → (k ≡ 0 → ⊥) → byUnset (oneOf k l) ≡ forcing l
+unfolding byUnset
+by-last zero l n = absurd (n refl)
+by-last (suc k) l n = refl
+
+unset-not-right : (v : List ℕ) (l : ℕ) → isUnset v l ≡ true → isRight v l ≡ false
+unset-not-right v l u = go (isRight v l) refl
+  where
+    go : (t : Bool) → isRight v l ≡ t → isRight v l ≡ false
+    go true e = absurd (omega (arith, right-is v l e, unset-is v l u))
+    go false e = e
+
+any-cons : (v : List ℕ) (l : ℕ) (c : List ℕ) → any (isRight v) (l ∷ c) ≡ (isRight v l || any (isRight v) c)
+unfolding any
+any-cons v l c = refl
+
+keep-cons : (v : List ℕ) (l : ℕ) (c : List ℕ) → isUnset v l ≡ true → keep (isUnset v) (l ∷ c) ≡ l ∷ keep (isUnset v) c
+unfolding keep
+keep-cons v l c e = rw (e, keep)
+
+keep-past : (v : List ℕ) (l : ℕ) (c : List ℕ) → isUnset v l ≡ false → keep (isUnset v) (l ∷ c) ≡ keep (isUnset v) c
+unfolding keep
+keep-past v l c e = rw (e, keep)
+
+module _ (v : List ℕ) where
+  from-start : (c : List ℕ) → seen v c ≡ seenFrom v [] c
+  unfolding seen
+  from-start c = go (any (isRight v) c)
+    where
+      go : (t : Bool) → elim t as (λ _. Seen) [ true ↦ quiet | false ↦ byUnset (keep (isUnset v) c) ] ≡ seenBy t (keep (isUnset v) c)
+      go true = refl
+      go false = refl
+
+  from-right : (ks : List ℕ) (l : ℕ) (c : List ℕ) → isRight v l ≡ true → seenFrom v ks (l ∷ c) ≡ quiet
+  from-right ks l c e = rw (any-cons, e)
+
+  from-unset : (l : ℕ) (c : List ℕ) → isUnset v l ≡ true → seenFrom v [] (l ∷ c) ≡ seenFrom v (l ∷ []) c
+  from-unset l c e = rw (any-cons, unset-not-right v l e, keep-cons v l c e)
+
+  from-second : (k l : ℕ) (c : List ℕ) → isUnset v l ≡ true → seenFrom v (k ∷ []) (l ∷ c) ≡ quiet
+  unfolding byUnset
+  from-second k l c e = rw (any-cons, unset-not-right v l e, keep-cons v l c e) (go (any (isRight v) c))
+    where
+      go : (t : Bool) → seenBy t (k ∷ l ∷ keep (isUnset v) c) ≡ quiet
+      go true = refl
+      go false = refl
+
+  from-wrong : (ks : List ℕ) (l : ℕ) (c : List ℕ) → isUnset v l ≡ false → isRight v l ≡ false → seenFrom v ks (l ∷ c) ≡ seenFrom v ks c
+  from-wrong ks l c u r = rw (any-cons, r, keep-past v l c u)
+
+  from-end : (ks : List ℕ) → seenFrom v ks [] ≡ byUnset ks
+  unfolding any keep
+  from-end ks = rw append-nil
+
+-- ---- the literals of a clause
+
+-- in the clause from `first` to `end`, before the literal at `at`: `unset` literals passed were unset, and `last` was the last of them
+pub record Within (ws v : List ℕ) (first end at unset last : ℕ) : Type 0 where
+  pub started : first ≤ at
+  pub inside : at ≤ end
+  pub ends : end ≤ length ws
+  pub few : unset ≤ 1
+  pub below : Over (slice at end ws) (length v)
+  pub meets : seen v (slice first end ws) ≡ seenFrom v (oneOf unset last) (slice at end ws)
+
+pub within : (ws v : List ℕ) (first end : ℕ) → first ≤ end → end ≤ length ws → Over (slice first end ws) (length v) → Within ws v first end first 0 0
+within ws v first end h k o = record { started = omega arith; inside = h; ends = k; few = omega arith; below = o; meets = from-start v (slice first end ws) }
+
+module _ {ws v : List ℕ} {first end at unset last : ℕ} (w : Within ws v first end at unset last) where
+  -- all literals are passed
+  all-passed : at ≡ end → seen v (slice first end ws) ≡ byUnset (oneOf unset last)
+  all-passed e = w .meets ∙ rw (e, slice-empty) (from-end v (oneOf unset last))
+
+  pub sees-broken : at ≡ end → unset ≡ 0 → broken ≡ seen v (slice first end ws)
+  sees-broken e z = sym (all-passed e ∙ by-none unset last z)
+
+  pub sees-forcing : at ≡ end → (unset ≡ 0 → ⊥) → forcing last ≡ seen v (slice first end ws)
+  sees-forcing e n = sym (all-passed e ∙ by-last unset last n)
+
+  module _ (h : at ≡ end → ⊥) where
+    cons-at : slice at end ws ≡ getD ws at 0 ∷ slice (at + 1) end ws
+    cons-at = rw add-one (slice-cons at end ws 0 (omega (arith, w .inside)) (w .ends))
+
+    pub next-inside : at < length ws
+    next-inside = omega (arith, w .inside, w .ends)
+
+    pub next-below : getD ws at 0 / 2 < length v
+    next-below = w .below (getD ws at 0) (rw cons-at (List·Memᴰ·head refl))
+
+    rest-below : Over (slice (at + 1) end ws) (length v)
+    rest-below l m = w .below l (rw cons-at (List·Memᴰ·tail m))
+
+    pub sees-right : literalValue v (getD ws at 0) ≡ 1 → quiet ≡ seen v (slice first end ws)
+    sees-right e = sym (w .meets ∙ rw (cons-at, from-right v (oneOf unset last) (getD ws at 0) (slice (at + 1) end ws) (value-one v (getD ws at 0) e)))
+
+    pub sees-second : unset ≡ 1 → literalValue v (getD ws at 0) ≡ 2 → quiet ≡ seen v (slice first end ws)
+    sees-second u e = sym (w .meets ∙ rw (cons-at, u, from-second v last (getD ws at 0) (slice (at + 1) end ws) (value-two v (getD ws at 0) e)))
+
+    pub step-unset : (unset ≡ 1 → ⊥) → literalValue v (getD ws at 0) ≡ 2 → Within ws v first end (at + 1) 1 (getD ws at 0)
+    step-unset u e =
+        let none : unset ≡ 0 = omega (arith, w .few) in
+        record {
+          started = omega (arith, w .started);
+          inside = omega (arith, w .inside);
+          ends = w .ends;
+          few = omega arith;
+          below = rest-below;
+          meets = w .meets ∙ rw (cons-at, none, from-unset v (getD ws at 0) (slice (at + 1) end ws) (value-two v (getD ws at 0) e));
+        }
+
+    pub step-wrong : literalValue v (getD ws at 0) ≢ 1 → literalValue v (getD ws at 0) ≢ 2 → Within ws v first end (at + 1) unset last
+    step-wrong n m =
+        let z = value-other v (getD ws at 0) n m in
+        record {
+          started = omega (arith, w .started);
+          inside = omega (arith, w .inside);
+          ends = w .ends;
+          few = w .few;
+          below = rest-below;
+          meets = w .meets ∙ rw (cons-at, from-wrong v (oneOf unset last) (getD ws at 0) (slice (at + 1) end ws) (z .0) (z .1));
+        }
+
+-- all words are one clause
+module _ (c v : List ℕ) where
+  pub within-all : Over c (length v) → Within c v 0 (length c) 0 0 0
+  within-all h = within c v 0 (length c) (omega arith) (omega arith) (rw (take-length c) h)
+
+  pub seen-all : {s : Seen} → s ≡ seen v (slice 0 (length c) c) → s ≡ seen v c
+  seen-all e = e ∙ ap (seen v) (take-length c)
+
+-- ---- a clause of a list is asked
+
+-- the words that are lent, k of them from behind `at`, are the clause at `at`
+module _ (ws : List ℕ) (at : ℕ) {k : ℕ} (e : k ≡ getD ws at 0) where
+  pub lent-over : (n : ℕ) → Over (clauseAt ws at) n → Over (take (at + 1 + k - (at + 1)) (drop (at + 1) ws)) n
+  lent-over n h = rw (clause-words ws at e) h
+
+  pub lent-seen : (v : List ℕ) {r a : Asked} → seenOf r ≡ seen v (take (at + 1 + k - (at + 1)) (drop (at + 1) ws)) → r ≡ a → seenOf a ≡ seen v (clauseAt ws at)
+  lent-seen v q p = sym (ap seenOf p) ∙ q ∙ ap (seen v) (clause-words ws at e)

@@ -1,0 +1,117 @@
+-- `propagate::chains::settle_linked` meets its contract. The loop's invariant: what was set are unit steps, and the clauses wait for the rest of the queue
+-- only. Assumes nothing.
+use native.Mathlib.Omega.{arith}
+use Prim.Native.Nat.{_-_}
+use lib.ListN.{length}
+use Rattle.cnf.specs.Clauses.{clausesIn}
+use Rattle.pairs.specs.Triangles.{triangles}
+use Rattle.propagate.specs.Rows.{Rows}
+use Rattle.propagate.proofs.Working.{drained-settles}
+use Rattle.propagate.proofs.Attending as groups
+use Rattle.propagate.proofs.Queueing as laws
+use Rattle.propagate.proofs.chains.settle_linked.Statement.{statement}
+use Rattle.propagate.proofs.chains.settle_linked.Tie as tie
+
+abbrev Inv-queue : tie.InvT-queue
+Inv-queue list n table heads next owner values₀ trail₀ joined₀ apart₀ from start at₀ count₀ values trail joined apart at count =
+    groups.Both (clausesIn list) (triangles n) values₀ trail₀ start values trail count at × Rows n values joined apart
+
+abbrev μ-queue : tie.MeasureT-queue
+μ-queue list n table heads next owner values₀ trail₀ joined₀ apart₀ from start at₀ count₀ values trail joined apart at count =
+    length values - at
+
+queue-holds : tie.Need-queue-holds Inv-queue μ-queue
+queue-holds c = (record { queueing = laws.queueing (c .before .before .before .before .before .before .pre .1 .0) (c .before .before .before .before .before .before .pre .1 .1 .0 .0) }, c .before .before .before .before .before .before .pre .1 .1 .1 .1)
+
+mul-x : tie.Need-mul-x Inv-queue μ-queue
+mul-x c = omega (arith, laws.at-small (c .before .queue .inv .0 .queueing) (c .queue-test .taken), laws.queue-values (c .before .queue .inv .0 .queueing), c .before .before .before .before .before .before .before .before .pre .1 .1 .0 .1)
+
+slice-read-x : tie.Need-slice-read-x Inv-queue μ-queue
+slice-read-x c = laws.at-inside (c .before .before .queue .inv .0 .queueing) (c .before .queue-test .taken)
+
+add-at : tie.Need-add-at Inv-queue μ-queue
+add-at c = omega (arith, laws.at-small (c .before .before .queue .inv .0 .queueing) (c .before .queue-test .taken), laws.queue-values (c .before .before .queue .inv .0 .queueing), c .before .before .before .before .before .before .before .before .before .pre .1 .1 .0 .1)
+
+conclude-requires : tie.Need-conclude-requires Inv-queue μ-queue
+conclude-requires c κs = ((groups.first-ready (c .before .before .before .before .before .before .queue .inv .0) (c .before .before .before .before .before .queue-test .taken), c .before .before .before .before .before .before .queue .inv .1), (c .before .before .before .before .before .before .before .before .before .before .before .before .before .pre .1 .1 .1 .0, laws.next-queued (c .before .before .before .before .before .before .queue .inv .0 .queueing) (c .before .before .before .before .before .queue-test .taken)))
+
+same-length : tie.Need-same-length Inv-queue μ-queue
+same-length c = groups.then-length (c .before .before .before .before .before .before .before .before .before .before .before .before .queue .inv .0) (c .before .before .before .before .before .before .before .before .before .before .before .queue-test .taken) (c .before .before .before .before .before .conclude .ensures .0)
+
+same-length-2 : tie.Need-same-length-2 Inv-queue μ-queue
+same-length-2 c =
+    let k = groups.first-broken (c .before .before .before .before .before .before .before .before .before .before .before .before .queue .inv .0) (c .before .before .before .before .before .before .before .before .before .before .before .queue-test .taken) (c .before .before .before .before .before .conclude .ensures .0) (c .if1 .taken) in
+    laws.seen-trail (c .before .before .before .before .before .before .before .before .before .before .before .before .queue .inv .0 .queueing) (c .before .before .before .before .before .before .before .before .before .before .before .queue-test .taken) k
+
+returns : tie.Need-returns Inv-queue μ-queue
+returns c =
+    let j = c .before .before .before .before .before .before .before .before .before .before .before .before .queue .inv .0 .queueing in
+    let k = groups.first-broken (c .before .before .before .before .before .before .before .before .before .before .before .before .queue .inv .0) (c .before .before .before .before .before .before .before .before .before .before .before .queue-test .taken) (c .before .before .before .before .before .conclude .ensures .0) (c .if1 .taken) in
+    (drained-settles (j .ready) (laws.queue-broken j (c .before .before .before .before .before .before .before .before .before .before .before .queue-test .taken) k (c .if1 .taken)), c .before .before .before .before .before .conclude .ensures .1)
+
+look-requires : tie.Need-look-requires Inv-queue μ-queue
+look-requires c κs =
+    let j = c .before .before .before .before .before .before .before .before .before .before .before .before .before .before .before .before .queue .inv .0 in
+    let h = c .before .before .before .before .before .before .before .before .before .before .before .before .before .before .before .queue-test .taken in
+    let k = c .before .before .before .before .before .before .before .before .before .conclude .ensures .0 in
+    let q = groups.then-set j h k in
+    (c .before .before .before .before .before .before .before .before .before .before .before .before .before .before .before .before .before .before .before .before .before .before .before .pre .0, (groups.then-ready j h k, ((q .0, omega (arith, groups.then-length j h k, c .before .before .before .before .before .before .before .before .before .before .before .before .before .before .before .before .before .before .before .before .before .before .before .pre .1 .1 .0 .1), q .1), (c .before .before .before .before .before .before .before .before .before .before .before .before .before .before .before .before .before .before .before .before .before .before .before .pre .1 .1 .1 .0, c .before .before .before .before .before .before .before .before .before .conclude .ensures .1))))
+
+same-length-3 : tie.Need-same-length-3 Inv-queue μ-queue
+same-length-3 c =
+    let k = groups.both-seen (c .before .before .before .before .before .before .before .before .before .before .before .before .before .before .before .before .before .before .before .before .before .before .queue .inv .0) (c .before .before .before .before .before .before .before .before .before .before .before .before .before .before .before .before .before .before .before .before .before .queue-test .taken) (c .before .before .before .before .before .before .before .before .before .before .before .before .before .before .before .conclude .ensures .0) (c .before .before .before .before .before .before .before .before .before .before .if1 .left) (c .before .before .before .before .before .look .ensures .0) in
+    laws.seen-values (c .before .before .before .before .before .before .before .before .before .before .before .before .before .before .before .before .before .before .before .before .before .before .queue .inv .0 .queueing) (c .before .before .before .before .before .before .before .before .before .before .before .before .before .before .before .before .before .before .before .before .before .queue-test .taken) k
+
+same-length-4 : tie.Need-same-length-4 Inv-queue μ-queue
+same-length-4 c =
+    let k = groups.both-seen (c .before .before .before .before .before .before .before .before .before .before .before .before .before .before .before .before .before .before .before .before .before .before .queue .inv .0) (c .before .before .before .before .before .before .before .before .before .before .before .before .before .before .before .before .before .before .before .before .before .queue-test .taken) (c .before .before .before .before .before .before .before .before .before .before .before .before .before .before .before .conclude .ensures .0) (c .before .before .before .before .before .before .before .before .before .before .if1 .left) (c .before .before .before .before .before .look .ensures .0) in
+    laws.seen-trail (c .before .before .before .before .before .before .before .before .before .before .before .before .before .before .before .before .before .before .before .before .before .before .queue .inv .0 .queueing) (c .before .before .before .before .before .before .before .before .before .before .before .before .before .before .before .before .before .before .before .before .before .queue-test .taken) k
+
+returns-2 : tie.Need-returns-2 Inv-queue μ-queue
+returns-2 c =
+    let j = c .before .before .before .before .before .before .before .before .before .before .before .before .before .before .before .before .before .before .before .before .before .before .queue .inv .0 .queueing in
+    let k = groups.both-seen (c .before .before .before .before .before .before .before .before .before .before .before .before .before .before .before .before .before .before .before .before .before .before .queue .inv .0) (c .before .before .before .before .before .before .before .before .before .before .before .before .before .before .before .before .before .before .before .before .before .queue-test .taken) (c .before .before .before .before .before .before .before .before .before .before .before .before .before .before .before .conclude .ensures .0) (c .before .before .before .before .before .before .before .before .before .before .if1 .left) (c .before .before .before .before .before .look .ensures .0) in
+    (drained-settles (j .ready) (laws.queue-broken j (c .before .before .before .before .before .before .before .before .before .before .before .before .before .before .before .before .before .before .before .before .before .queue-test .taken) k (c .if2 .taken)), c .before .before .before .before .before .look .ensures .1)
+
+queue-less : tie.Need-queue-less Inv-queue μ-queue
+queue-less c =
+    let k = groups.both-seen (c .before .before .before .before .before .before .before .before .before .before .before .before .before .before .before .before .before .before .before .before .before .before .queue .inv .0) (c .before .before .before .before .before .before .before .before .before .before .before .before .before .before .before .before .before .before .before .before .before .queue-test .taken) (c .before .before .before .before .before .before .before .before .before .before .before .before .before .before .before .conclude .ensures .0) (c .before .before .before .before .before .before .before .before .before .before .if1 .left) (c .before .before .before .before .before .look .ensures .0) in
+    laws.queue-less (c .before .before .before .before .before .before .before .before .before .before .before .before .before .before .before .before .before .before .before .before .before .before .queue .inv .0 .queueing) (c .before .before .before .before .before .before .before .before .before .before .before .before .before .before .before .before .before .before .before .before .before .queue-test .taken) k
+
+queue-again : tie.Need-queue-again Inv-queue μ-queue
+queue-again c =
+    let k = groups.both-seen (c .before .before .before .before .before .before .before .before .before .before .before .before .before .before .before .before .before .before .before .before .before .before .queue .inv .0) (c .before .before .before .before .before .before .before .before .before .before .before .before .before .before .before .before .before .before .before .before .before .queue-test .taken) (c .before .before .before .before .before .before .before .before .before .before .before .before .before .before .before .conclude .ensures .0) (c .before .before .before .before .before .before .before .before .before .before .if1 .left) (c .before .before .before .before .before .look .ensures .0) in
+    (record { queueing = laws.queue-on (c .before .before .before .before .before .before .before .before .before .before .before .before .before .before .before .before .before .before .before .before .before .before .queue .inv .0 .queueing) (c .before .before .before .before .before .before .before .before .before .before .before .before .before .before .before .before .before .before .before .before .before .queue-test .taken) k (c .if2 .left) }, c .before .before .before .before .before .look .ensures .1)
+
+same-length-5 : tie.Need-same-length-5 Inv-queue μ-queue
+same-length-5 c = laws.queue-values (c .before .queue .inv .0 .queueing)
+
+same-length-6 : tie.Need-same-length-6 Inv-queue μ-queue
+same-length-6 c = c .before .queue .inv .0 .queueing .worked .grown .long
+
+returns-3 : tie.Need-returns-3 Inv-queue μ-queue
+returns-3 c = let j = c .before .queue .inv .0 .queueing in (drained-settles (j .ready) (laws.queue-end j (c .queue-test .left)), c .before .queue .inv .1)
+
+pub settle-linked-spec : {M : Type 1} → statement M
+settle-linked-spec =
+    tie.close
+    (tie.spec
+    Inv-queue
+    μ-queue
+    queue-holds
+    mul-x
+    slice-read-x
+    add-at
+    conclude-requires
+    same-length
+    same-length-2
+    returns
+    look-requires
+    same-length-3
+    same-length-4
+    returns-2
+    queue-less
+    queue-again
+    same-length-5
+    same-length-6
+    returns-3)

@@ -1,0 +1,6 @@
+pub mod Asked
+pub mod Trail
+pub mod Rows
+pub mod Conclusions
+pub mod Chains
+pub mod Undo

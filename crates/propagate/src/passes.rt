@@ -1,0 +1,166 @@
+// Closing the values: every literal that a clause forces is set, until none is left or a clause is broken.
+ghost use mathlib.Core.Path.{_≡_};
+ghost use mathlib.Core.Bool.{true};
+ghost use Prim.Native.Nat.{_-_, _/_, _%_, _<_};
+ghost use lib.ListN.{length};
+ghost use Rattle.cnf.specs.Clauses.{clausesIn, whole};
+ghost use Rattle.cnf.specs.Search.{seen};
+ghost use Rattle.pairs.specs.Entries.{PairTable};
+ghost use Rattle.pairs.specs.Triangles.{triangles};
+ghost use Rattle.propagate.specs.Asked.{Over, seenOf};
+ghost use Rattle.propagate.specs.Conclusions.{withTriangles};
+ghost use Rattle.propagate.specs.Rows.{Rows};
+ghost use Rattle.propagate.specs.Trail.{literalValue, Ready, Passed, Queue, Settles};
+use super::conclude::drain;
+use super::rows::force;
+use super::wide;
+
+// Whether a clause is broken, and how many variables are set.
+pub struct Reached {
+    pub broken: bool,
+    pub count: usize,
+}
+
+// The value of its variable that makes a literal true.
+pub fn wanted(l: u16) -> u8
+    ensures { λ r. ⌜ r ≡ 1 - l % 2 ⌝ }
+{
+    (1 - l % 2) as u8
+}
+
+// A literal under the values: 0 false, 1 true, 2 unset.
+fn value_of(values: &[u8], l: u16) -> u8
+    requires { ⌜ l / 2 < length (now values) ⌝ }
+    ensures { λ r. ⌜ r ≡ literalValue (now (values .entry)) l ⌝ }
+{
+    let x = values[wide(l / 2)];
+    if x == 2 {
+        return 2;
+    }
+    if x == wanted(l) { 1 } else { 0 }
+}
+
+// What one clause says of the values, when it is asked.
+pub enum Asked {
+    Broken,
+    Forcing(u16),
+    Quiet,
+}
+
+// Whether every literal is false, or which is the only unset one with all others false. It is left at a true literal and at a second unset one.
+pub(crate) fn ask(literals: &[u16], values: &[u8]) -> Asked
+    requires { ⌜ Over (now literals) (length (now values)) ⌝ }
+    ensures { λ r. ⌜ seenOf r ≡ seen (now (values .entry)) (now (literals .entry)) ⌝ }
+{
+    let mut unset: usize = 0;
+    let mut last: u16 = 0;
+    let mut i: usize = 0;
+    'literals: while i < literals.len() {
+        let l = literals[i];
+        let x = value_of(values, l);
+        if x == 1 {
+            return Asked::Quiet;
+        }
+        if x == 2 {
+            if unset == 1 {
+                return Asked::Quiet;
+            }
+            unset = 1;
+            last = l;
+        }
+        i += 1;
+    }
+    if unset == 0 {
+        return Asked::Broken;
+    }
+    Asked::Forcing(last)
+}
+
+// One pass over the clauses, which sets what is forced as it meets it and is left at a clause whose literals are all false. In a clause `at` is
+// its end, where the next one starts, and `i` the place of the next literal.
+fn pass(
+    list: &[u16],
+    n: u8,
+    table: &[u16],
+    values: &mut [u8],
+    trail: &mut [u16],
+    joined: &mut [u64; 40],
+    apart: &mut [u64; 40],
+    start: usize,
+) -> Reached
+    requires { ⌜ whole (now list) ≡ true ⌝ }
+    requires { ⌜ Ready (clausesIn (now list)) (now values) (now trail) start ⌝ }
+    requires { ⌜ PairTable (now table) × Rows n (now values) (now joined) (now apart) ⌝ }
+    ensures { λ r. ⌜ Passed (clausesIn (now (list .entry))) (now (values .entry)) (now (trail .entry)) start (now (values .exit)) (now (trail .exit)) (r .broken) (r .count) × Rows n (now (values .exit)) (now (joined .exit)) (now (apart .exit)) ⌝ }
+{
+    let mut broken = false;
+    let mut count = start;
+    let mut at: usize = 0;
+    'clauses: while at < list.len() {
+        let mut i = at + 1;
+        at = i + wide(list[at]);
+        let mut unset: usize = 0;
+        let mut last: u16 = 0;
+        'literals: loop {
+            if i == at {
+                if unset == 0 {
+                    broken = true;
+                    break 'clauses;
+                }
+                break 'literals;
+            }
+            let l = list[i];
+            let x = value_of(values, l);
+            if x == 1 {
+                continue 'clauses;
+            }
+            if x == 2 {
+                if unset == 1 {
+                    continue 'clauses;
+                }
+                unset = 1;
+                last = l;
+            }
+            i += 1;
+        }
+        count = force(n, table, last, values, trail, joined, apart, count);
+    }
+    Reached { broken, count }
+}
+
+// Draws the conclusions from the trail's variables from `from` on, then passes over the clauses; and again, until a pass sets nothing or a clause
+// is broken.
+pub fn settle(
+    list: &[u16],
+    n: u8,
+    table: &[u16],
+    values: &mut [u8],
+    trail: &mut [u16],
+    joined: &mut [u64; 40],
+    apart: &mut [u64; 40],
+    from: usize,
+    start: usize,
+) -> Reached
+    requires { ⌜ whole (now list) ≡ true ⌝ }
+    requires { ⌜ Ready (withTriangles (now list) n) (now values) (now trail) start × Queue (triangles n) (now values) (now trail) from start ⌝ }
+    requires { ⌜ PairTable (now table) × Rows n (now values) (now joined) (now apart) ⌝ }
+    ensures { λ r. ⌜ Settles (withTriangles (now (list .entry)) n) (now (values .entry)) (now (trail .entry)) start (now (values .exit)) (now (trail .exit)) (r .broken) (r .count) × Rows n (now (values .exit)) (now (joined .exit)) (now (apart .exit)) ⌝ }
+{
+    let mut at = from;
+    let mut count = start;
+    'passes: loop {
+        let d = drain(n, table, values, trail, joined, apart, at, count);
+        if d.broken {
+            return d;
+        }
+        at = d.count;
+        let p = pass(list, n, table, values, trail, joined, apart, at);
+        if p.broken {
+            return p;
+        }
+        if p.count == at {
+            return p;
+        }
+        count = p.count;
+    }
+}
