@@ -152,7 +152,7 @@ fn compare_choose(l: Limits, b: &[u8], first: &[u8], second: &[u8], c: &mut Coun
 
 /// As many lines as there may be, and one more.
 fn compare_many_lines() {
-    let b = Table { symbols: vec![], states: vec![3], internals: vec![], calls: vec![], returns: vec![] }.bytes();
+    let b = Table { version: 1, symbols: vec![], states: vec![3], internals: vec![], calls: vec![], returns: vec![] }.bytes();
     for lines in [65_535, 65_536, 65_537] {
         let bytes: Vec<u8> = (0..lines).flat_map(|_| [0, 255, 255, 255, 255]).collect();
         let e = reference::uses(STANDARD, &b, &[0], &bytes).map(|x| x.1);
@@ -185,6 +185,7 @@ fn compare_words(r: &mut Random, a: &Table, b: &Table, c: &mut Counts) {
         assert_eq!(accepted, reference::accepts(b, w), "word {w:?} separates {a:?} and {b:?}");
         let kinds = |k: u8| w.iter().filter(|&&s| a.symbols[s as usize] == k).count();
         assert!(!accepted || kinds(1) == kinds(2), "word {w:?} leaves something open, and {a:?} accepts it");
+        assert_eq!(reference::end_marks(a, w), reference::end_marks(b, w), "the marks after {w:?} tell {a:?} and {b:?} apart");
     }
     c.add("words of input and quotient", Ok(()));
 }
@@ -417,6 +418,9 @@ fn main() {
             let more = 1 + r.below(3);
             t = random::with_unreachable(&mut r, &t, more);
         }
+        if r.chance(30) {
+            t = random::marked(&mut r, &t);
+        }
         let valid = t.bytes();
         let b = if r.chance(25) { random::damaged(&mut r, &valid) } else { valid.clone() };
         compare_read(l, &b, &mut c);
@@ -450,6 +454,7 @@ fn main() {
                     1 => random::table(&mut r, n, true),
                     _ => random::blown_up(&mut r, n, false),
                 };
+                let small = if r.chance(40) { random::marked(&mut r, &small) } else { small };
                 compare_all_maps(&small, &mut c);
             }
         }

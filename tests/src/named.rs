@@ -5,6 +5,7 @@ use crate::reference::Table;
 /// Table T of document 01.
 pub fn t() -> Table {
     Table {
+        version: 1,
         symbols: vec![0, 1, 2],
         states: vec![1, 0, 0, 2],
         internals: vec![[0, 0, 2], [1, 0, 1], [2, 0, 2]],
@@ -51,7 +52,7 @@ pub fn faults() -> [Vec<u8>; 8] {
     };
     [
         b[..11].to_vec(),
-        with(33, 2),
+        with(33, 3),
         with(23, 22),
         [vec![0u8; 10], vec![1, 0]].concat(),
         with(3, 4),
@@ -103,18 +104,32 @@ pub fn longest() -> Table {
     symbols[..4].copy_from_slice(&[0, 0, 1, 1]);
     let moves = |first: u8| (0..24 * 2 * 24).map(move |i| [(i / 48) as u8, first + (i / 24 % 2) as u8, (i % 24) as u8]).take(1024).collect();
     let returns = (0..4096).map(|i| [(i / 576) as u8, 4, (i / 24 % 24) as u8, (i % 24) as u8]).collect();
-    Table { symbols, states: vec![1; 24], internals: moves(0), calls: moves(2), returns }
+    Table { version: 1, symbols, states: vec![1; 24], internals: moves(0), calls: moves(2), returns }
 }
 
 /// A series: countries that hold places, each place named and located once, in either order, and a country closed only when it holds a place.
 /// Symbols: 0 name, 1 locate, 2 country, 3 place, 4 close. States 2 to 5 are a country's first place, 6 to 9 a later one.
 pub fn atlas() -> Table {
     Table {
+        version: 1,
         symbols: vec![0, 0, 1, 1, 2],
         states: vec![3, 0, 0, 0, 0, 0, 0, 0, 0, 0, 0],
         internals: vec![[2, 0, 3], [2, 1, 4], [3, 1, 5], [4, 0, 5], [6, 0, 7], [6, 1, 8], [7, 1, 9], [8, 0, 9]],
         calls: vec![[0, 2, 1], [1, 3, 2], [10, 3, 6]],
         returns: vec![[5, 4, 1, 10], [9, 4, 10, 10], [10, 4, 0, 0]],
+    }
+}
+
+/// A place is named and located, again and again, until it is closed; what was said last is the state. Version 2: named has mark 1, located mark 2.
+/// Symbols: 0 name, 1 locate, 2 place, 3 close.
+pub fn named_located() -> Table {
+    Table {
+        version: 2,
+        symbols: vec![0, 0, 1, 2],
+        states: vec![3, 0, 2 + 4, 2 + 8],
+        internals: vec![[1, 0, 2], [1, 1, 3], [2, 0, 2], [2, 1, 3], [3, 0, 2], [3, 1, 3]],
+        calls: vec![[0, 2, 1]],
+        returns: vec![[2, 3, 0, 0], [3, 3, 0, 0]],
     }
 }
 
@@ -126,6 +141,7 @@ pub fn unreachable_stack() -> Table {
 /// The second: 1 and 2 may be joined, and 2 and 3, but not 1 and 3.
 pub fn not_transitive() -> Table {
     Table {
+        version: 1,
         symbols: vec![0, 1, 2, 1],
         states: vec![1, 0, 0, 0, 2],
         internals: vec![[0, 0, 2], [1, 0, 1], [2, 0, 2], [3, 0, 3]],
@@ -137,6 +153,7 @@ pub fn not_transitive() -> Table {
 /// As the second, with 4 a copy of 3: reduce joins 1 with 2 and 3 with 4, two pairs; 2, 3 and 4 would be three, in as many classes.
 pub fn fewer_pairs() -> Table {
     Table {
+        version: 1,
         symbols: vec![0, 1, 2, 1],
         states: vec![1, 0, 0, 0, 0, 2],
         internals: vec![[0, 0, 2], [1, 0, 1], [2, 0, 2], [3, 0, 3], [4, 0, 4]],
@@ -148,6 +165,7 @@ pub fn fewer_pairs() -> Table {
 /// Only 1 and 2, 1 and 3, and 2 and 4 may be joined: reduce joins 1 with 2, and has one class more than 1 with 3 and 2 with 4.
 pub fn more_classes() -> Table {
     Table {
+        version: 1,
         symbols: vec![0, 0, 1, 1, 2],
         states: vec![1, 0, 0, 0, 0, 0, 0, 2],
         internals: vec![[0, 0, 5], [5, 1, 6]],
@@ -159,6 +177,7 @@ pub fn more_classes() -> Table {
 /// The third: joining 1 and 2 joins the stack symbols that tell the two returns of 3 apart.
 pub fn joined_stack_symbols() -> Table {
     Table {
+        version: 1,
         symbols: vec![0, 0, 1, 2, 2],
         states: vec![1, 0, 0, 0, 2],
         internals: vec![[0, 0, 1], [0, 1, 2]],
@@ -173,7 +192,7 @@ pub fn one_way(kind: usize, few: u8) -> Table {
     let many = 3 - few;
     let mut triples = vec![[few, kind as u8, 3], [many, kind as u8, 3], [many, kind as u8, 4]];
     triples.sort();
-    let mut table = Table { symbols: vec![0, 1, 2], states: vec![1, 0, 0, 0, 2], internals: vec![], calls: vec![], returns: vec![] };
+    let mut table = Table { version: 1, symbols: vec![0, 1, 2], states: vec![1, 0, 0, 0, 2], internals: vec![], calls: vec![], returns: vec![] };
     match kind {
         0 => table.internals = triples,
         1 => table.calls = triples,
@@ -188,6 +207,7 @@ pub fn one_way(kind: usize, few: u8) -> Table {
 /// Each move has one target. Joining 0 and 1 joins 2 with 3 and 3 with 4, but 2 and 4 differ on a return: that guess is undone.
 pub fn one_undone() -> Table {
     Table {
+        version: 1,
         symbols: vec![0, 0, 1, 1, 2],
         states: vec![1, 1, 0, 0, 0, 2],
         internals: vec![[0, 0, 2], [0, 1, 3], [1, 0, 3], [1, 1, 4]],
@@ -199,6 +219,7 @@ pub fn one_undone() -> Table {
 /// Joining 0 and 1 joins 2 with 3 or with 4, either joins 5 with 6 and 6 with 7, but 5 and 7 differ on a return: two guesses are undone in a row.
 pub fn two_undone() -> Table {
     Table {
+        version: 1,
         symbols: vec![0, 0, 0, 1, 1, 2],
         states: vec![1, 1, 0, 0, 0, 0, 0, 0],
         internals: vec![[0, 0, 2], [0, 0, 3], [0, 0, 4], [1, 0, 3], [1, 0, 4], [2, 1, 5], [2, 2, 6], [3, 1, 6], [3, 2, 7], [4, 1, 6], [4, 2, 7]],
@@ -209,7 +230,7 @@ pub fn two_undone() -> Table {
 
 /// No symbols, and these states.
 pub fn silent(states: &[u8]) -> Table {
-    Table { symbols: vec![], states: states.to_vec(), internals: vec![], calls: vec![], returns: vec![] }
+    Table { version: 1, symbols: vec![], states: states.to_vec(), internals: vec![], calls: vec![], returns: vec![] }
 }
 
 /// One pigeon more than holes, where variable 0 is true: the search guesses it, undoes thousands of guesses, and finds it false.

@@ -47,7 +47,7 @@ pub fn table(r: &mut Random, n: usize, one: bool) -> Table {
         states[q] |= 1;
     }
     let density = 1 + r.below(if one { 60 } else { 30 });
-    let mut t = Table { symbols, states, internals: vec![], calls: vec![], returns: vec![] };
+    let mut t = Table { version: 1, symbols, states, internals: vec![], calls: vec![], returns: vec![] };
     let kinds = t.symbols.clone();
     for q in 0..n as u8 {
         for (a, &kind) in kinds.iter().enumerate() {
@@ -79,7 +79,7 @@ pub fn blown_up(r: &mut Random, n: usize, one: bool) -> Table {
     let of: Vec<u8> = (0..n).map(|q| if q < m { q as u8 } else { r.below(m) as u8 }).collect();
     let copies = |p: u8| -> Vec<u8> { (0..n as u8).filter(|&q| of[q as usize] == p).collect() };
     let states = (0..n).map(|q| small.states[of[q] as usize]).collect();
-    let mut t = Table { symbols: small.symbols.clone(), states, internals: vec![], calls: vec![], returns: vec![] };
+    let mut t = Table { version: 1, symbols: small.symbols.clone(), states, internals: vec![], calls: vec![], returns: vec![] };
     let (mut internals, mut calls, mut returns) = (BTreeSet::new(), BTreeSet::new(), BTreeSet::new());
     for x in &small.internals {
         for p in copies(x[0]) {
@@ -121,6 +121,21 @@ pub fn with_unreachable(r: &mut Random, t: &Table, more: usize) -> Table {
         t.internals.extend(internals.into_iter().collect::<BTreeSet<_>>());
         t.calls.extend(calls.into_iter().collect::<BTreeSet<_>>());
         t.returns.extend(returns.into_iter().collect::<BTreeSet<_>>());
+    }
+    t
+}
+
+/// The table in version 2, with marks: none, some that follow the states' own bytes, so that merging succeeds, or any.
+pub fn marked(r: &mut Random, t: &Table) -> Table {
+    let mut t = Table { version: 2, ..t.clone() };
+    let kind = r.below(3);
+    let by_byte: Vec<u8> = (0..4).map(|_| r.below(16) as u8).collect();
+    for x in &mut t.states {
+        *x += 4 * match kind {
+            0 => 0,
+            1 => by_byte[(*x & 2) as usize],
+            _ => [0, 1, 15, r.below(16) as u8][r.below(4)],
+        };
     }
     t
 }

@@ -26,6 +26,7 @@ impl Limits {
 /// A table as the file holds it.
 #[derive(Clone, Debug, PartialEq, Eq)]
 pub struct Table {
+    pub version: u16,
     pub symbols: Vec<u8>,
     pub states: Vec<u8>,
     pub internals: Vec<[u8; 3]>,
@@ -49,7 +50,12 @@ impl Table {
         self.states[q] & 2 != 0
     }
 
-    /// The file: five sections one behind the other, then the distances and version 1.
+    /// A state's mark; version 1 means mark 0 throughout.
+    pub fn mark(&self, q: usize) -> u8 {
+        self.states[q] / 4
+    }
+
+    /// The file: five sections one behind the other, then the distances and the version.
     pub fn bytes(&self) -> Vec<u8> {
         let mut out = Vec::new();
         let mut starts = Vec::new();
@@ -67,7 +73,7 @@ impl Table {
         for s in starts {
             out.extend_from_slice(&((trailer - s) as u16).to_le_bytes());
         }
-        out.extend_from_slice(&1u16.to_le_bytes());
+        out.extend_from_slice(&self.version.to_le_bytes());
         out
     }
 }
@@ -91,7 +97,7 @@ fn fault(l: Limits, table: &Table) -> Option<u8> {
     if table.internals.len() > 1024 || table.calls.len() > 1024 || table.returns.len() > 4096 {
         return Some(4);
     }
-    if table.symbols.iter().any(|&x| x > 2) || table.states.iter().any(|&x| x > 3) {
+    if table.symbols.iter().any(|&x| x > 2) || table.states.iter().any(|&x| x > if table.version == 1 { 3 } else { 63 }) {
         return Some(5);
     }
     if !(0..n).any(|q| table.initial(q)) {
@@ -122,7 +128,8 @@ pub fn parse(l: Limits, b: &[u8]) -> Result<(Table, [usize; 5]), u8> {
     }
     let t = b.len() - 12;
     let word = |i: usize| u16::from_le_bytes([b[t + 2 * i], b[t + 2 * i + 1]]) as usize;
-    if word(5) != 1 {
+    let version = word(5) as u16;
+    if version != 1 && version != 2 {
         return Err(2);
     }
     let d: Vec<usize> = (0..5).map(word).collect();
@@ -134,6 +141,7 @@ pub fn parse(l: Limits, b: &[u8]) -> Result<(Table, [usize; 5]), u8> {
     }
     let at: Vec<usize> = d.iter().map(|x| t - x).collect();
     let table = Table {
+        version,
         symbols: b[at[0]..at[1]].to_vec(),
         states: b[at[1]..at[2]].to_vec(),
         internals: triples(&b[at[2]..at[3]]),
@@ -235,11 +243,11 @@ fn push(list: &mut Vec<Vec<u16>>, literals: Vec<u16>) {
     list.push(clause);
 }
 
-/// Group 1: pairs of which exactly one state is accepting.
+/// Group 1: pairs that differ in accepting or in their mark.
 fn look_clauses(t: &Table, list: &mut Vec<Vec<u16>>) {
     for q in 0..t.count() {
         for p in 0..q {
-            if t.accepting(p) != t.accepting(q) {
+            if t.accepting(p) != t.accepting(q) || t.mark(p) != t.mark(q) {
                 list.push(vec![no(p, q)]);
             }
         }
@@ -521,7 +529,7 @@ pub fn broken(t: &Table, map: &[u8]) -> Option<u8> {
     let tops = top_sets(t);
     let joined = |p: usize, q: usize| map[p] == map[q];
     let pairs: Vec<(usize, usize)> = (0..n).flat_map(|p| (0..n).map(move |q| (p, q))).filter(|&(p, q)| joined(p, q)).collect();
-    if pairs.iter().any(|&(p, q)| t.accepting(p) != t.accepting(q)) {
+    if pairs.iter().any(|&(p, q)| t.accepting(p) != t.accepting(q) || t.mark(p) != t.mark(q)) {
         return Some(17);
     }
     for (number, records) in [(18, &t.internals), (19, &t.calls)] {
@@ -586,6 +594,7 @@ pub fn quotient_table(t: &Table, map: &[u8]) -> Table {
         .map(|r| [m(r[0]), r[1], m(r[2]), m(r[3])])
         .collect();
     Table {
+        version: t.version,
         symbols: t.symbols.clone(),
         states,
         internals: internals.into_iter().collect(),
@@ -720,6 +729,12 @@ fn starts(t: &Table) -> BTreeSet<Configuration> {
 pub fn accepts(t: &Table, word: &[u8]) -> bool {
     let last = word.iter().fold(starts(t), |now, &a| now.iter().flat_map(|c| steps(t, c, a)).collect());
     last.iter().any(|(q, stack)| stack.is_empty() && t.accepting(*q as usize))
+}
+
+/// The marks of the states, accepting or not, in which runs over the whole word end on the empty stack.
+pub fn end_marks(t: &Table, word: &[u8]) -> BTreeSet<u8> {
+    let last = word.iter().fold(starts(t), |now, &a| now.iter().flat_map(|c| steps(t, c, a)).collect());
+    last.iter().filter(|(_, stack)| stack.is_empty()).map(|(q, _)| t.mark(*q as usize)).collect()
 }
 
 /// Every run over the whole word, configuration by configuration, accepted or not.

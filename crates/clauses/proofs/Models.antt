@@ -10,7 +10,7 @@ use Rattle.limits.specs.declared.Limits.{Limits}
 use Rattle.table.specs.File.{Table}
 use Rattle.table.specs.Reading.{WellFormed}
 use Rattle.table.specs.Language.{count, automaton}
-use Rattle.table.proofs.Facts.{internals-fit, calls-fit, returns-fit, look-accepting, accepting-look}
+use Rattle.table.proofs.Facts.{internals-fit, calls-fit, returns-fit, look-accepting, look-mark, agreed-look}
 use Rattle.tops.proofs.Formed.{told, reachable?}
 use Rattle.clauses.specs.Clauses.{lookClauses, transitivity, moveClauses, clauseList}
 use Rattle.clauses.proofs.Tidy.{Satisfied}
@@ -41,7 +41,8 @@ module _ (L : Limits) (t : Table) (wf : WellFormed L t) (v : List ℕ) (full : A
       let h3 = satisfied-left v three _ h4 in
       let h2 = satisfied-left v two _ h3 in
       record {
-        accepting = λ {p} {q} r. look-accepting wf p q (looks-of t v full (satisfied-left v one _ h2) p q r);
+        accepting = λ {p} {q} r. look-accepting t p q (looks-of t v full (satisfied-left v one _ h2) p q r);
+        marks = λ {p} {q} r. look-mark t p q (r .right) (looks-of t v full (satisfied-left v one _ h2) p q r);
         internals = λ {p} {q} {p'} {a} r k. moves-of t v full 0 (t .internals) (internals-fit wf) (satisfied-right v two _ h3) p q p' a r k;
         calls = λ {p} {q} {p'} {a} r k. moves-of t v full 1 (t .calls) (calls-fit wf) (satisfied-right v three _ h4) p q p' a r k;
         returns = λ {p} {q} {s} {u} {p'} {a} r z tp tq k. returns-of t v full (returns-fit wf) (satisfied-right v four _ h) p q s u p' a r z (told wf p s (z .left) .1 tp) (told wf q u (z .right) .1 tq) k;
@@ -53,7 +54,7 @@ module _ (L : Limits) (t : Table) (wf : WellFormed L t) (v : List ℕ) (full : A
       satisfied-both v four _
       (satisfied-both v three _
       (satisfied-both v two _
-      (satisfied-both v one _ (looks-satisfied t v full (λ p q r. accepting-look wf p q (agree p q r))) (transitive-satisfied t v full trans))
+      (satisfied-both v one _ (looks-satisfied t v full (λ p q r. agreed-look t p q (r .left) (agree p q r) (λ k. h .marks r))) (transitive-satisfied t v full trans))
       (moves-satisfied t v full 0 (t .internals) (internals-fit wf) (λ p q p' a r k. h .internals r k)))
       (moves-satisfied t v full 1 (t .calls) (calls-fit wf) (λ p q p' a r k. h .calls r k)))
       (returns-satisfied t v full (returns-fit wf) (λ p q s u p' a r z hp hq k. h .returns r z (told wf p s (z .left) .0 hp) (told wf q u (z .right) .0 hq) k))

@@ -29,7 +29,7 @@ once before (l ∷ ls) = elim (mem l before) [ true ↦ once before ls | false �
 unfoldable pub tidy : List ℕ → List (List ℕ)
 tidy ls = elim (any (λ l. mem (opposite l) ls) ls) [ true ↦ [] | false ↦ once [] ls ∷ [] ]
 
--- 1. 'By ascending variable: "false" where exactly one state is accepting.'
+-- 1. 'By ascending variable: "false" where exactly one state is accepting.' Request (v): or where their marks differ
 unfoldable pub lookClauses : Table → List (List ℕ)
 lookClauses t = gather (λ q. gather (λ p. elim (eqb (look (byteOf t p)) (look (byteOf t q))) [ true ↦ [] | false ↦ (apart p q ∷ []) ∷ [] ]) (upto q)) (upto (count t))
 

@@ -88,7 +88,7 @@ emit (c ∷ cs) s = emit cs (emitOne c s)
 
 -- a table of which only the states are looked at
 abbrev pub statesOnly : List ℕ → Table
-statesOnly states = record { symbols = []; states = states; internals = []; calls = []; returns = [] }
+statesOnly states = record { version = 0; symbols = []; states = states; internals = []; calls = []; returns = [] }
 
 -- group 1, for p below q
 unfoldable pub lookClause : Table → ℕ → ℕ → List (List ℕ)

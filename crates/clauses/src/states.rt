@@ -27,7 +27,7 @@ fn wide(x: u8) -> usize
     x as usize
 }
 
-// The clause of a variable: "false" where exactly one of its states is accepting.
+// The clause of a variable: "false" where exactly one of its states is accepting, or their marks differ.
 fn look_apart(states: &[u8], table: &[u16], v: u16, tally: Tally, list: &mut [u16]) -> Tally
     requires { ⌜ (length (now states) ≤ stateMost) × PairTable (now table) × (v < pairs (length (now states))) × Ordered tally ⌝ }
     ensures { λ r. ⌜ state r (now (list .exit)) ≡ emit (lookClause (statesOnly (now (states .entry))) (pairOf v .low) (pairOf v .high)) (state tally (now (list .entry))) ⌝ }

@@ -16,7 +16,7 @@ use Rattle.table.specs.File.{Table}
 use Rattle.table.specs.Reading.{WellFormed}
 use Rattle.table.specs.Language.{count, byteOf, look, targets, automaton}
 use Rattle.table.specs.Maps.{classOf, joins, JoinedBy}
-use Rattle.table.proofs.Facts.{Fit, internals-fit, calls-fit, returns-fit, three-bytes, four-bytes, targets-mem, mem-targets, look-accepting, accepting-look}
+use Rattle.table.proofs.Facts.{Fit, internals-fit, calls-fit, returns-fit, three-bytes, four-bytes, targets-mem, mem-targets, look-accepting, look-mark, agreed-look}
 use Rattle.tops.specs.Tops.{topWords}
 use Rattle.tops.proofs.Formed.{told}
 use Rattle.maps.specs.Check.{looksAgree, moveMatched, movesMatched, returnMatched, returnsMatched}
@@ -119,7 +119,8 @@ pub record Passed (t : Table) (m : List ℕ) : Type 0 where
 module _ (L : Limits) (t : Table) (wf : WellFormed L t) (m : List ℕ) where
   pub passed-matched : Passed t m → Matched (automaton t) (JoinedBy t m)
   passed-matched h = record {
-    accepting = λ {p} {q} j. look-accepting wf p q (looks-true t m (h .looks) p q j);
+    accepting = λ {p} {q} j. look-accepting t p q (looks-true t m (h .looks) p q j);
+    marks = λ {p} {q} j. look-mark t p q (j .right) (looks-true t m (h .looks) p q j);
     internals = λ {p} {q} {p'} {a} j k. moves-true t m 0 (t .internals) (internals-fit wf) (h .internals) p q p' a j k;
     calls = λ {p} {q} {p'} {a} j k. moves-true t m 1 (t .calls) (calls-fit wf) (h .calls) p q p' a j k;
     returns = λ {p} {q} {s} {u} {p'} {a} j i tp tq k. returns-true t m (topWords t) (t .returns) (returns-fit wf) (h .returns) p q s u p' a j i (told wf p s (i .left) .1 tp) (told wf q u (i .right) .1 tq) k;
@@ -127,7 +128,7 @@ module _ (L : Limits) (t : Table) (wf : WellFormed L t) (m : List ℕ) where
 
   pub matched-passed : ((p q : ℕ) → JoinedBy t m p q → automaton t .accepting p ↔ automaton t .accepting q) → Matched (automaton t) (JoinedBy t m) → Passed t m
   matched-passed agree h = record {
-    looks = looks-test t m (λ p q j. accepting-look wf p q (agree p q j));
+    looks = looks-test t m (λ p q j. agreed-look t p q (j .left) (agree p q j) (λ k. h .marks j));
     internals = moves-test t m 0 (t .internals) (internals-fit wf) (λ p q p' a j k. h .internals j k);
     calls = moves-test t m 1 (t .calls) (calls-fit wf) (λ p q p' a j k. h .calls j k);
     returns = returns-test t m (topWords t) (t .returns) (returns-fit wf) (λ p q s u p' a j i hp hq k. h .returns j i (told wf p s (i .left) .0 hp) (told wf q u (i .right) .0 hq) k);

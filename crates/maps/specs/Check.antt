@@ -15,7 +15,7 @@ use Rattle.tops.specs.Tops.{topWords}
 use Rattle.maps.specs.declared.Checked.{Checked}
 use Rattle.maps.specs.declared.Checked.the-variants.{Accepted, Refused}
 
--- (i) "joined states agree on accepting"
+-- (i) "joined states agree on accepting"; request (v): "on mark and accepting"
 unfoldable pub looksAgree : Table → List ℕ → Bool
 looksAgree t m = all (λ p. all (λ q. not (joins m p q) || eqb (look (byteOf t p)) (look (byteOf t q))) (upto (count t))) (upto (count t))
 

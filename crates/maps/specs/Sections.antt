@@ -18,7 +18,7 @@ use Rattle.maps.specs.Check.{looksAgree, moveMatched, returnMatched}
 
 -- a table with these states
 abbrev pub ofStates : List ℕ → Table
-ofStates states = record { symbols = []; states = states; internals = []; calls = []; returns = [] }
+ofStates states = record { version = 0; symbols = []; states = states; internals = []; calls = []; returns = [] }
 
 -- (i) for one state: those joined to it agree with it
 abbrev pub agreesAt : List ℕ → List ℕ → ℕ → Bool

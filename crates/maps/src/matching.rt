@@ -72,7 +72,7 @@ fn agrees(states: &[u8], map: &[u8], p: usize) -> bool
     true
 }
 
-// (i) "joined states agree on accepting"
+// (i) "joined states agree on mark and accepting".
 pub(crate) fn looks_agree(states: &[u8], map: &[u8]) -> bool
     ensures { λ r. ⌜ r ≡ looksAgree (ofStates (now (states .entry))) (now (map .entry)) ⌝ }
 {

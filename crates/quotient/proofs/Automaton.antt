@@ -1,6 +1,6 @@
 -- The automaton of the quotient's table is the quotient of the automaton, relation by relation (document 01: "Its records are the images of
 -- internals, calls and live returns"). Assumes nothing.
-use mathlib.Core.Path.{_≡_, refl, ap, _∙_}
+use mathlib.Core.Path.{_≡_, refl, sym, ap, _∙_}
 use mathlib.Core.Logic.{_↔_}
 use mathlib.Core.Bool.{true}
 use mathlib.Core.List.{List, [], _∷_, List·Memᴰ, Memᴰ·cast}
@@ -13,15 +13,15 @@ use Rattle.lists.proofs.Members.{keep-mem, keep-of}
 use Rattle.vpa.specs.Automata.{Tops}
 use Rattle.vpa.specs.Quotients.{quotient}
 use Rattle.table.specs.File.{Table}
-use Rattle.table.specs.Language.{count, byteOf, automaton}
-use Rattle.table.specs.Maps.{classOf, classes, numbered}
+use Rattle.table.specs.Language.{count, byteOf, markOf, automaton}
+use Rattle.table.specs.Maps.{classOf, JoinedBy, classes, numbered}
 use Rattle.table.proofs.Passed.{Wide}
 use Rattle.tops.specs.Tops.{topWords, live, liveReturns}
 use Rattle.maps.proofs.Numbered.{class-below}
-use Rattle.quotient.specs.Quotient.{image, images, quotientTable}
+use Rattle.quotient.specs.Quotient.{image, images, classMark, quotientTable}
 use Rattle.quotient.proofs.Image.{images-mem, image-move, image-return}
 use Rattle.quotient.proofs.Classes.{class-member}
-use Rattle.quotient.proofs.States.{Has, count-classes, class-initial, class-accepting}
+use Rattle.quotient.proofs.States.{Has, members-mark, count-classes, class-initial, class-accepting, class-mark}
 
 -- "A return record is live when its stack state is in tops of its state", by runs
 abbrev pub LiveExact : Table → Type 0
@@ -81,6 +81,24 @@ module _ (t : Table) (m : List ℕ) (w : Wide t) (n : length m ≡ count t) (k :
   pub quotient-accepting : (c : ℕ) → automaton (quotientTable t m) .accepting c ↔ quotient (automaton t) (classOf m) .accepting c
   unfolding quotient
   quotient-accepting = has-bit t m n (λ b. b / 2 % 2) refl (class-accepting t m)
+
+  -- "the members' mark": the classes' marks are the members', where joined states have one mark
+  pub quotient-mark : ((p q j : ℕ) → JoinedBy t m p q → automaton t .mark p j ↔ automaton t .mark q j) → (c j : ℕ) → automaton (quotientTable t m) .mark c j ↔ quotient (automaton t) (classOf m) .mark c j
+  unfolding quotient
+  quotient-mark alike c j = (
+    λ (l, e).
+        let b : c < classes m = omega (arith, count-classes t m) in
+        let s = class-member m k c b in
+        let r : s .state < count t = omega (arith, s .within) in
+        (s .state, s .class, (r, sym (one (s .state) r (s .class)) ∙ sym (class-mark t m c b) ∙ e)),
+    λ (p, f, o).
+        let l : p < length m = omega (arith, o .0) in
+        let b : c < classes m = rw f at (class-below m p l) in
+        (omega (arith, count-classes t m, b), class-mark t m c b ∙ one p (o .0) f ∙ o .1),
+  )
+    where
+      one : (p : ℕ) → p < count t → classOf m p ≡ c → classMark t m c ≡ markOf (byteOf t p)
+      one p l f = members-mark t m c p l f (λ q h g. alike p q _ (record { left = l; right = h; classes = f ∙ sym g }) .0 (l, refl) .1)
 
   -- a section of moves
   moves : (rs : List (List ℕ)) → ((r : List ℕ) → List·Memᴰ r rs → length r ≡ 3) → (P a Q : ℕ)

@@ -5,18 +5,21 @@ use mathlib.Core.List.{List}
 use Prim.Native.Nat.{ℕ, _+_, _*_, _/_, _%_, _<_, _≤_}
 use native.Mathlib.Nat.{div-one}
 use native.Mathlib.Omega.{arith}
-use lib.ListN.{length, getD, length-map}
+use lib.ListN.{length, getD, drop, length-map}
 use lib.Dec.{eqb}
 use borrow.Author.Tests.{eq-eqb, ne-eqb}
 use Rattle.lists.specs.Lists.{any, upto}
 use Rattle.lists.proofs.Members.{getD-map, length-upto, getD-upto}
-use Rattle.lists.proofs.Upto.{Counting, counting, any-passed, any-found, any-done}
+use Rattle.lists.proofs.Upto.{Counting, counting, upto-on, upto-end, any-passed, any-found, any-done}
 use Rattle.table.specs.File.{Table}
 use Rattle.table.specs.Reading.{isInitial, isAccepting}
+use Rattle.table.specs.Language.{markOf}
 use Rattle.table.specs.Maps.{classOf}
+use Rattle.table.proofs.Bytes.{Bytes}
 use Rattle.maps.specs.Sections.{ofStates}
-use Rattle.quotient.specs.Quotient.{memberHas, bitOf, classByte}
+use Rattle.quotient.specs.Quotient.{memberHas, bitOf, markAmong, classMark, classByte}
 use Rattle.quotient.specs.Sections.{flagged, classBytes}
+use Rattle.quotient.proofs.States.{mark-here, mark-on, mark-most}
 
 -- ---- members
 
@@ -43,12 +46,35 @@ pub member-none : {flag : ℕ} {states m : List ℕ} {c q : ℕ} → Seeing flag
 unfolding memberHas
 member-none w h = any-done _ (w .rest) h
 
--- ---- one class
+-- ---- the members' mark
 
-pub bit-small : (b : Bool) → bitOf b ≤ 1
-unfolding bitOf
-bit-small true = omega arith
-bit-small false = omega arith
+-- no state before q is a member
+pub record Marking (states m : List ℕ) (c q : ℕ) : Type 0 where
+  pub inside : q ≤ length states
+  pub meets : classMark (ofStates states) m c ≡ markAmong states m c (drop q (upto (length states)))
+
+pub marking : (states m : List ℕ) (c : ℕ) → Marking states m c 0
+unfolding classMark
+marking states m c = record { inside = omega arith; meets = refl }
+
+module _ {states m : List ℕ} {c q : ℕ} (w : Marking states m c q) where
+  pub mark-passed : {p : ℕ} → q < length states → p ≡ classOf m q → (p ≡ c → ⊥) → Marking states m c (q + 1)
+  mark-passed h d n = record { inside = omega arith; meets = w .meets ∙ ap (markAmong states m c) (upto-on (length states) q h) ∙ mark-on (ofStates states) m c q _ (ne-eqb (classOf m q) c (λ e. n (d ∙ e))) }
+
+  pub mark-found : {p : ℕ} → q < length states → p ≡ classOf m q → p ≡ c → getD states q 0 / 4 ≡ classMark (ofStates states) m c
+  unfolding markOf
+  mark-found h d e = sym (w .meets ∙ ap (markAmong states m c) (upto-on (length states) q h) ∙ mark-here (ofStates states) m c q _ (eq-eqb (classOf m q) c (sym d ∙ e)))
+
+  pub mark-none : length states ≤ q → 0 ≡ classMark (ofStates states) m c
+  unfolding markAmong
+  mark-none h = sym (w .meets ∙ ap (markAmong states m c) (upto-end (length states) q h))
+
+-- it is a quarter of a byte
+pub mark-small : (states m : List ℕ) (c : ℕ) → Bytes states → classMark (ofStates states) m c ≤ 63
+unfolding markOf
+mark-small states m c h = mark-most (ofStates states) m c 63 (λ q. omega (arith, h q))
+
+-- ---- one class
 
 module _ (t : Table) (m : List ℕ) (c : ℕ) where
   initially : memberHas (flagged 1) t m c ≡ memberHas isInitial t m c
@@ -59,9 +85,9 @@ module _ (t : Table) (m : List ℕ) (c : ℕ) where
   unfolding flagged isAccepting
   finally = refl
 
-  pub byte-made : {x y : Bool} {i a : ℕ} → x ≡ memberHas (flagged 1) t m c → i ≡ bitOf x → y ≡ memberHas (flagged 2) t m c → a ≡ bitOf y → i + 2 * a ≡ classByte t m c
+  pub byte-made : {x y : Bool} {i a : ℕ} → x ≡ memberHas (flagged 1) t m c → i ≡ bitOf x → y ≡ memberHas (flagged 2) t m c → a ≡ bitOf y → {k : ℕ} → k ≡ classMark t m c → i + 2 * a + 4 * k ≡ classByte t m c
   unfolding classByte
-  byte-made d e f g = λ j. (e ∙ ap bitOf (d ∙ initially)) j + 2 * (g ∙ ap bitOf (f ∙ finally)) j
+  byte-made d e f g h = λ j. (e ∙ ap bitOf (d ∙ initially)) j + 2 * (g ∙ ap bitOf (f ∙ finally)) j + 4 * h j
 
 -- ---- all of them
 

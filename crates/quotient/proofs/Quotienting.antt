@@ -15,21 +15,21 @@ use Rattle.lists.proofs.Counts.{keep-le}
 use Rattle.limits.specs.declared.Limits.{Limits}
 use Rattle.limits.specs.Limits.{symbolMost}
 use Rattle.limits.proofs.Within.{limits-within}
-use Rattle.table.specs.File.{Table, trailer, records, tableOf, bytesOf}
+use Rattle.table.specs.File.{Table, trailer, version, records, tableOf, bytesOf}
 use Rattle.table.specs.Maps.{classes}
 use Rattle.table.specs.Sections.{partOf}
 use Rattle.table.specs.declared.Starts.{Starts}
 use Rattle.table.specs.declared.view.Section.{Section}
 use Rattle.table.specs.declared.view.Section.the-variants.{Symbols, States, Internals, Calls, Returns}
-use Rattle.table.proofs.Passed.{formed-tested}
+use Rattle.table.proofs.Passed.{read-passed, formed-tested}
 use Rattle.table.proofs.Bytes.{Bytes, records-wide, read-well-formed}
 use Rattle.table.proofs.Parts.{symbols-read, states-read, internals-read, calls-read, returns-read}
 use Rattle.tops.specs.Tops.{live, liveReturns}
 use Rattle.maps.specs.Check.{checkNumber}
 use Rattle.maps.specs.Sections.{ofStates, kept, Known}
 use Rattle.maps.proofs.Matched.{move-kept, return-kept}
-use Rattle.quotient.specs.Quotient.{image, images, memberHas, classByte, quotientTable, quotientBytes, quotientNumber, QuotientDone, quotientOf}
-use Rattle.quotient.specs.Demands.{WritesQuotient, WritesSameWords, WritesNoneOpen, WritesSteps}
+use Rattle.quotient.specs.Quotient.{image, images, memberHas, classMark, classByte, quotientTable, quotientBytes, quotientNumber, QuotientDone, quotientOf}
+use Rattle.quotient.specs.Demands.{WritesQuotient, WritesSameWords, WritesSameMarks, WritesNoneOpen, WritesSteps}
 use Rattle.table.specs.Keys.{key}
 use Rattle.table.proofs.Keys.{part-bytes}
 use Rattle.quotient.specs.Keys.{lastBytes, Holds}
@@ -37,7 +37,7 @@ use Rattle.quotient.specs.Sections.{classBytes, keyedTable, Sized, image
 use Rattle.quotient.specs.declared.Written.{Written}
 use Rattle.quotient.specs.declared.Written.the-variants.{Length, Refused}
 use Rattle.quotient.proofs.Image.{images-mem, images-length, image-length}
-use Rattle.quotient.proofs.Theorems.{writes-quotient, writes-same-words, writes-none-open, writes-steps}
+use Rattle.quotient.proofs.Theorems.{writes-quotient, writes-same-words, writes-same-marks, writes-none-open, writes-steps}
 use Rattle.quotient.proofs.ClassBytes.{length-bytes}
 use Rattle.quotient.proofs.Keys.{Same, last-key}
 use Rattle.quotient.proofs.Collecting.{image-bytes}
@@ -68,7 +68,7 @@ pub record Few (y : List ℕ) (k a b d : ℕ) : Type 0 where
   pub calls : b ≤ 1024
   pub returns : d ≤ 4096
 
-module _ (y s i c r f m : List ℕ) {k a b d : ℕ} {ks ls ms : List ℕ} (e : k ≡ classes m) (h : Holds ks a (imageKeys 3 i f m)) (l : Holds ls b (imageKeys 3 c f m)) (g : Holds ms d (imageKeys 4 r f m)) where
+module _ (v : ℕ) (y s i c r f m : List ℕ) {k a b d : ℕ} {ks ls ms : List ℕ} (e : k ≡ classes m) (h : Holds ks a (imageKeys 3 i f m)) (l : Holds ls b (imageKeys 3 c f m)) (g : Holds ms d (imageKeys 4 r f m)) where
   pub counts-few : Sized y i c r → Bytes m → Few y k a b d
   counts-few z q = record {
     symbols = z .symbols-few;
@@ -79,24 +79,24 @@ module _ (y s i c r f m : List ℕ) {k a b d : ℕ} {ks ls ms : List ℕ} (e : k
   }
 
   -- the table that is written
-  same-bytes : bytesOf (keyedTable y (classBytes (ofStates s) m k) (take a ks) (take b ls) (take d ms)) ≡ bytesOf (partedQuotient y s i c r f m)
-  same-bytes = λ j. bytesOf (keyedTable y (classBytes (ofStates s) m (e j)) (h .same j) (l .same j) (g .same j))
+  same-bytes : bytesOf (keyedTable v y (classBytes (ofStates s) m k) (take a ks) (take b ls) (take d ms)) ≡ bytesOf (partedQuotient v y s i c r f m)
+  same-bytes = λ j. bytesOf (keyedTable v y (classBytes (ofStates s) m (e j)) (h .same j) (l .same j) (g .same j))
 
-  whole : length (bytesOf (partedQuotient y s i c r f m)) ≡ length y + k + 3 * a + 3 * b + 4 * d + 12
-  whole = omega (arith, bytes-long y (classBytes (ofStates s) m (classes m)) (imageKeys 3 i f m) (imageKeys 3 c f m) (imageKeys 4 r f m), length-bytes (ofStates s) m (classes m), e, h .count, l .count, g .count)
+  whole : length (bytesOf (partedQuotient v y s i c r f m)) ≡ length y + k + 3 * a + 3 * b + 4 * d + 12
+  whole = omega (arith, bytes-long v y (classBytes (ofStates s) m (classes m)) (imageKeys 3 i f m) (imageKeys 3 c f m) (imageKeys 4 r f m), length-bytes (ofStates s) m (classes m), e, h .count, l .count, g .count)
 
   module _ (out : List ℕ) where
-    pub fits : length y + k + 3 * a + 3 * b + 4 * d + 12 ≤ length out → length (bytesOf (keyedTable y (classBytes (ofStates s) m k) (take a ks) (take b ls) (take d ms))) ≤ length out
+    pub fits : length y + k + 3 * a + 3 * b + 4 * d + 12 ≤ length out → length (bytesOf (keyedTable v y (classBytes (ofStates s) m k) (take a ks) (take b ls) (take d ms))) ≤ length out
     fits n = omega (arith, ap length same-bytes, whole)
 
-    pub short : length out < length y + k + 3 * a + 3 * b + 4 * d + 12 → record { answer = Refused 21; out = out } ≡ writtenFor (bytesOf (partedQuotient y s i c r f m)) out
+    pub short : length out < length y + k + 3 * a + 3 * b + 4 * d + 12 → record { answer = Refused 21; out = out } ≡ writtenFor (bytesOf (partedQuotient v y s i c r f m)) out
     unfolding writtenFor
-    short n = sym (rw (lt-leb (length (bytesOf (partedQuotient y s i c r f m))) (length out) (omega (arith, whole)), writtenFor))
+    short n = sym (rw (lt-leb (length (bytesOf (partedQuotient v y s i c r f m))) (length out) (omega (arith, whole)), writtenFor))
 
-    pub put : {out' : List ℕ} → length y + k + 3 * a + 3 * b + 4 * d + 12 ≤ length out → out' ≡ over (bytesOf (keyedTable y (classBytes (ofStates s) m k) (take a ks) (take b ls) (take d ms))) out
-        → record { answer = Length (length y + k + 3 * a + 3 * b + 4 * d + 12); out = out' } ≡ writtenFor (bytesOf (partedQuotient y s i c r f m)) out
+    pub put : {out' : List ℕ} → length y + k + 3 * a + 3 * b + 4 * d + 12 ≤ length out → out' ≡ over (bytesOf (keyedTable v y (classBytes (ofStates s) m k) (take a ks) (take b ls) (take d ms))) out
+        → record { answer = Length (length y + k + 3 * a + 3 * b + 4 * d + 12); out = out' } ≡ writtenFor (bytesOf (partedQuotient v y s i c r f m)) out
     unfolding writtenFor
-    put {out'} n p = sym (rw (le-leb (length (bytesOf (partedQuotient y s i c r f m))) (length out) (omega (arith, whole)), writtenFor) (λ j. record { answer = Length (whole j); out = sym (p ∙ ap (λ x. over x out) same-bytes) j }))
+    put {out'} n p = sym (rw (le-leb (length (bytesOf (partedQuotient v y s i c r f m))) (length out) (omega (arith, whole)), writtenFor) (λ j. record { answer = Length (whole j); out = sym (p ∙ ap (λ x. over x out) same-bytes) j }))
 
 -- ---- the keys of images give the images back
 
@@ -171,6 +171,9 @@ section-bytes b s Internals h = rest-bytes (s .internals) (take (s .calls) b) (p
 section-bytes b s Calls h = rest-bytes (s .calls) (take (s .returns) b) (part-bytes b h 0 (s .returns))
 section-bytes b s Returns h = rest-bytes (s .returns) (take (trailer b) b) (part-bytes b h 0 (trailer b))
 
+pub known-long : {b f : List ℕ} {s : Starts} → Known b s f → 12 ≤ length b
+known-long {b} k = read-passed (k .limits) b (k .read .readable) .long
+
 module _ {b f : List ℕ} {s : Starts} (k : Known b s f) {symbols states internals calls returns : List ℕ}
     (e0 : symbols ≡ partOf b s Symbols) (e1 : states ≡ partOf b s States) (e2 : internals ≡ partOf b s Internals) (e3 : calls ≡ partOf b s Calls) (e4 : returns ≡ partOf b s Returns) where
   pub known-sized : Sized symbols internals calls returns
@@ -198,12 +201,13 @@ module _ {b f : List ℕ} {s : Starts} (k : Known b s f) {symbols states interna
         ∙ ap (images m) (returns-kept returns f ∙ λ j. keep (live (k .words j)) (returns-read (k .read) e4 j))
 
     states-again : classBytes (ofStates states) m (classes m) ≡ map (classByte (tableOf b) m) (upto (classes m))
-    unfolding classByte memberHas
+    unfolding classByte memberHas classMark
     states-again = ap (λ x. classBytes (ofStates x) m (classes m)) (states-read (k .read) e1)
 
-    pub parted-quotient : partedQuotient symbols states internals calls returns f m ≡ quotientTable (tableOf b) m
-    unfolding quotientTable
+    pub parted-quotient : partedQuotient (version b) symbols states internals calls returns f m ≡ quotientTable (tableOf b) m
+    unfolding quotientTable tableOf
     parted-quotient = λ j. record {
+      version = version b;
       symbols = symbols-read (k .read) e0 j;
       states = states-again j;
       internals = (moves-again internals (bytes Internals e2) ∙ ap (images m) (internals-read (k .read) e2)) j;
@@ -211,9 +215,9 @@ module _ {b f : List ℕ} {s : Starts} (k : Known b s f) {symbols states interna
       returns = returns-again j;
     }
 
-    pub written-read : (out : List ℕ) → writtenFor (bytesOf (partedQuotient symbols states internals calls returns f m)) out ≡ writtenFor (quotientBytes b m) out
+    pub written-read : {v : ℕ} → v ≡ version b → (out : List ℕ) → writtenFor (bytesOf (partedQuotient v symbols states internals calls returns f m)) out ≡ writtenFor (quotientBytes b m) out
     unfolding quotientBytes
-    written-read out = ap (λ (t : Table). writtenFor (bytesOf t) out) parted-quotient
+    written-read {v} e out = ap (λ x. writtenFor (bytesOf (partedQuotient x symbols states internals calls returns f m)) out) e ∙ ap (λ (t : Table). writtenFor (bytesOf t) out) parted-quotient
 
 -- ---- the answer
 
@@ -237,10 +241,10 @@ module _ (L : Limits) (b m out : List ℕ) where
           let n : quotientNumber L b m out ≡ 21 = rw (eq-eqb _ _ e, quotientNumber) (rw p) in
           rw (p, writtenFor) (sym (rw (ne-eqb (quotientNumber L b m out) 0 (λ q. omega (arith, n, q)), quotientOf) (λ j. record { answer = Refused (n j); out = out })))
 
-  -- demands 2 and 3, requests (iv) and (xii)
+  -- demands 2 and 3, requests (iv), (xii) and (v)
   pub quotiented : {r : Written} {now : List ℕ} → record { answer = r; out = now } ≡ quotientOf L b m out
-      → (record { answer = r; out = now } ≡ quotientOf L b m out) × (WritesQuotient L r b m now × (WritesSameWords r b now × (WritesNoneOpen r b now × WritesSteps r b m now)))
-  quotiented {r} {now} e = (e, (exact, (words, (none-open, steps))))
+      → (record { answer = r; out = now } ≡ quotientOf L b m out) × (WritesQuotient L r b m now × (WritesSameWords r b now × (WritesNoneOpen r b now × (WritesSteps r b m now × WritesSameMarks r b now))))
+  quotiented {r} {now} e = (e, (exact, (words, (none-open, (steps, marks)))))
     where
       answered : (P : Written → List ℕ → Type 0) → P (quotientOf L b m out .answer) (quotientOf L b m out .out) → P r now
       answered P = subst (λ (d : QuotientDone). P (d .answer) (d .out)) (sym e)
@@ -256,3 +260,6 @@ module _ (L : Limits) (b m out : List ℕ) where
 
       steps : WritesSteps r b m now
       steps = answered (λ r now. WritesSteps r b m now) (writes-steps L b m out)
+
+      marks : WritesSameMarks r b now
+      marks = answered (λ r now. WritesSameMarks r b now) (writes-same-marks L b m out)

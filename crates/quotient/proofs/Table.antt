@@ -12,10 +12,11 @@ use Rattle.lists.proofs.Members.{and-true, and-of, getD-mem, any-true, any-of, 
 use Rattle.lists.proofs.Counts.{keep-le}
 use Rattle.limits.specs.declared.Limits.{Limits}
 use Rattle.table.specs.File.{Table}
-use Rattle.table.specs.Reading.{isInitial, recordFits, ascend, WellFormed}
+use Rattle.table.specs.Reading.{versionFits, stateByteMost, isInitial, recordFits, ascend, WellFormed}
 use Rattle.table.specs.Language.{count}
 use Rattle.table.specs.Maps.{classOf, classes, numbered}
 use Rattle.table.proofs.Passed.{Wide, Tested, formed-wide, formed-tested, formed-of}
+use Rattle.table.proofs.Facts.{byte-within}
 use Rattle.tops.specs.Tops.{topWords, live, liveReturns}
 use Rattle.maps.proofs.Numbered.{class-below, classes-few}
 use Rattle.quotient.specs.Quotient.{image, images, classByte, quotientTable}
@@ -107,8 +108,8 @@ module _ (L : Limits) (t : Table) (m : List ℕ) (f : WellFormed L t) (n : lengt
     returns-ascend = images-ascend (liveReturns t);
   }
     where
-      go : (x : ℕ) → (c : ℕ) × List·Memᴰ c (upto (classes m)) × (classByte t m c ≡ x) → x ≤ 3
-      go x (c, i, e) = omega (arith, byte-small t m c)
+      go : (x : ℕ) → (c : ℕ) × List·Memᴰ c (upto (classes m)) × (classByte t m c ≡ x) → x ≤ stateByteMost (t .version)
+      go x (c, i, e) = omega (arith, byte-small t m c (byte-within f))
 
   quotient-wide : Wide t → Wide (quotientTable t m)
   unfolding quotientTable
@@ -118,5 +119,9 @@ module _ (L : Limits) (t : Table) (m : List ℕ) (f : WellFormed L t) (n : lengt
     returns = section-wide 4 (liveReturns t) (λ r i. w .returns r (live-return r i));
   }
 
+  dated-same : versionFits ((quotientTable t m) .version) ≡ true
+  unfolding quotientTable
+  dated-same = f .dated
+
   pub quotient-well-formed : WellFormed L (quotientTable t m)
-  quotient-well-formed = formed-of (f .limits) (quotient-wide (formed-wide f)) (quotient-tested (formed-tested f))
+  quotient-well-formed = formed-of (f .limits) dated-same (quotient-wide (formed-wide f)) (quotient-tested (formed-tested f))

@@ -9,15 +9,15 @@ use lib.Seq.{take-append-seam}
 use lib.Dec.{eqb, leb}
 use borrow.Author.Tests.{eqb-true}
 use Rattle.lists.specs.Lists.{over}
-use Rattle.vpa.specs.Automata.{Accepts}
+use Rattle.vpa.specs.Automata.{Lawful, Accepts, EndsIn}
 use Rattle.vpa.specs.Quotients.{quotient}
-use Rattle.vpa.proofs.Correspondence.{quotient-words, every-step}
-use Rattle.vpa.proofs.Equal.{Same, same-words}
+use Rattle.vpa.proofs.Correspondence.{quotient-words, quotient-marks, every-step}
+use Rattle.vpa.proofs.Equal.{Same, same-words, same-marks}
 use Rattle.limits.specs.declared.Limits.{Limits}
 use Rattle.table.specs.File.{Table, tableOf}
 use Rattle.table.specs.Reading.{Readable, WellFormed}
-use Rattle.table.specs.Language.{count, automaton, automatonOf, SameWords, OpenByNeither}
-use Rattle.table.specs.Maps.{classOf, Proper}
+use Rattle.table.specs.Language.{count, automaton, automatonOf, SameWords, SameMarks, OpenByNeither}
+use Rattle.table.specs.Maps.{classOf, Proper, RaqMap}
 use Rattle.table.proofs.Passed.{formed-wide}
 use Rattle.table.proofs.Bytes.{read-well-formed, table-of-bytes, read-bytes}
 use Rattle.table.proofs.Open.{open-refused}
@@ -25,21 +25,22 @@ use Rattle.tops.proofs.Bounded.{lawful}
 use Rattle.tops.proofs.Formed.{bounded}
 use Rattle.tops.proofs.Exact.{live-exact}
 use Rattle.maps.specs.Check.{checkNumber}
-use Rattle.maps.proofs.Accepted.{accepted}
+use Rattle.maps.proofs.Accepted.{Accepted, accepted}
 use Rattle.quotient.specs.Quotient.{quotientTable, quotientBytes, quotientNumber, QuotientDone, quotientOf}
-use Rattle.quotient.specs.Demands.{IsQuotient, ShowsSteps, OnWriting, WritesQuotient, WritesSameWords, WritesNoneOpen, WritesSteps}
+use Rattle.quotient.specs.Demands.{IsQuotient, ShowsSteps, OnWriting, WritesQuotient, WritesSameWords, WritesSameMarks, WritesNoneOpen, WritesSteps}
 use Rattle.quotient.specs.declared.Written.the-variants.{Length, Refused}
 use Rattle.quotient.proofs.States.{count-classes}
-use Rattle.quotient.proofs.Automaton.{quotient-initial, quotient-accepting, quotient-internal, quotient-call, quotient-return}
+use Rattle.quotient.proofs.Automaton.{quotient-initial, quotient-accepting, quotient-mark, quotient-internal, quotient-call, quotient-return}
 use Rattle.quotient.proofs.Table.{quotient-well-formed}
 
 -- the automaton of the quotient's table is the quotient of the automaton
-pub table-same : (L : Limits) (t : Table) → WellFormed L t → (m : List ℕ) → Proper t m → Same (automaton (quotientTable t m)) (quotient (automaton t) (classOf m))
-table-same L t f m p =
+pub table-same : (L : Limits) (t : Table) → WellFormed L t → (m : List ℕ) → Proper t m → RaqMap t m → Same (automaton (quotientTable t m)) (quotient (automaton t) (classOf m))
+table-same L t f m p raq =
     let w = formed-wide f in
     record {
       initially = quotient-initial t m w (p .long) (p .in-order);
       finally = quotient-accepting t m w (p .long) (p .in-order);
+      marked = quotient-mark t m w (p .long) (p .in-order) (λ p q k j. raq .marks j);
       internals = quotient-internal t m w (p .long) (p .in-order);
       calls = quotient-call t m w (p .long) (p .in-order);
       returns = quotient-return t m w (p .long) (p .in-order) (live-exact (bounded f));
@@ -51,36 +52,55 @@ module _ (L : Limits) (b m : List ℕ) where
   unfolding quotientBytes
   quotient-table r p = table-of-bytes L (quotientTable (tableOf b) m) (quotient-well-formed L (tableOf b) m (read-well-formed L b r) (p .long) (p .in-order))
 
-  -- and so the quotient of the automaton
-  bytes-same : Readable L b → Proper (tableOf b) m → Same (automatonOf (quotientBytes b m)) (quotient (automatonOf b) (classOf m))
-  bytes-same r p = subst (λ (t : Table). Same (automaton t) (quotient (automatonOf b) (classOf m))) (sym (quotient-table r p)) (table-same L (tableOf b) (read-well-formed L b r) m p)
+  -- and so, of a map that the check accepts, the quotient of the automaton
+  bytes-same : Accepted L b m → Same (automatonOf (quotientBytes b m)) (quotient (automatonOf b) (classOf m))
+  bytes-same a =
+      subst (λ (t : Table). Same (automaton t) (quotient (automatonOf b) (classOf m))) (sym (quotient-table (a .readable) (a .proper)))
+      (table-same L (tableOf b) (read-well-formed L b (a .readable)) m (a .proper) (a .raq))
 
   -- demand 2: the written table is the paper's quotient
-  pub is-quotient : Readable L b → Proper (tableOf b) m → IsQuotient L b m (quotientBytes b m)
+  pub is-quotient : checkNumber L b m ≡ 0 → IsQuotient L b m (quotientBytes b m)
   unfolding quotientBytes quotientTable
-  is-quotient r p =
-      let e = quotient-table r p in
-      let s = bytes-same r p in
+  is-quotient c =
+      let a = accepted L b m c in
+      let e = quotient-table (a .readable) (a .proper) in
+      let s = bytes-same a in
       record {
-        readable = read-bytes L (quotientTable (tableOf b) m) (quotient-well-formed L (tableOf b) m (read-well-formed L b r) (p .long) (p .in-order));
+        readable = read-bytes L (quotientTable (tableOf b) m) (quotient-well-formed L (tableOf b) m (read-well-formed L b (a .readable)) (a .proper .long) (a .proper .in-order));
+        version = ap (λ (t : Table). t .version) e;
         symbols = ap (λ (t : Table). t .symbols) e;
         states = ap (λ (t : Table). count t) e ∙ count-classes (tableOf b) m;
         initial = s .initially;
         accepting = s .finally;
+        marks = s .marked;
         internals = s .internals;
         calls = s .calls;
         returns = s .returns;
       }
+
+  -- the automaton of the lent bytes names states only
+  lawful-bytes : Accepted L b m → Lawful (automatonOf b)
+  lawful-bytes a = lawful (bounded (read-well-formed L b (a .readable)))
 
   -- demand 3: the same words, for every map that the check accepts
   pub keeps-words : checkNumber L b m ≡ 0 → SameWords b (quotientBytes b m)
   keeps-words e = record { each = λ w. (λ h. same w .1 (exact w .0 h), λ h. exact w .1 (same w .0 h)) }
     where
       exact : (w : List ℕ) → Accepts (automatonOf b) w ↔ Accepts (quotient (automatonOf b) (classOf m)) w
-      exact = let a = accepted L b m e in quotient-words (automatonOf b) (classOf m) (lawful (bounded (read-well-formed L b (a .readable)))) (a .raq)
+      exact = let a = accepted L b m e in quotient-words (automatonOf b) (classOf m) (lawful-bytes a) (a .raq)
 
       same : (w : List ℕ) → Accepts (automatonOf (quotientBytes b m)) w ↔ Accepts (quotient (automatonOf b) (classOf m)) w
-      same = let a = accepted L b m e in same-words (bytes-same (a .readable) (a .proper))
+      same = same-words (bytes-same (accepted L b m e))
+
+  -- request (v): for each mark the same words that end in a state of it
+  pub keeps-marks : checkNumber L b m ≡ 0 → SameMarks b (quotientBytes b m)
+  keeps-marks e = record { each = λ k w. (λ h. same k w .1 (exact k w .0 h), λ h. exact k w .1 (same k w .0 h)) }
+    where
+      exact : (k : ℕ) (w : List ℕ) → EndsIn (automatonOf b) k w ↔ EndsIn (quotient (automatonOf b) (classOf m)) k w
+      exact = let a = accepted L b m e in quotient-marks (automatonOf b) (classOf m) (lawful-bytes a) (a .raq)
+
+      same : (k : ℕ) (w : List ℕ) → EndsIn (automatonOf (quotientBytes b m)) k w ↔ EndsIn (quotient (automatonOf b) (classOf m)) k w
+      same = same-marks (bytes-same (accepted L b m e))
 
   -- request (iv): a word that leaves something open is accepted by neither
   pub open-neither : checkNumber L b m ≡ 0 → OpenByNeither b (quotientBytes b m)
@@ -94,7 +114,7 @@ module _ (L : Limits) (b m : List ℕ) where
   pub keeps-steps : checkNumber L b m ≡ 0 → ShowsSteps b m (quotientBytes b m)
   keeps-steps e =
       let a = accepted L b m e in
-      every-step (automatonOf b) (classOf m) (lawful (bounded (read-well-formed L b (a .readable)))) (a .raq) (bytes-same (a .readable) (a .proper))
+      every-step (automatonOf b) (classOf m) (lawful-bytes a) (a .raq) (bytes-same a)
 
   -- ---- the operation
 
@@ -122,10 +142,13 @@ module _ (L : Limits) (b m : List ℕ) where
       go false e = tt
 
   pub writes-quotient : (out : List ℕ) → WritesQuotient L (quotientOf L b m out .answer) b m (quotientOf L b m out .out)
-  writes-quotient = on-writing (IsQuotient L b m) (λ e. let a = accepted L b m e in is-quotient (a .readable) (a .proper))
+  writes-quotient = on-writing (IsQuotient L b m) is-quotient
 
   pub writes-same-words : (out : List ℕ) → WritesSameWords (quotientOf L b m out .answer) b (quotientOf L b m out .out)
   writes-same-words = on-writing (SameWords b) keeps-words
+
+  pub writes-same-marks : (out : List ℕ) → WritesSameMarks (quotientOf L b m out .answer) b (quotientOf L b m out .out)
+  writes-same-marks = on-writing (SameMarks b) keeps-marks
 
   pub writes-none-open : (out : List ℕ) → WritesNoneOpen (quotientOf L b m out .answer) b (quotientOf L b m out .out)
   writes-none-open = on-writing (OpenByNeither b) open-neither

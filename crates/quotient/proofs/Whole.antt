@@ -28,9 +28,9 @@ regroup a b c d e f = simp append-assoc
 
 -- ---- what stands behind each section
 
-module _ (y s i c r : List ℕ) where
+module _ (v : ℕ) (y s i c r : List ℕ) where
   abbrev pub behindReturns : List ℕ
-  behindReturns = trailerFrom (length y) (length s) (length i) (length c) (length r)
+  behindReturns = trailerFrom v (length y) (length s) (length i) (length c) (length r)
 
   abbrev pub behindCalls : List ℕ
   behindCalls = gather (lastBytes 4) r ++ behindReturns
@@ -45,7 +45,7 @@ module _ (y s i c r : List ℕ) where
   behindSymbols = s ++ behindStates
 
   abbrev keyed : Table
-  keyed = keyedTable y s i c r
+  keyed = keyedTable v y s i c r
 
   keyed-wide : Wide keyed
   keyed-wide = record { internals = wide 3 (omega arith) i; calls = wide 3 (omega arith) c; returns = wide 4 (omega arith) r }
@@ -65,7 +65,7 @@ module _ (y s i c r : List ℕ) where
       let e2 : length (fromInternals keyed) ≡ 3 * length i + (3 * length c + 4 * length r) = omega arith in
       let e1 : length (fromStates keyed) ≡ length s + (3 * length i + (3 * length c + 4 * length r)) = omega arith in
       let e0 : length (fromSymbols keyed) ≡ length y + (length s + (3 * length i + (3 * length c + 4 * length r))) = omega arith in
-      λ j. gather bytes16 (e0 j ∷ e1 j ∷ e2 j ∷ e3 j ∷ e4 j ∷ 1 ∷ [])
+      λ j. gather bytes16 (e0 j ∷ e1 j ∷ e2 j ∷ e3 j ∷ e4 j ∷ v ∷ [])
 
   pub bytes-apart : bytesOf keyed ≡ y ++ behindSymbols
   unfolding bytesOf fromSymbols fromStates fromInternals fromCalls fromReturns

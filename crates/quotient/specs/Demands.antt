@@ -1,4 +1,5 @@
--- What a written quotient is (demand 2): the quotient of source 000 under the map, without the input's dead returns. Assumes nothing.
+-- What a written quotient is (demand 2; document 02, (iv), (v) and (xii)): the quotient of source 000 under the map, without the input's dead
+-- returns. Assumes nothing.
 use mathlib.Core.Path.{_≡_}
 use mathlib.Core.Logic.{_↔_}
 use mathlib.Core.List.{List}
@@ -8,19 +9,21 @@ use Rattle.vpa.specs.Quotients.{quotient, EveryStep}
 use Rattle.limits.specs.declared.Limits.{Limits}
 use Rattle.table.specs.File.{tableOf}
 use Rattle.table.specs.Reading.{Readable}
-use Rattle.table.specs.Language.{count, automatonOf, SameWords, OpenByNeither}
+use Rattle.table.specs.Language.{count, automatonOf, SameWords, SameMarks, OpenByNeither}
 use Rattle.table.specs.Maps.{classOf, classes}
 use Rattle.quotient.specs.declared.Written.{Written}
 use Rattle.quotient.specs.declared.Written.the-variants.{Length, Refused}
 
 -- c holds the quotient of b under m: "one state a class, initial or accepting if a member is", and the images of internals, calls and live
--- returns. "They are again a readable table"
+-- returns. "They are again a readable table"; request (v): "The quotient has its input's version and the members' mark."
 pub record IsQuotient (L : Limits) (b m c : List ℕ) : Type 0 where
   pub readable : Readable L c
+  pub version : tableOf c .version ≡ tableOf b .version
   pub symbols : tableOf c .symbols ≡ tableOf b .symbols
   pub states : count (tableOf c) ≡ classes m
   pub initial : (P : ℕ) → automatonOf c .initial P ↔ quotient (automatonOf b) (classOf m) .initial P
   pub accepting : (P : ℕ) → automatonOf c .accepting P ↔ quotient (automatonOf b) (classOf m) .accepting P
+  pub marks : (P k : ℕ) → automatonOf c .mark P k ↔ quotient (automatonOf b) (classOf m) .mark P k
   pub internals : (P a Q : ℕ) → automatonOf c .internal P a Q ↔ quotient (automatonOf b) (classOf m) .internal P a Q
   pub calls : (P a Q : ℕ) → automatonOf c .call P a Q ↔ quotient (automatonOf b) (classOf m) .call P a Q
   pub returns : (P a U Q : ℕ) → automatonOf c .return P a U Q ↔ quotient (automatonOf b) (classOf m) .return P a U Q
@@ -40,6 +43,10 @@ WritesQuotient L r b m out = OnWriting r (λ n. IsQuotient L b m (take n out))
 -- demand 3: "for every word of any length, the written quotient accepts the word exactly when the input does"
 abbrev pub WritesSameWords : Written → List ℕ → List ℕ → Type 0
 WritesSameWords r b out = OnWriting r (λ n. SameWords b (take n out))
+
+-- request (v): "For each mark, the words that end on the empty stack in a state of that mark are the same before and after."
+abbrev pub WritesSameMarks : Written → List ℕ → List ℕ → Type 0
+WritesSameMarks r b out = OnWriting r (λ n. SameMarks b (take n out))
 
 -- request (iv): "scripts left open are accepted by neither"
 abbrev pub WritesNoneOpen : Written → List ℕ → List ℕ → Type 0

@@ -1,14 +1,14 @@
--- The quotient as a table and as bytes (document 01, "Check and quotient"). Assumes nothing.
+-- The quotient as a table and as bytes (document 01, "Check and quotient"; document 02, (v)). Assumes nothing.
 use mathlib.Core.Bool.{Bool, true, false, _&&_}
 use mathlib.Core.List.{List, [], _∷_, map}
 use Prim.Native.Nat.{ℕ, _+_, _*_}
-use lib.ListN.{length}
+use lib.ListN.{length, getD}
 use lib.Dec.{eqb, leb}
 use Rattle.lists.specs.Lists.{any, upto, over}
 use Rattle.limits.specs.declared.Limits.{Limits}
 use Rattle.table.specs.File.{Table, tableOf, bytesOf}
 use Rattle.table.specs.Reading.{before, isInitial, isAccepting}
-use Rattle.table.specs.Language.{count, byteOf}
+use Rattle.table.specs.Language.{count, byteOf, markOf}
 use Rattle.table.specs.Maps.{classOf, classes}
 use Rattle.tops.specs.Tops.{liveReturns}
 use Rattle.maps.specs.Check.{checkNumber}
@@ -42,14 +42,24 @@ unfoldable pub bitOf : Bool → ℕ
 bitOf true = 1
 bitOf false = 0
 
--- "initial or accepting if a member is"
-unfoldable pub classByte : Table → List ℕ → ℕ → ℕ
-classByte t m c = bitOf (memberHas isInitial t m c) + 2 * bitOf (memberHas isAccepting t m c)
+-- by the states' bytes, the mark of the first of these states that is in class c; 0 where none is
+unfoldable pub markAmong : List ℕ → List ℕ → ℕ → List ℕ → ℕ
+markAmong states m c [] = 0
+markAmong states m c (q ∷ qs) = elim (eqb (classOf m q) c) [ true ↦ markOf (getD states q 0) | false ↦ markAmong states m c qs ]
 
--- "The quotient has one state a class"; "Its records are the images of internals, calls and live returns"
+-- request (v): "the members' mark", on which they agree where the check accepts the map
+unfoldable pub classMark : Table → List ℕ → ℕ → ℕ
+classMark t m c = markAmong (t .states) m c (upto (count t))
+
+-- "initial or accepting if a member is", and the members' mark, "times 4"
+unfoldable pub classByte : Table → List ℕ → ℕ → ℕ
+classByte t m c = bitOf (memberHas isInitial t m c) + 2 * bitOf (memberHas isAccepting t m c) + 4 * classMark t m c
+
+-- "The quotient has one state a class"; "Its records are the images of internals, calls and live returns"; request (v): "its input's version"
 unfoldable pub quotientTable : Table → List ℕ → Table
 quotientTable t m =
     record {
+      version = t .version;
       symbols = t .symbols;
       states = map (classByte t m) (upto (classes m));
       internals = images m (t .internals);

@@ -21,10 +21,11 @@ flagged flag byte = eqb (byte / flag % 2) 1
 abbrev pub classBytes : Table → List ℕ → ℕ → List ℕ
 classBytes t m n = map (classByte t m) (upto n)
 
--- a table whose records are given by their keys
-abbrev pub keyedTable : List ℕ → List ℕ → List ℕ → List ℕ → List ℕ → Table
-keyedTable symbols states internals calls returns =
+-- a table of a version whose records are given by their keys
+abbrev pub keyedTable : ℕ → List ℕ → List ℕ → List ℕ → List ℕ → List ℕ → Table
+keyedTable version symbols states internals calls returns =
     record {
+      version = version;
       symbols = symbols;
       states = states;
       internals = map (lastBytes 3) internals;
@@ -32,9 +33,9 @@ keyedTable symbols states internals calls returns =
       returns = map (lastBytes 4) returns;
     }
 
--- the trailer behind so many symbols, states, internals, calls and returns
-unfoldable pub trailerFrom : ℕ → ℕ → ℕ → ℕ → ℕ → List ℕ
-trailerFrom y s i c r = gather bytes16 ((y + (s + (3 * i + (3 * c + 4 * r)))) ∷ (s + (3 * i + (3 * c + 4 * r))) ∷ (3 * i + (3 * c + 4 * r)) ∷ (3 * c + 4 * r) ∷ (4 * r) ∷ 1 ∷ [])
+-- the trailer of a version behind so many symbols, states, internals, calls and returns
+unfoldable pub trailerFrom : ℕ → ℕ → ℕ → ℕ → ℕ → ℕ → List ℕ
+trailerFrom v y s i c r = gather bytes16 ((y + (s + (3 * i + (3 * c + 4 * r)))) ∷ (s + (3 * i + (3 * c + 4 * r))) ∷ (3 * i + (3 * c + 4 * r)) ∷ (3 * c + 4 * r) ∷ (4 * r) ∷ v ∷ [])
 
 -- ---- over the parts of a table
 
@@ -49,10 +50,10 @@ pub record Sized (symbols internals calls returns : List ℕ) : Type 0 where
 abbrev pub imageKeys : ℕ → List ℕ → List ℕ → List ℕ → List ℕ
 imageKeys w s f m = keysOf (images m (keep (kept f) (records w s)))
 
--- the quotient's table over the parts
-abbrev pub partedQuotient : List ℕ → List ℕ → List ℕ → List ℕ → List ℕ → List ℕ → List ℕ → Table
-partedQuotient symbols states internals calls returns f m =
-    keyedTable symbols (classBytes (ofStates states) m (classes m)) (imageKeys 3 internals f m) (imageKeys 3 calls f m) (imageKeys 4 returns f m)
+-- the quotient's table over the version and the parts
+abbrev pub partedQuotient : ℕ → List ℕ → List ℕ → List ℕ → List ℕ → List ℕ → List ℕ → List ℕ → Table
+partedQuotient version symbols states internals calls returns f m =
+    keyedTable version symbols (classBytes (ofStates states) m (classes m)) (imageKeys 3 internals f m) (imageKeys 3 calls f m) (imageKeys 4 returns f m)
 
 -- the answer and the output where these bytes are to be written: "21 output short"
 unfoldable pub writtenFor : List ℕ → List ℕ → QuotientDone

@@ -6,7 +6,7 @@ ghost use Rattle.table.specs.File.{bytesOf};
 ghost use Rattle.table.specs.Reading.{Readable};
 ghost use Rattle.maps.specs.Sections.{Known};
 ghost use Rattle.quotient.specs.Quotient.{quotientBytes, quotientOf};
-ghost use Rattle.quotient.specs.Demands.{WritesQuotient, WritesSameWords, WritesNoneOpen, WritesSteps};
+ghost use Rattle.quotient.specs.Demands.{WritesQuotient, WritesSameWords, WritesSameMarks, WritesNoneOpen, WritesSteps};
 ghost use Rattle.quotient.specs.Sections.{Sized, partedQuotient, writtenFor};
 
 mod images;
@@ -27,8 +27,9 @@ pub enum Written {
     Refused(u8),
 }
 
-// The quotient over the parts of a table: its length is known before anything is written.
+// The quotient over the version and the parts of a table: its length is known before anything is written.
 fn write_parts(
+    version: usize,
     symbols: &[u8],
     states: &[u8],
     internals: &[u8],
@@ -39,7 +40,7 @@ fn write_parts(
     out: &mut [u8],
 ) -> Written
     requires { ⌜ Sized (now symbols) (now internals) (now calls) (now returns) ⌝ }
-    ensures { λ r. ⌜ record { answer = r; out = now (out .exit) } ≡ writtenFor (bytesOf (partedQuotient (now (symbols .entry)) (now (states .entry)) (now (internals .entry)) (now (calls .entry)) (now (returns .entry)) (now (words .entry)) (now (map .entry)))) (now (out .entry)) ⌝ }
+    ensures { λ r. ⌜ record { answer = r; out = now (out .exit) } ≡ writtenFor (bytesOf (partedQuotient version (now (symbols .entry)) (now (states .entry)) (now (internals .entry)) (now (calls .entry)) (now (returns .entry)) (now (words .entry)) (now (map .entry)))) (now (out .entry)) ⌝ }
 {
     let classes = class_count(map);
     let mut internal_keys = [0u32; 1024];
@@ -53,6 +54,7 @@ fn write_parts(
         return Written::Refused(21);
     }
     put_table(
+        version,
         symbols,
         states,
         map,
@@ -71,6 +73,7 @@ fn write_read(table: &[u8], starts: Starts, words: &[u64], map: &[u8], out: &mut
     ensures { λ r. ⌜ record { answer = r; out = now (out .exit) } ≡ writtenFor (quotientBytes (now (table .entry)) (now (map .entry))) (now (out .entry)) ⌝ }
 {
     write_parts(
+        table::version_of(table),
         table::part(table, starts, Section::Symbols),
         table::part(table, starts, Section::States),
         table::part(table, starts, Section::Internals),
@@ -108,6 +111,7 @@ pub fn quotient_within(limits: Limits, table: &[u8], map: &[u8], out: &mut [u8])
     ensures words { λ r. ⌜ WritesSameWords r (now (table .entry)) (now (out .exit)) ⌝ }
     ensures open { λ r. ⌜ WritesNoneOpen r (now (table .entry)) (now (out .exit)) ⌝ }
     ensures steps { λ r. ⌜ WritesSteps r (now (table .entry)) (now (map .entry)) (now (out .exit)) ⌝ }
+    ensures marks { λ r. ⌜ WritesSameMarks r (now (table .entry)) (now (out .exit)) ⌝ }
 {
     let examined = tops::examine(limits, table);
     if examined.number != 0 {
@@ -125,6 +129,7 @@ pub fn quotient(table: &[u8], map: &[u8], out: &mut [u8]) -> Written
     ensures words { λ r. ⌜ WritesSameWords r (now (table .entry)) (now (out .exit)) ⌝ }
     ensures open { λ r. ⌜ WritesNoneOpen r (now (table .entry)) (now (out .exit)) ⌝ }
     ensures steps { λ r. ⌜ WritesSteps r (now (table .entry)) (now (map .entry)) (now (out .exit)) ⌝ }
+    ensures marks { λ r. ⌜ WritesSameMarks r (now (table .entry)) (now (out .exit)) ⌝ }
 {
     quotient_within(limits::standard(), table, map, out)
 }

@@ -5,7 +5,7 @@ ghost use lib.ListN.{length};
 ghost use Rattle.lists.specs.Lists.{gather, over};
 ghost use Rattle.table.specs.File.{bytes16, bytesOf};
 ghost use Rattle.maps.specs.Sections.{ofStates};
-ghost use Rattle.quotient.specs.Quotient.{memberHas, bitOf, classByte};
+ghost use Rattle.quotient.specs.Quotient.{memberHas, bitOf, classMark, classByte};
 ghost use Rattle.quotient.specs.Keys.{lastBytes};
 ghost use Rattle.quotient.specs.Sections.{flagged, classBytes, keyedTable, trailerFrom};
 use maps::class_of;
@@ -70,8 +70,9 @@ fn put_words(words: &[usize], out: &mut [u8])
     }
 }
 
-// The trailer behind so many symbols, states and records: "the distances back from its first byte to each section's start, then version 1".
+// The trailer behind so many symbols, states and records: "the distances back from its first byte to each section's start", then the version.
 fn put_trailer(
+    dated: usize,
     symbols: usize,
     states: usize,
     internals: usize,
@@ -80,7 +81,7 @@ fn put_trailer(
     out: &mut [u8],
 )
     requires { ⌜ (symbols + states + 3 * internals + 3 * calls + 4 * returns < 2 ^ 64) × (12 ≤ length (now out)) ⌝ }
-    ensures { λ _. ⌜ now (out .exit) ≡ over (trailerFrom symbols states internals calls returns) (now (out .entry)) ⌝ }
+    ensures { λ _. ⌜ now (out .exit) ≡ over (trailerFrom dated symbols states internals calls returns) (now (out .entry)) ⌝ }
 {
     let from_returns = 4 * returns;
     let from_calls = 3 * calls + from_returns;
@@ -93,7 +94,7 @@ fn put_trailer(
         from_internals,
         from_calls,
         from_returns,
-        1,
+        dated,
     ];
     put_words(&words, out);
 }
@@ -121,13 +122,28 @@ fn bit_of(b: bool) -> u8
     if b { 1 } else { 0 }
 }
 
-// "initial or accepting if a member is"
+// "the members' mark": the first one's; 0 where there is none.
+fn member_mark(states: &[u8], map: &[u8], class: u8) -> u8
+    ensures { λ r. ⌜ r ≡ classMark (ofStates (now (states .entry))) (now (map .entry)) class ⌝ }
+{
+    let mut q: usize = 0;
+    'states: while q < states.len() {
+        if class_of(map, q) == class {
+            return states[q] / 4;
+        }
+        q += 1;
+    }
+    0
+}
+
+// "initial or accepting if a member is", and the members' mark, "times 4"
 fn class_byte(states: &[u8], map: &[u8], class: u8) -> u8
     ensures { λ r. ⌜ r ≡ classByte (ofStates (now (states .entry))) (now (map .entry)) class ⌝ }
 {
     let initial = bit_of(member_has(states, map, class, 1));
     let accepting = bit_of(member_has(states, map, class, 2));
-    initial + 2 * accepting
+    let mark = member_mark(states, map, class);
+    initial + 2 * accepting + 4 * mark
 }
 
 // "one state a class"
@@ -144,6 +160,7 @@ pub(crate) fn put_states(states: &[u8], map: &[u8], classes: usize, out: &mut [u
 
 // "Each section is written behind the one before it, then the trailer."
 pub(crate) fn put_table(
+    version: usize,
     symbols: &[u8],
     states: &[u8],
     map: &[u8],
@@ -153,8 +170,8 @@ pub(crate) fn put_table(
     returns: &[u32],
     out: &mut [u8],
 )
-    requires { ⌜ (classes ≤ 256) × (length (bytesOf (keyedTable (now symbols) (classBytes (ofStates (now states)) (now map) classes) (now internals) (now calls) (now returns))) ≤ length (now out)) ⌝ }
-    ensures { λ _. ⌜ now (out .exit) ≡ over (bytesOf (keyedTable (now (symbols .entry)) (classBytes (ofStates (now (states .entry))) (now (map .entry)) classes) (now (internals .entry)) (now (calls .entry)) (now (returns .entry)))) (now (out .entry)) ⌝ }
+    requires { ⌜ (classes ≤ 256) × (length (bytesOf (keyedTable version (now symbols) (classBytes (ofStates (now states)) (now map) classes) (now internals) (now calls) (now returns))) ≤ length (now out)) ⌝ }
+    ensures { λ _. ⌜ now (out .exit) ≡ over (bytesOf (keyedTable version (now (symbols .entry)) (classBytes (ofStates (now (states .entry))) (now (map .entry)) classes) (now (internals .entry)) (now (calls .entry)) (now (returns .entry)))) (now (out .entry)) ⌝ }
 {
     put_bytes(symbols, out);
     let mut at = symbols.len();
@@ -167,6 +184,7 @@ pub(crate) fn put_table(
     put_keys(4, returns, &mut out[at..]);
     at += 4 * returns.len();
     put_trailer(
+        version,
         symbols.len(),
         classes,
         internals.len(),

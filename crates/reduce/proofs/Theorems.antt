@@ -15,7 +15,7 @@ use Rattle.cnf.proofs.Trials.{spent-budget}
 use Rattle.limits.specs.declared.Limits.{Limits}
 use Rattle.pairs.specs.Pairs.{pairs}
 use Rattle.table.specs.File.{tableOf}
-use Rattle.table.specs.Language.{count, SameWords, OpenByNeither}
+use Rattle.table.specs.Language.{count, SameWords, SameMarks, OpenByNeither}
 use Rattle.table.specs.Maps.{classes, NoneCoarser}
 use Rattle.table.proofs.Bytes.{read-well-formed}
 use Rattle.maps.specs.Check.{checkNumber, checkOf}
@@ -26,9 +26,9 @@ use Rattle.clauses.proofs.Formed.{list-horn}
 use Rattle.clauses.proofs.Theorems.{map-proper, none-coarser}
 use Rattle.quotient.specs.Quotient.{quotientBytes}
 use Rattle.quotient.specs.Demands.{IsQuotient, ShowsSteps}
-use Rattle.quotient.proofs.Theorems.{is-quotient, keeps-words, open-neither, keeps-steps}
+use Rattle.quotient.proofs.Theorems.{is-quotient, keeps-words, keeps-marks, open-neither, keeps-steps}
 use Rattle.reduce.specs.Reduce.{Reduced, searchOfTable, joinedPairs, reduceOf, reductionNumber}
-use Rattle.reduce.specs.Demands.{OnDelivery, KeepsWords, DeliversQuotient, DeliversChecked, DeliversMaximal, FewGuesses, DeliversCeiling, SameSearch, SpentSaid, DeliversNoneOpen, DeliversSteps, mapWritten}
+use Rattle.reduce.specs.Demands.{OnDelivery, KeepsWords, DeliversQuotient, DeliversChecked, DeliversMaximal, FewGuesses, DeliversCeiling, SameSearch, SpentSaid, DeliversNoneOpen, DeliversSteps, KeepsMarks, mapWritten}
 use Rattle.reduce.specs.declared.Reduction.{Reduction}
 use Rattle.reduce.specs.declared.Reduction.the-variants.{Delivered}
 use Rattle.reduce.proofs.Ways.{FirstNumber, of-limits, of-reading, map-short, list-long, first-number, list-formed, Held, Ways, refused-first, refused-short, delivers, reduce-ways}
@@ -99,21 +99,6 @@ module _ (L : Limits) (b : List ℕ) (budget : ℕ) (list map out : List ℕ) wh
   pub delivers-words : KeepsWords (reduceOf L b budget list map out .answer) b (reduceOf L b budget list map out .out)
   delivers-words = words-ways (reduce-ways L b budget list map out)
 
-  quotient-ways : {r : Reduced} → Ways L b budget list map out r → DeliversQuotient L (r .answer) b (r .map) (r .out)
-  unfolding over
-  quotient-ways (refused-first k e n) = tt
-  quotient-ways (refused-short v g u z s l) = tt
-  quotient-ways (delivers v g u z s l) =
-      let m = mapOf v (count (tableOf b)) in
-      let c = quotientBytes b m in
-      let wf = read-well-formed L b (s .begun .readable) in
-      subst (λ (d : List ℕ). IsQuotient L b (mapWritten b (over m map)) d) (sym (take-append-seam c (drop (length c) out)))
-      (subst (λ (k : List ℕ). IsQuotient L b k c) (sym (map-written v g u z s)) (is-quotient L b m (s .begun .readable) (map-proper L (tableOf b) wf v (s .model))))
-
-  -- the written table is the paper's quotient under the delivered map
-  pub delivers-quotient : DeliversQuotient L (reduceOf L b budget list map out .answer) b (reduceOf L b budget list map out .map) (reduceOf L b budget list map out .out)
-  delivers-quotient = quotient-ways (reduce-ways L b budget list map out)
-
   ceiling-ways : {r : Reduced} → Ways L b budget list map out r → DeliversCeiling (r .answer) b (r .map)
   ceiling-ways (refused-first k e n) = tt
   ceiling-ways (refused-short v g u z s l) = tt
@@ -166,6 +151,14 @@ module _ (L : Limits) (b : List ℕ) (budget : ℕ) (list map out : List ℕ) wh
       subst (λ (d : List ℕ). P (mapWritten b (over m map)) d) (sym (take-append-seam c (drop (length c) out)))
       (subst (λ (k : List ℕ). P k c) (sym (map-written v g u z s)) (h m (s .accepted)))
 
+  -- the written table is the paper's quotient under the delivered map
+  pub delivers-quotient : DeliversQuotient L (reduceOf L b budget list map out .answer) b (reduceOf L b budget list map out .map) (reduceOf L b budget list map out .out)
+  delivers-quotient = delivered-ways (IsQuotient L b) (is-quotient L b) (reduce-ways L b budget list map out)
+
+  -- request (v): for each mark the same words that end in a state of it
+  pub delivers-marks : KeepsMarks (reduceOf L b budget list map out .answer) b (reduceOf L b budget list map out .out)
+  delivers-marks = delivered-ways (λ m c. SameMarks b c) (keeps-marks L b) (reduce-ways L b budget list map out)
+
   -- request (iv): a word that leaves something open is accepted by neither
   pub delivers-none-open : DeliversNoneOpen (reduceOf L b budget list map out .answer) b (reduceOf L b budget list map out .out)
   delivers-none-open = delivered-ways (λ m c. OpenByNeither b c) (open-neither L b) (reduce-ways L b budget list map out)
@@ -206,8 +199,8 @@ module _ (L : Limits) (b : List ℕ) (budget : ℕ) (list map out : List ℕ) wh
 
 -- what the contract of reduce says, of the answer and the buffers that the definition gives
 module _ (L : Limits) (b : List ℕ) (budget : ℕ) (list map out : List ℕ) {r : Reduction} {list' map' out' : List ℕ} (e : record { answer = r; list = list'; map = map'; out = out' } ≡ reduceOf L b budget list map out) where
-  pub promised : (_≡_ {A = Reduced} (record { answer = r; list = list'; map = map'; out = out' }) (reduceOf L b budget list map out)) × (KeepsWords r b out' × (DeliversQuotient L r b map' out' × (DeliversChecked L r b map' × (DeliversMaximal r b map' × (FewGuesses r b × (DeliversCeiling r b map' × (SameSearch r b budget × (SpentSaid r b budget × (DeliversNoneOpen r b out' × DeliversSteps r b map' out')))))))))
-  promised = (e, (kept, (quotient, (checked, (maximal, (few, (ceiling, (same, (ended, (none-open, steps))))))))))
+  pub promised : (_≡_ {A = Reduced} (record { answer = r; list = list'; map = map'; out = out' }) (reduceOf L b budget list map out)) × (KeepsWords r b out' × (DeliversQuotient L r b map' out' × (DeliversChecked L r b map' × (DeliversMaximal r b map' × (FewGuesses r b × (DeliversCeiling r b map' × (SameSearch r b budget × (SpentSaid r b budget × (DeliversNoneOpen r b out' × (DeliversSteps r b map' out' × KeepsMarks r b out'))))))))))
+  promised = (e, (kept, (quotient, (checked, (maximal, (few, (ceiling, (same, (ended, (none-open, (steps, marks)))))))))))
     where
       kept : KeepsWords r b out'
       kept = subst (λ (d : Reduced). KeepsWords (d .answer) b (d .out)) (sym e) (delivers-words L b budget list map out)
@@ -238,6 +231,9 @@ module _ (L : Limits) (b : List ℕ) (budget : ℕ) (list map out : List ℕ) {r
 
       steps : DeliversSteps r b map' out'
       steps = subst (λ (d : Reduced). DeliversSteps (d .answer) b (d .map) (d .out)) (sym e) (delivers-steps L b budget list map out)
+
+      marks : KeepsMarks r b out'
+      marks = subst (λ (d : Reduced). KeepsMarks (d .answer) b (d .out)) (sym e) (delivers-marks L b budget list map out)
 
   pub delivered-fits : {c g w l j u : ℕ} {z : Bool} → r ≡ Delivered c g w l j u z → l ≤ length out
   delivered-fits f =

@@ -1,4 +1,4 @@
--- What a delivery promises (demand 3, request (viii)), over the lent bytes and what is written. Assumes nothing.
+-- What a delivery promises (demand 3, requests (iv), (v), (viii) and (xii)), over the lent bytes and what is written. Assumes nothing.
 use mathlib.Core.Path.{_≡_}
 use mathlib.Core.Bool.{Bool, true, false}
 use mathlib.Core.List.{List}
@@ -7,7 +7,7 @@ use lib.ListN.{take}
 use Rattle.cnf.specs.Search.{spent, madeOf, isSpent}
 use Rattle.limits.specs.declared.Limits.{Limits}
 use Rattle.table.specs.File.{tableOf}
-use Rattle.table.specs.Language.{count, SameWords, OpenByNeither, OneTarget}
+use Rattle.table.specs.Language.{count, SameWords, SameMarks, OpenByNeither, OneTarget}
 use Rattle.table.specs.Maps.{RaqMap, NoneCoarser}
 use Rattle.maps.specs.Check.{checkOf}
 use Rattle.quotient.specs.Demands.{IsQuotient, ShowsSteps}
@@ -33,6 +33,10 @@ mapWritten b map = take (count (tableOf b)) map
 -- "for every word of any length, the written quotient accepts the word exactly when the input does"
 abbrev pub KeepsWords : Reduction → List ℕ → List ℕ → Type 0
 KeepsWords r b out = OnDelivery r (λ c g w l. SameWords b (take l out))
+
+-- request (v): "For each mark, the words that end on the empty stack in a state of that mark are the same before and after."
+abbrev pub KeepsMarks : Reduction → List ℕ → List ℕ → Type 0
+KeepsMarks r b out = OnDelivery r (λ c g w l. SameMarks b (take l out))
 
 -- request (iv): "scripts left open are accepted by neither"
 abbrev pub DeliversNoneOpen : Reduction → List ℕ → List ℕ → Type 0

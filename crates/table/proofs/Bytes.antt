@@ -18,7 +18,8 @@ use Rattle.limits.proofs.Within.{Within, limits-within}
 use Rattle.limits.specs.declared.Limits.{Limits}
 use Rattle.table.specs.Limits.{longest}
 use Rattle.table.specs.File.{Table, word16, trailer, distance, version, start, records, tableOf, bytes16, fromReturns, fromCalls, fromInternals, fromStates, fromSymbols, trailerOf, bytesOf}
-use Rattle.table.specs.Reading.{recordFits, tableTests, Readable, WellFormed}
+use Rattle.table.specs.Reading.{versionFits, recordFits, tableTests, Readable, WellFormed}
+use Rattle.table.proofs.Versions.{version-small, byte-most}
 use Rattle.table.proofs.Passed.{Passed, read-passed, passed-read, Wide, Tested, tests-passed, formed-wide, formed-tested, formed-of}
 
 -- every element is a byte
@@ -99,6 +100,7 @@ unfolding tableOf
 read-well-formed L b e =
     formed-of
     (read-passed L b e .limits)
+    (read-passed L b e .dated)
     (record {
       internals = records-wide 3 (slice (start b 2) (start b 3) b);
       calls = records-wide 3 (slice (start b 3) (start b 4) b);
@@ -175,14 +177,14 @@ module _ (L : Limits) (b : List ℕ) (p : Passed L b) where
       ∙ ap (next 0) (on h 1 (omega arith) ∙ ap (next 1) (on h 2 (omega arith) ∙ ap (next 2) (on h 3 (omega arith) ∙ ap (next 3) (on h 4 (omega arith) ∙ ap (next 4) (on h 5 (omega arith) ∙ ap (next 5) end))))))
 
   trailer-again : Bytes b → trailerOf (tableOf b) ≡ drop (trailer b) b
-  unfolding trailerOf version distance
+  unfolding trailerOf tableOf version distance
   trailer-again h =
       let e0 = ap length from-symbols ∙ length-from b 0 (omega arith) in
       let e1 = ap length from-states ∙ length-from b 1 (omega arith) in
       let e2 = ap length from-internals ∙ length-from b 2 (omega arith) in
       let e3 = ap length from-calls ∙ length-from b 3 (omega arith) in
       let e4 = ap length from-returns ∙ length-from b 4 (omega arith) in
-      (λ i. gather bytes16 (e0 i ∷ e1 i ∷ e2 i ∷ e3 i ∷ e4 i ∷ sym (p .dated) i ∷ [])) ∙ trailing h
+      (λ i. gather bytes16 (e0 i ∷ e1 i ∷ e2 i ∷ e3 i ∷ e4 i ∷ version b ∷ [])) ∙ trailing h
 
 pub bytes-of-table : (L : Limits) (b : List ℕ) → Bytes b → Readable L b → bytesOf (tableOf b) ≡ b
 unfolding bytesOf
@@ -194,7 +196,7 @@ bytes-of-table L b h e =
 
 -- the words of the trailer
 abbrev words : Table → List ℕ
-words t = length (fromSymbols t) ∷ length (fromStates t) ∷ length (fromInternals t) ∷ length (fromCalls t) ∷ length (fromReturns t) ∷ 1 ∷ []
+words t = length (fromSymbols t) ∷ length (fromStates t) ∷ length (fromInternals t) ∷ length (fromCalls t) ∷ length (fromReturns t) ∷ t .version ∷ []
 
 -- the lengths of the sections from each one on
 pub record Lengths (t : Table) : Type 0 where
@@ -256,9 +258,9 @@ module _ (L : Limits) (t : Table) (f : WellFormed L t) where
   d4 : distance (bytesOf t) 4 ≡ length (fromReturns t)
   d4 = word-is 4 (omega arith) (omega (arith, n, small))
 
-  dated : version (bytesOf t) ≡ 1
+  dated : version (bytesOf t) ≡ t .version
   unfolding version distance
-  dated = word-is 5 (omega arith) (omega arith)
+  dated = word-is 5 (omega arith) (omega (arith, version-small (f .dated)))
 
   -- a section of the bytes, by what stands before it and behind it
   section : (p x q : List ℕ) → fromSymbols t ≡ p ++ (x ++ q) → slice (length (fromSymbols t) - length (x ++ q)) (length (fromSymbols t) - length q) (bytesOf t) ≡ x
@@ -305,7 +307,7 @@ module _ (L : Limits) (t : Table) (f : WellFormed L t) where
       let internals = ap (records 3) internals-again ∙ records-flat 3 (t .internals) (omega arith) (formed-wide f .internals) in
       let calls = ap (records 3) calls-again ∙ records-flat 3 (t .calls) (omega arith) (formed-wide f .calls) in
       let returns = ap (records 4) returns-again ∙ records-flat 4 (t .returns) (omega arith) (formed-wide f .returns) in
-      λ i. record { symbols = symbols-again i; states = states-again i; internals = internals i; calls = calls i; returns = returns i }
+      λ i. record { version = dated i; symbols = symbols-again i; states = states-again i; internals = internals i; calls = calls i; returns = returns i }
 
   pub passed-bytes : Passed L (bytesOf t)
   unfolding longest
@@ -313,7 +315,7 @@ module _ (L : Limits) (t : Table) (f : WellFormed L t) where
     limits = f .limits;
     long = omega (arith, n);
     short = omega (arith, n, few);
-    dated = dated;
+    dated = ap versionFits dated ∙ f .dated;
     framed =
         record {
           whole = d0 ∙ sym trailer-at;
@@ -385,7 +387,7 @@ bytes-bytes L t f = bytes-append (fromSymbols t) (trailerOf t) (bytes-append (t 
     symbols = bytes-of (t .symbols) (λ x m. let l = c .symbol-bytes x m in omega arith)
 
     states : Bytes (t .states)
-    states = bytes-of (t .states) (λ x m. let l = c .state-bytes x m in omega arith)
+    states = bytes-of (t .states) (λ x m. let l = c .state-bytes x m in omega (arith, byte-most (t .version)))
 
     section : (kind : ℕ) (rs : List (List ℕ)) → ((r : List ℕ) → List·Memᴰ r rs → recordFits t kind r ≡ true) → Bytes (flat rs)
     section kind rs h = bytes-flat rs (λ r m. bytes-record t kind (omega (arith, c, s)) (omega (arith, c, s)) r (h r m))

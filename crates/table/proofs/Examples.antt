@@ -1,4 +1,4 @@
--- Examples of reading: one list of what the definitions answer, computed by the checker, and one list of what document 01 says. Where two
+-- Examples of reading: one list of what the definitions answer, computed by the checker, and one list of what documents 01 and 02 say. Where two
 -- refusals apply, the first one listed is given. Assumes nothing.
 use mathlib.Core.Path.{_≡_, refl}
 use mathlib.Core.List.{List, [], _∷_, _++_, map}
@@ -10,7 +10,7 @@ use Rattle.limits.specs.Limits.{limitsFit}
 use Rattle.limits.specs.Limits.{standard}
 use Rattle.table.specs.Limits.{longest}
 use Rattle.table.specs.File.{word16, trailer, distance, version, start, records, tableOf, bytes16}
-use Rattle.table.specs.Reading.{lengthFits, distancesFit, countsFit, bytesFit, isInitial, startFits, recordFits, recordsFit, before, ascendFrom, ascend, orderFits, tableTests, readNumber, startsOf, readOf, readingValues}
+use Rattle.table.specs.Reading.{lengthFits, versionFits, distancesFit, countsFit, stateByteMost, bytesFit, isInitial, startFits, recordFits, recordsFit, before, ascendFrom, ascend, orderFits, tableTests, readNumber, startsOf, readOf, readingValues}
 
 -- sections, the five distances and the version
 abbrev file : List ℕ → ℕ → ℕ → ℕ → ℕ → ℕ → ℕ → List ℕ
@@ -38,8 +38,10 @@ files =
     ∷ replicate 11 0
     ∷ replicate 22597 0
     ∷ replicate 22596 0
-    -- version 2, and the first distance is not the length less 12
-    ∷ file [] 1 0 0 0 0 2
+    -- version 3, and the first distance is not the length less 12; the version is the whole 16-bit number
+    ∷ file [] 1 0 0 0 0 3
+    ∷ file (1 ∷ []) 1 1 0 0 0 257
+    ∷ file (1 ∷ []) 1 1 0 0 0 258
     -- a first distance short by one, and no state
     ∷ file (1 ∷ []) 0 0 0 0 0 1
     -- distances rising, and no state
@@ -53,8 +55,13 @@ files =
     ∷ file (3 ∷ []) 1 0 0 0 0 1
     -- 25 states, of which none is initial
     ∷ file (replicate 25 0) 25 25 0 0 0 1
-    -- a state byte 4, which is not initial
+    -- a state byte 4, which is not initial; 64 in version 2
     ∷ file (4 ∷ []) 1 1 0 0 0 1
+    ∷ file (64 ∷ []) 1 1 0 0 0 2
+    -- request (v): a state byte 63 in version 2, and in version 1; 62, which is not initial
+    ∷ file (63 ∷ []) 1 1 0 0 0 2
+    ∷ file (63 ∷ []) 1 1 0 0 0 1
+    ∷ file (62 ∷ []) 1 1 0 0 0 2
     -- no initial state, and an internal whose symbol is past the count
     ∷ file (0 ∷ 0 ∷ 0 ∷ 0 ∷ []) 4 4 3 0 0 1
     -- two equal internals whose symbol is past the count; whose symbol is a call
@@ -66,8 +73,8 @@ files =
     ∷ file (2 ∷ 1 ∷ 0 ∷ 0 ∷ 0 ∷ 0 ∷ 0 ∷ 0 ∷ 0 ∷ 0 ∷ []) 10 9 8 8 8 1
     ∷ []
 
-numbers : map (readNumber standard) files ≡ 0 ∷ 0 ∷ 1 ∷ 1 ∷ 2 ∷ 2 ∷ 3 ∷ 3 ∷ 3 ∷ 3 ∷ 3 ∷ 4 ∷ 4 ∷ 4 ∷ 5 ∷ 6 ∷ 7 ∷ 7 ∷ 8 ∷ 8 ∷ 8 ∷ []
-unfolding any all parts gather firstFailed limitsFit longest word16 trailer distance version start records tableOf bytes16 lengthFits distancesFit countsFit bytesFit isInitial startFits recordFits recordsFit before ascendFrom ascend orderFits tableTests readNumber
+numbers : map (readNumber standard) files ≡ 0 ∷ 0 ∷ 1 ∷ 1 ∷ 2 ∷ 2 ∷ 2 ∷ 2 ∷ 3 ∷ 3 ∷ 3 ∷ 3 ∷ 3 ∷ 4 ∷ 4 ∷ 4 ∷ 5 ∷ 5 ∷ 0 ∷ 5 ∷ 6 ∷ 6 ∷ 7 ∷ 7 ∷ 8 ∷ 8 ∷ 8 ∷ []
+unfolding any all parts gather firstFailed limitsFit longest word16 trailer distance version start records tableOf bytes16 lengthFits versionFits distancesFit countsFit stateByteMost bytesFit isInitial startFits recordFits recordsFit before ascendFrom ascend orderFits tableTests readNumber
 numbers = refl
 
 abbrev within : ℕ → ℕ → Limits
@@ -86,10 +93,10 @@ limited :
     ∷ readNumber (within 4 3) T
     ∷ []
     ≡ 39 ∷ 39 ∷ 39 ∷ 39 ∷ 1 ∷ 2 ∷ 6 ∷ 4 ∷ 0 ∷ []
-unfolding any all parts gather firstFailed limitsFit longest word16 trailer distance version start records tableOf bytes16 lengthFits distancesFit countsFit bytesFit isInitial startFits recordFits recordsFit before ascendFrom ascend orderFits tableTests readNumber
+unfolding any all parts gather firstFailed limitsFit longest word16 trailer distance version start records tableOf bytes16 lengthFits versionFits distancesFit countsFit stateByteMost bytesFit isInitial startFits recordFits recordsFit before ascendFrom ascend orderFits tableTests readNumber
 limited = refl
 
 -- "Reading answers the five section starts."
 starts-of-T : readingValues (readOf standard T) ≡ 0 ∷ 3 ∷ 7 ∷ 16 ∷ 19 ∷ []
-unfolding any all parts gather firstFailed limitsFit longest word16 trailer distance version start records tableOf bytes16 lengthFits distancesFit countsFit bytesFit isInitial startFits recordFits recordsFit before ascendFrom ascend orderFits tableTests readNumber startsOf readOf readingValues
+unfolding any all parts gather firstFailed limitsFit longest word16 trailer distance version start records tableOf bytes16 lengthFits versionFits distancesFit countsFit stateByteMost bytesFit isInitial startFits recordFits recordsFit before ascendFrom ascend orderFits tableTests readNumber startsOf readOf readingValues
 starts-of-T = refl

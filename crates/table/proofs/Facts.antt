@@ -16,8 +16,9 @@ use Rattle.limits.specs.declared.Limits.{Limits}
 use Rattle.limits.specs.Limits.{stateMost}
 use Rattle.limits.proofs.Within.{limits-within}
 use Rattle.table.specs.File.{Table}
-use Rattle.table.specs.Reading.{recordFits, WellFormed}
-use Rattle.table.specs.Language.{count, byteOf, look, targets, automaton}
+use Rattle.table.specs.Reading.{stateByteMost, recordFits, WellFormed}
+use Rattle.table.specs.Language.{count, byteOf, markOf, look, targets, automaton}
+use Rattle.table.proofs.Versions.{other-most, byte-most}
 use Rattle.table.proofs.Passed.{formed-wide, formed-tested}
 
 -- ---- records
@@ -69,28 +70,43 @@ module _ {L : Limits} {t : Table} (wf : WellFormed L t) where
   pub most-states : count t ≤ stateMost
   most-states = omega (arith, few-states, limits-within (wf .limits))
 
-  -- a state's byte is at most 3
-  pub byte-small : (q : ℕ) → byteOf t q ≤ 3
-  byte-small q = go (decLt q (count t))
+  -- a state's byte is within its version's limit
+  pub byte-within : (q : ℕ) → byteOf t q ≤ stateByteMost (t .version)
+  byte-within q = go (decLt q (count t))
     where
-      go : Dec (q < count t) → byteOf t q ≤ 3
+      go : Dec (q < count t) → byteOf t q ≤ stateByteMost (t .version)
       go (yes l) = formed-tested wf .state-bytes (byteOf t q) (getD-mem (t .states) q 0 l)
       go (no l) = omega (arith, List·getD-eq-default (t .states) 0 {n = q} (omega arith))
 
-  -- what joined states must agree on is whether they accept
-  pub look-accepting : (p q : ℕ) → look (byteOf t p) ≡ look (byteOf t q) → automaton t .accepting p → automaton t .accepting q
-  unfolding look
-  look-accepting p q e h = omega arith
+  -- request (v): "a mark 0 to 15", and "Version 1 means mark 0 throughout"
+  pub mark-few : (q : ℕ) → markOf (byteOf t q) ≤ 15
+  unfolding markOf
+  mark-few q = omega (arith, byte-within q, byte-most (t .version))
 
-  pub accepting-look : (p q : ℕ) → automaton t .accepting p ↔ automaton t .accepting q → look (byteOf t p) ≡ look (byteOf t q)
+  pub first-mark : t .version ≡ 1 → (q : ℕ) → markOf (byteOf t q) ≡ 0
+  unfolding markOf
+  first-mark e q = let k : 3 ≡ stateByteMost (t .version) = other-most (λ h. omega (arith, e, h)) in omega (arith, byte-within q, k)
+
+-- ---- what joined states must agree on: whether they accept, and their mark
+
+module _ (t : Table) (p q : ℕ) where
+  pub look-accepting : look (byteOf t p) ≡ look (byteOf t q) → automaton t .accepting p → automaton t .accepting q
   unfolding look
-  accepting-look p q e = go (ℕ-discrete (byteOf t p / 2 % 2) 1) (ℕ-discrete (byteOf t q / 2 % 2) 1)
+  look-accepting e h = omega arith
+
+  pub look-mark : {k : ℕ} → q < count t → look (byteOf t p) ≡ look (byteOf t q) → automaton t .mark p k → automaton t .mark q k
+  unfolding look markOf
+  look-mark h e (l, m) = (h, omega arith)
+
+  pub agreed-look : p < count t → automaton t .accepting p ↔ automaton t .accepting q → ((k : ℕ) → automaton t .mark p k → automaton t .mark q k) → look (byteOf t p) ≡ look (byteOf t q)
+  unfolding look markOf
+  agreed-look l e m = go (ℕ-discrete (byteOf t p / 2 % 2) 1) (ℕ-discrete (byteOf t q / 2 % 2) 1) (m _ (l, refl) .1)
     where
-      go : Dec (byteOf t p / 2 % 2 ≡ 1) → Dec (byteOf t q / 2 % 2 ≡ 1) → byteOf t p / 2 ≡ byteOf t q / 2
-      go (yes h) (yes k) = omega (arith, byte-small p, byte-small q)
-      go (yes h) (no k) = absurd (k (e .0 h))
-      go (no h) (yes k) = absurd (h (e .1 k))
-      go (no h) (no k) = omega (arith, byte-small p, byte-small q)
+      go : Dec (byteOf t p / 2 % 2 ≡ 1) → Dec (byteOf t q / 2 % 2 ≡ 1) → byteOf t q / 4 ≡ byteOf t p / 4 → byteOf t p / 2 ≡ byteOf t q / 2
+      go (yes h) (yes k) n = omega arith
+      go (yes h) (no k) n = absurd (k (e .0 h))
+      go (no h) (yes k) n = absurd (h (e .1 k))
+      go (no h) (no k) n = omega arith
 
 -- ---- a record written out
 

@@ -29,25 +29,25 @@ too-short t kind (p ∷ a ∷ qs) h = absurd (omega arith)
 
 -- the tests of a record with a state and a symbol
 tests : (sy st : List ℕ) (kind : ℕ) (r : List ℕ) → 2 ≤ length r
-    → recordFits (sectioned sy st [] [] []) kind r ≡ ltb (getD r 0 0) (length st) && (ltb (getD r 1 0) (length sy) && eqb (getD sy (getD r 1 0) 0) kind) && all (λ q. ltb q (length st)) (drop 2 r)
+    → recordFits (sectioned 0 sy st [] [] []) kind r ≡ ltb (getD r 0 0) (length st) && (ltb (getD r 1 0) (length sy) && eqb (getD sy (getD r 1 0) 0) kind) && all (λ q. ltb q (length st)) (drop 2 r)
 unfolding recordFits sectioned
 tests sy st kind [] h = absurd (omega arith)
 tests sy st kind (p ∷ []) h = absurd (omega arith)
 tests sy st kind (p ∷ a ∷ qs) h = refl
 
 module _ (sy st : List ℕ) (kind : ℕ) (r : List ℕ) (h : 2 ≤ length r) where
-  pub state-past : length st ≤ getD r 0 0 → false ≡ recordFits (sectioned sy st [] [] []) kind r
+  pub state-past : length st ≤ getD r 0 0 → false ≡ recordFits (sectioned 0 sy st [] [] []) kind r
   state-past p = sym (tests sy st kind r h ∙ rw (le-ltb _ _ p))
 
-  pub symbol-past : getD r 0 0 < length st → length sy ≤ getD r 1 0 → false ≡ recordFits (sectioned sy st [] [] []) kind r
+  pub symbol-past : getD r 0 0 < length st → length sy ≤ getD r 1 0 → false ≡ recordFits (sectioned 0 sy st [] [] []) kind r
   symbol-past p a = sym (tests sy st kind r h ∙ rw (lt-ltb _ _ p, le-ltb _ _ a))
 
-  pub other-kind : getD r 0 0 < length st → getD r 1 0 < length sy → (getD sy (getD r 1 0) 0 ≡ kind → ⊥) → false ≡ recordFits (sectioned sy st [] [] []) kind r
+  pub other-kind : getD r 0 0 < length st → getD r 1 0 < length sy → (getD sy (getD r 1 0) 0 ≡ kind → ⊥) → false ≡ recordFits (sectioned 0 sy st [] [] []) kind r
   other-kind p a k = sym (tests sy st kind r h ∙ rw (lt-ltb _ _ p, lt-ltb _ _ a, ne-eqb _ _ k))
 
   -- the further states, as a part of the record
   pub by-others : getD r 0 0 < length st → getD r 1 0 < length sy → getD sy (getD r 1 0) 0 ≡ kind
-      → all (λ q. ltb q (length st)) (take (length r - 2) (drop 2 r)) ≡ recordFits (sectioned sy st [] [] []) kind r
+      → all (λ q. ltb q (length st)) (take (length r - 2) (drop 2 r)) ≡ recordFits (sectioned 0 sy st [] [] []) kind r
   by-others p a k =
       let l : length (drop 2 r) ≤ length r - 2 = omega (arith, length-drop 2 r) in
       sym (tests sy st kind r h ∙ rw (lt-ltb _ _ p, lt-ltb _ _ a, eq-eqb _ _ k, take-all (length r - 2) (drop 2 r) l))

@@ -1,3 +1,4 @@
+pub mod Versions
 pub mod Passed
 pub mod Bytes
 pub mod Order

@@ -4,6 +4,7 @@ use mathlib.Core.Bool.{Bool, true, false, _&&_}
 use mathlib.Core.List.{List, [], _∷_}
 use Prim.Native.Nat.{ℕ, zero, suc, _+_, _-_, _*_, _/_, _%_, _≤_, _<_}
 use native.Mathlib.Nat.{add-zero, sub-zero, suc-sub-suc}
+use native.Mathlib.Numerals.{add-one}
 use native.Mathlib.Omega.{arith}
 use lib.ListN.{length, take, drop}
 use lib.Seq.{slice, take-nil}
@@ -17,7 +18,7 @@ use Rattle.limits.proofs.Within.{limits-within}
 use Rattle.limits.specs.declared.Limits.{Limits}
 use Rattle.table.specs.Limits.{longest}
 use Rattle.table.specs.File.{Table, word16, trailer, distance, version, start, records, tableOf}
-use Rattle.table.specs.Reading.{lengthFits, distancesFit, countsFit, bytesFit, isInitial, startFits, recordFits, recordsFit, ascend, orderFits, tableTests, readNumber, startsOf, readOf}
+use Rattle.table.specs.Reading.{lengthFits, versionFits, distancesFit, countsFit, stateByteMost, bytesFit, isInitial, startFits, recordFits, recordsFit, ascend, orderFits, tableTests, readNumber, startsOf, readOf}
 use Rattle.table.specs.Sections.{sectioned}
 use Rattle.table.specs.declared.Starts.{Starts}
 use Rattle.table.specs.declared.Reading.{Reading}
@@ -29,31 +30,31 @@ use Rattle.table.proofs.Fits.{fits-by}
 -- ---- 4: counts
 
 module _ (L : Limits) (a b c d e : List ℕ) where
-  counts : countsFit L (sectioned a b c d e)
+  counts : countsFit L (sectioned 0 a b c d e)
       ≡ leb (length a) (L .symbols) && leb 1 (length b) && leb (length b) (L .states) && leb (length c / 3) 1024 && leb (length d / 3) 1024 && leb (length e / 4) 4096
   unfolding countsFit sectioned
   counts = λ i. leb (length a) (L .symbols) && leb 1 (length b) && leb (length b) (L .states) && leb (length-records 3 c i) 1024 && leb (length-records 3 d i) 1024 && leb (length-records 4 e i) 4096
 
-  pub symbols-many : L .symbols < length a → false ≡ countsFit L (sectioned a b c d e)
+  pub symbols-many : L .symbols < length a → false ≡ countsFit L (sectioned 0 a b c d e)
   symbols-many h = sym (counts ∙ rw (lt-leb _ _ h))
 
   module _ (p1 : length a ≤ L .symbols) where
-    pub states-none : length b < 1 → false ≡ countsFit L (sectioned a b c d e)
+    pub states-none : length b < 1 → false ≡ countsFit L (sectioned 0 a b c d e)
     states-none h = sym (counts ∙ rw (le-leb _ _ p1, lt-leb _ _ h))
 
     module _ (p2 : 1 ≤ length b) where
-      pub states-many : L .states < length b → false ≡ countsFit L (sectioned a b c d e)
+      pub states-many : L .states < length b → false ≡ countsFit L (sectioned 0 a b c d e)
       states-many h = sym (counts ∙ rw (le-leb _ _ p1, le-leb _ _ p2, lt-leb _ _ h))
 
       module _ (p3 : length b ≤ L .states) where
-        pub internals-many : 1024 < length c / 3 → false ≡ countsFit L (sectioned a b c d e)
+        pub internals-many : 1024 < length c / 3 → false ≡ countsFit L (sectioned 0 a b c d e)
         internals-many h = sym (counts ∙ rw (le-leb _ _ p1, le-leb _ _ p2, le-leb _ _ p3, lt-leb _ _ h))
 
         module _ (p4 : length c / 3 ≤ 1024) where
-          pub calls-many : 1024 < length d / 3 → false ≡ countsFit L (sectioned a b c d e)
+          pub calls-many : 1024 < length d / 3 → false ≡ countsFit L (sectioned 0 a b c d e)
           calls-many h = sym (counts ∙ rw (le-leb _ _ p1, le-leb _ _ p2, le-leb _ _ p3, le-leb _ _ p4, lt-leb _ _ h))
 
-          pub by-returns : length d / 3 ≤ 1024 → leb (length e / 4) 4096 ≡ countsFit L (sectioned a b c d e)
+          pub by-returns : length d / 3 ≤ 1024 → leb (length e / 4) 4096 ≡ countsFit L (sectioned 0 a b c d e)
           by-returns p5 = sym (counts ∙ rw (le-leb _ _ p1, le-leb _ _ p2, le-leb _ _ p3, le-leb _ _ p4, le-leb _ _ p5))
 
 -- ---- two or three tests in a row
@@ -78,56 +79,62 @@ last-of-three z p q = sym (rw (p, q))
 below : (n : ℕ) (xs : List ℕ) → all (λ x. ltb x (suc n)) xs ≡ all (λ x. leb x n) xs
 below n xs = λ i. all (λ x. leb·suc-suc x n i) xs
 
-module _ (a b : List ℕ) where
-  pub bytes : bytesFit (sectioned a b [] [] []) ≡ all (λ x. ltb x 3) a && all (λ x. ltb x 4) b
+module _ (v : ℕ) (a b : List ℕ) where
+  pub bytes : bytesFit (sectioned v a b [] [] []) ≡ all (λ x. ltb x 3) a && all (λ x. ltb x (stateByteMost v + 1)) b
   unfolding bytesFit sectioned
-  bytes = λ i. sym (below 2 a) i && sym (below 3 b) i
+  bytes = rw add-one (λ i. sym (below 2 a) i && sym (below (stateByteMost v) b) i)
 
 -- ---- 7 and 8: records and their order
 
-module _ (a b c d e : List ℕ) where
-  pub fitting : recordsFit (sectioned a b c d e)
-      ≡ all (recordFits (sectioned a b [] [] []) 0) (records 3 c) && all (recordFits (sectioned a b [] [] []) 1) (records 3 d) && all (recordFits (sectioned a b [] [] []) 2) (records 4 e)
+module _ (v : ℕ) (a b c d e : List ℕ) where
+  pub fitting : recordsFit (sectioned v a b c d e)
+      ≡ all (recordFits (sectioned 0 a b [] [] []) 0) (records 3 c) && all (recordFits (sectioned 0 a b [] [] []) 1) (records 3 d) && all (recordFits (sectioned 0 a b [] [] []) 2) (records 4 e)
   unfolding recordsFit sectioned
   fitting = λ i. all (alone 0 i) (records 3 c) && all (alone 1 i) (records 3 d) && all (alone 2 i) (records 4 e)
     where
-      alone : (kind : ℕ) → recordFits (sectioned a b c d e) kind ≡ recordFits (sectioned a b [] [] []) kind
-      alone kind = λ i r. fits-by (sectioned a b c d e) (sectioned a b [] [] []) kind r refl refl i
+      alone : (kind : ℕ) → recordFits (sectioned v a b c d e) kind ≡ recordFits (sectioned 0 a b [] [] []) kind
+      alone kind = λ i r. fits-by (sectioned v a b c d e) (sectioned 0 a b [] [] []) kind r refl refl i
 
-pub ordered : (c d e : List ℕ) → orderFits (sectioned [] [] c d e) ≡ ascend (records 3 c) && ascend (records 3 d) && ascend (records 4 e)
+pub ordered : (c d e : List ℕ) → orderFits (sectioned 0 [] [] c d e) ≡ ascend (records 3 c) && ascend (records 3 d) && ascend (records 4 e)
 unfolding orderFits sectioned
 ordered c d e = refl
 
 -- ---- the first of 4 to 8
 
-module _ (L : Limits) (a b c d e : List ℕ) where
+module _ (L : Limits) (v : ℕ) (a b c d e : List ℕ) where
   -- the tests, each over the sections that it reads
-  tests : firstFailed (tableTests L (sectioned a b c d e))
-      ≡ firstFailed ((4, countsFit L (sectioned a b c d e)) ∷ (5, bytesFit (sectioned a b [] [] [])) ∷ (6, any isInitial b) ∷ (7, recordsFit (sectioned a b c d e)) ∷ (8, orderFits (sectioned [] [] c d e)) ∷ [])
-  unfolding tableTests bytesFit startFits orderFits sectioned
-  tests = refl
+  tests : firstFailed (tableTests L (sectioned v a b c d e))
+      ≡ firstFailed ((4, countsFit L (sectioned 0 a b c d e)) ∷ (5, bytesFit (sectioned v a b [] [] [])) ∷ (6, any isInitial b) ∷ (7, recordsFit (sectioned 0 a b c d e)) ∷ (8, orderFits (sectioned 0 [] [] c d e)) ∷ [])
+  unfolding tableTests countsFit bytesFit startFits orderFits sectioned
+  tests = ap (λ r. firstFailed ((4, countsFit L (sectioned 0 a b c d e)) ∷ (5, bytesFit (sectioned v a b [] [] [])) ∷ (6, any isInitial b) ∷ (7, r) ∷ (8, orderFits (sectioned 0 [] [] c d e)) ∷ [])) (fitting v a b c d e ∙ sym (fitting 0 a b c d e))
 
-  pub number-4 : countsFit L (sectioned a b c d e) ≡ false → 4 ≡ firstFailed (tableTests L (sectioned a b c d e))
+  pub number-4 : countsFit L (sectioned 0 a b c d e) ≡ false → 4 ≡ firstFailed (tableTests L (sectioned v a b c d e))
   number-4 h = sym (tests ∙ fails 4 _ h)
 
-  module _ (p4 : countsFit L (sectioned a b c d e) ≡ true) where
-    pub number-5 : bytesFit (sectioned a b [] [] []) ≡ false → 5 ≡ firstFailed (tableTests L (sectioned a b c d e))
+  module _ (p4 : countsFit L (sectioned 0 a b c d e) ≡ true) where
+    pub number-5 : bytesFit (sectioned v a b [] [] []) ≡ false → 5 ≡ firstFailed (tableTests L (sectioned v a b c d e))
     number-5 h = sym (tests ∙ passes 4 _ p4 ∙ fails 5 _ h)
 
-    module _ (p5 : bytesFit (sectioned a b [] [] []) ≡ true) where
-      pub number-6 : any isInitial b ≡ false → 6 ≡ firstFailed (tableTests L (sectioned a b c d e))
+    module _ (p5 : bytesFit (sectioned v a b [] [] []) ≡ true) where
+      pub number-6 : any isInitial b ≡ false → 6 ≡ firstFailed (tableTests L (sectioned v a b c d e))
       number-6 h = sym (tests ∙ passes 4 _ p4 ∙ passes 5 _ p5 ∙ fails 6 _ h)
 
       module _ (p6 : any isInitial b ≡ true) where
-        pub number-7 : recordsFit (sectioned a b c d e) ≡ false → 7 ≡ firstFailed (tableTests L (sectioned a b c d e))
+        pub number-7 : recordsFit (sectioned 0 a b c d e) ≡ false → 7 ≡ firstFailed (tableTests L (sectioned v a b c d e))
         number-7 h = sym (tests ∙ passes 4 _ p4 ∙ passes 5 _ p5 ∙ passes 6 _ p6 ∙ fails 7 _ h)
 
-        module _ (p7 : recordsFit (sectioned a b c d e) ≡ true) where
-          pub number-8 : orderFits (sectioned [] [] c d e) ≡ false → 8 ≡ firstFailed (tableTests L (sectioned a b c d e))
+        module _ (p7 : recordsFit (sectioned 0 a b c d e) ≡ true) where
+          pub number-8 : orderFits (sectioned 0 [] [] c d e) ≡ false → 8 ≡ firstFailed (tableTests L (sectioned v a b c d e))
           number-8 h = sym (tests ∙ passes 4 _ p4 ∙ passes 5 _ p5 ∙ passes 6 _ p6 ∙ passes 7 _ p7 ∙ fails 8 _ h)
 
-          pub number-0 : orderFits (sectioned [] [] c d e) ≡ true → 0 ≡ firstFailed (tableTests L (sectioned a b c d e))
+          pub number-0 : orderFits (sectioned 0 [] [] c d e) ≡ true → 0 ≡ firstFailed (tableTests L (sectioned v a b c d e))
           number-0 h = sym (tests ∙ passes 4 _ p4 ∙ passes 5 _ p5 ∙ passes 6 _ p6 ∙ passes 7 _ p7 ∙ passes 8 _ h ∙ no-test)
+
+-- ---- 2: the version
+
+pub version-at : (b : List ℕ) → 12 ≤ length b → word16 b (length b - 2) ≡ version b
+unfolding version trailer
+version-at b h = let e : length b - 2 ≡ length b - 12 + 10 = omega arith in ap (word16 b) e
 
 -- ---- 3: distances
 
@@ -266,21 +273,21 @@ part (suc f) zero b h = absurd (omega arith)
 part (suc f) (suc t) [] h = rw take-nil
 part (suc f) (suc t) (x ∷ b) h = rw suc-sub-suc (part f t b (omega arith))
 
-pub sections-are : (b : List ℕ) (s : Starts) (end : ℕ) → end + 12 ≡ length b → distancesFit b ≡ true → s ≡ startsOf b
-    → sectioned (take (s .states - s .symbols) (drop (s .symbols) b)) (take (s .internals - s .states) (drop (s .states) b)) (take (s .calls - s .internals) (drop (s .internals) b)) (take (s .returns - s .calls) (drop (s .calls) b)) (take (end - s .returns) (drop (s .returns) b))
+pub sections-are : (b : List ℕ) (s : Starts) (end : ℕ) → end + 12 ≡ length b → distancesFit b ≡ true → s ≡ startsOf b → {v : ℕ} → v ≡ version b
+    → sectioned v (take (s .states - s .symbols) (drop (s .symbols) b)) (take (s .internals - s .states) (drop (s .states) b)) (take (s .calls - s .internals) (drop (s .internals) b)) (take (s .returns - s .calls) (drop (s .calls) b)) (take (end - s .returns) (drop (s .returns) b))
     ≡ tableOf b
 unfolding sectioned tableOf startsOf
-sections-are b s end h d e = parts ∙ (λ i. at-starts (e i) (sym (trailer-end b end h) i))
+sections-are b s end h d e {v} g = parts ∙ (λ i. at-starts (g i) (e i) (sym (trailer-end b end h) i))
   where
     f : Follow b s end
     f = follow b s end h d e
 
-    at-starts : Starts → ℕ → Table
-    at-starts u e = sectioned (slice (u .symbols) (u .states) b) (slice (u .states) (u .internals) b) (slice (u .internals) (u .calls) b) (slice (u .calls) (u .returns) b) (slice (u .returns) e b)
+    at-starts : ℕ → Starts → ℕ → Table
+    at-starts v u e = sectioned v (slice (u .symbols) (u .states) b) (slice (u .states) (u .internals) b) (slice (u .internals) (u .calls) b) (slice (u .calls) (u .returns) b) (slice (u .returns) e b)
 
-    parts : sectioned (take (s .states - s .symbols) (drop (s .symbols) b)) (take (s .internals - s .states) (drop (s .states) b)) (take (s .calls - s .internals) (drop (s .internals) b)) (take (s .returns - s .calls) (drop (s .calls) b)) (take (end - s .returns) (drop (s .returns) b)) ≡ at-starts s end
+    parts : sectioned v (take (s .states - s .symbols) (drop (s .symbols) b)) (take (s .internals - s .states) (drop (s .states) b)) (take (s .calls - s .internals) (drop (s .internals) b)) (take (s .returns - s .calls) (drop (s .calls) b)) (take (end - s .returns) (drop (s .returns) b)) ≡ at-starts v s end
     parts =
-        λ i. sectioned (part (s .symbols) (s .states) b (f .symbols) i) (part (s .states) (s .internals) b (f .states) i) (part (s .internals) (s .calls) b (f .internals) i) (part (s .calls) (s .returns) b (f .calls) i) (part (s .returns) end b (f .returns) i)
+        λ i. sectioned v (part (s .symbols) (s .states) b (f .symbols) i) (part (s .states) (s .internals) b (f .states) i) (part (s .internals) (s .calls) b (f .internals) i) (part (s .calls) (s .returns) b (f .calls) i) (part (s .returns) end b (f .returns) i)
 
 -- ---- the answer
 
@@ -322,23 +329,19 @@ module _ (L : Limits) (fit : limitsFit L ≡ true) (b : List ℕ) where
       unfolding lengthFits
       length-passes = and-of (le-leb _ _ p) (le-leb _ _ q)
 
-      pub file-version : (word16 b (length b - 12 + 10) ≡ 1 → ⊥) → Refused 2 ≡ readOf L b
-      unfolding readNumber version trailer
-      file-version h = refused L b 2 (passes 39 _ fit ∙ passes 1 _ length-passes ∙ fails 2 _ (ne-eqb _ _ h)) (eqb-false 2 0 refl)
+      pub file-version : versionFits (version b) ≡ false → Refused 2 ≡ readOf L b
+      unfolding readNumber
+      file-version h = refused L b 2 (passes 39 _ fit ∙ passes 1 _ length-passes ∙ fails 2 _ h) (eqb-false 2 0 refl)
 
-      module _ (v : word16 b (length b - 12 + 10) ≡ 1) where
-        version-passes : eqb (version b) 1 ≡ true
-        unfolding version trailer
-        version-passes = eq-eqb _ _ v
-
+      module _ (v : versionFits (version b) ≡ true) where
         pub file-distances : distancesFit b ≡ false → Refused 3 ≡ readOf L b
         unfolding readNumber
-        file-distances h = refused L b 3 (passes 39 _ fit ∙ passes 1 _ length-passes ∙ passes 2 _ version-passes ∙ fails 3 _ h) (eqb-false 3 0 refl)
+        file-distances h = refused L b 3 (passes 39 _ fit ∙ passes 1 _ length-passes ∙ passes 2 _ v ∙ fails 3 _ h) (eqb-false 3 0 refl)
 
         module _ (d : distancesFit b ≡ true) where
           table-decides : readNumber L b ≡ firstFailed (tableTests L (tableOf b))
           unfolding readNumber
-          table-decides = passes 39 _ fit ∙ passes 1 _ length-passes ∙ passes 2 _ version-passes ∙ passes 3 _ d
+          table-decides = passes 39 _ fit ∙ passes 1 _ length-passes ∙ passes 2 _ v ∙ passes 3 _ d
 
           pub table-refused : (k : ℕ) → k ≡ firstFailed (tableTests L (tableOf b)) → (k ≡ 0 → ⊥) → Refused k ≡ readOf L b
           table-refused k e h = refused L b k (table-decides ∙ sym e) h

@@ -16,7 +16,7 @@ use Rattle.limits.specs.Limits.{limitsFit}
 use Rattle.limits.specs.declared.Limits.{Limits}
 use Rattle.table.specs.Limits.{longest, moveLimit, returnLimit}
 use Rattle.table.specs.File.{Table, trailer, distance, version, tableOf}
-use Rattle.table.specs.Reading.{lengthFits, distancesFit, countsFit, bytesFit, isInitial, startFits, recordFits, recordsFit, ascend, orderFits, tableTests, readNumber, Readable, WellFormed}
+use Rattle.table.specs.Reading.{lengthFits, versionFits, distancesFit, countsFit, stateByteMost, bytesFit, isInitial, startFits, recordFits, recordsFit, ascend, orderFits, tableTests, readNumber, Readable, WellFormed}
 
 -- ---- what it says that bytes are readable
 
@@ -64,7 +64,7 @@ pub record Passed (L : Limits) (b : List ℕ) : Type 0 where
   pub limits : limitsFit L ≡ true
   pub long : 12 ≤ length b
   pub short : length b ≤ longest L
-  pub dated : version b ≡ 1
+  pub dated : versionFits (version b) ≡ true
   pub framed : Framed b
   pub fits : firstFailed (tableTests L (tableOf b)) ≡ 0
 
@@ -80,7 +80,7 @@ read-passed L b e =
       limits = p0 .0;
       long = leb-true _ _ (l .0);
       short = leb-true _ _ (l .1);
-      dated = eqb-true _ _ (p2 .0);
+      dated = p2 .0;
       framed = distances-framed b (p3 .0);
       fits = p3 .1;
     }
@@ -90,7 +90,7 @@ unfolding readNumber lengthFits
 passed-read L b p =
     passes 39 _ (p .limits)
     ∙ passes 1 _ (and-of (le-leb _ _ (p .long)) (le-leb _ _ (p .short)))
-    ∙ passes 2 _ (eq-eqb _ _ (p .dated))
+    ∙ passes 2 _ (p .dated)
     ∙ passes 3 _ (framed-distances b (p .framed))
     ∙ p .fits
 
@@ -110,7 +110,7 @@ pub record Tested (L : Limits) (t : Table) : Type 0 where
   pub calls-few : length (t .calls) ≤ moveLimit
   pub returns-few : length (t .returns) ≤ returnLimit
   pub symbol-bytes : (x : ℕ) → List·Memᴰ x (t .symbols) → x ≤ 2
-  pub state-bytes : (x : ℕ) → List·Memᴰ x (t .states) → x ≤ 3
+  pub state-bytes : (x : ℕ) → List·Memᴰ x (t .states) → x ≤ stateByteMost (t .version)
   pub initial : any isInitial (t .states) ≡ true
   pub internals-fit : (r : List ℕ) → List·Memᴰ r (t .internals) → recordFits t 0 r ≡ true
   pub calls-fit : (r : List ℕ) → List·Memᴰ r (t .calls) → recordFits t 1 r ≡ true
@@ -145,7 +145,7 @@ tests-passed L t e =
       calls-few = leb-true _ _ (c4 .1);
       returns-few = leb-true _ _ (c5 .1);
       symbol-bytes = λ x m. leb-true x 2 (all-true (λ x. leb x 2) (t .symbols) (b1 .0) x m);
-      state-bytes = λ x m. leb-true x 3 (all-true (λ x. leb x 3) (t .states) (b1 .1) x m);
+      state-bytes = λ x m. leb-true x (stateByteMost (t .version)) (all-true (λ x. leb x (stateByteMost (t .version))) (t .states) (b1 .1) x m);
       initial = p6 .0;
       internals-fit = all-true (recordFits t 0) (t .internals) (r1 .0);
       calls-fit = all-true (recordFits t 1) (t .calls) (r1 .1);
@@ -161,7 +161,7 @@ tests-pass L t p =
     passes 4 _
     (and-of (and-of (and-of (and-of (and-of (le-leb _ _ (p .symbols-few)) (le-leb _ _ (p .some-state))) (le-leb _ _ (p .states-few)))
     (le-leb _ _ (p .internals-few))) (le-leb _ _ (p .calls-few))) (le-leb _ _ (p .returns-few)))
-    ∙ passes 5 _ (and-of (all-of (λ x. leb x 2) (t .symbols) (λ x m. le-leb x 2 (p .symbol-bytes x m))) (all-of (λ x. leb x 3) (t .states) (λ x m. le-leb x 3 (p .state-bytes x m))))
+    ∙ passes 5 _ (and-of (all-of (λ x. leb x 2) (t .symbols) (λ x m. le-leb x 2 (p .symbol-bytes x m))) (all-of (λ x. leb x (stateByteMost (t .version))) (t .states) (λ x m. le-leb x (stateByteMost (t .version)) (p .state-bytes x m))))
     ∙ passes 6 _ (p .initial)
     ∙ passes 7 _
     (and-of (and-of (all-of (recordFits t 0) (t .internals) (p .internals-fit)) (all-of (recordFits t 1) (t .calls) (p .calls-fit))) (all-of (recordFits t 2) (t .returns) (p .returns-fit)))
@@ -181,9 +181,10 @@ formed-wide {L} {t} f = record {
 pub formed-tested : {L : Limits} {t : Table} → WellFormed L t → Tested L t
 formed-tested {L} {t} f = tests-passed L t (f .fits)
 
-pub formed-of : {L : Limits} {t : Table} → limitsFit L ≡ true → Wide t → Tested L t → WellFormed L t
-formed-of {L} {t} l w p = record {
+pub formed-of : {L : Limits} {t : Table} → limitsFit L ≡ true → versionFits (t .version) ≡ true → Wide t → Tested L t → WellFormed L t
+formed-of {L} {t} l v w p = record {
   limits = l;
+  dated = v;
   internals-wide = wide 3 (t .internals) (w .internals);
   calls-wide = wide 3 (t .calls) (w .calls);
   returns-wide = wide 4 (t .returns) (w .returns);
@@ -198,7 +199,7 @@ pub read-within : (L : Limits) (b : List ℕ) → (readNumber L b ≡ 39) ⊎ (r
 unfolding readNumber tableTests
 read-within L b = go (limitsFit L) refl
   where
-    after : firstFailed ((1, lengthFits L b) ∷ (2, eqb (version b) 1) ∷ (3, distancesFit b) ∷ tableTests L (tableOf b)) ≤ 8
+    after : firstFailed ((1, lengthFits L b) ∷ (2, versionFits (version b)) ∷ (3, distancesFit b) ∷ tableTests L (tableOf b)) ≤ 8
     after =
         failed-within 8 1 _ _ (omega arith) (failed-within 8 2 _ _ (omega arith) (failed-within 8 3 _ _ (omega arith) (failed-within 8 4 _ _ (omega arith)
         (failed-within 8 5 _ _ (omega arith) (failed-within 8 6 _ _ (omega arith) (failed-within 8 7 _ _ (omega arith) (failed-within 8 8 _ _ (omega arith) (none-failed 8))))))))

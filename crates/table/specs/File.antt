@@ -1,12 +1,13 @@
--- The table file (document 01, "The table file"): the table that bytes hold, and the bytes of a table. Assumes nothing.
+-- The table file (document 01, "The table file"; document 02, (v)): the table that bytes hold, and the bytes of a table. Assumes nothing.
 use mathlib.Core.List.{List, [], _∷_, _++_}
 use Prim.Native.Nat.{ℕ, _+_, _-_, _*_, _/_, _%_}
 use lib.ListN.{length, getD}
 use lib.Seq.{slice}
 use Rattle.lists.specs.Lists.{parts, flat, gather}
 
--- the five sections; a record is its bytes
+-- the file's version and the five sections; a record is its bytes
 pub record Table : Type 0 where
+  pub version : ℕ
   pub symbols : List ℕ
   pub states : List ℕ
   pub internals : List (List ℕ)
@@ -25,7 +26,7 @@ trailer b = length b - 12
 unfoldable pub distance : List ℕ → ℕ → ℕ
 distance b k = word16 b (trailer b + 2 * k)
 
--- "then version 1"
+-- "then version 1"; or, by request (v), 2
 unfoldable pub version : List ℕ → ℕ
 version b = word16 b (trailer b + 10)
 
@@ -41,6 +42,7 @@ records w s = parts (length s / w) w s
 unfoldable pub tableOf : List ℕ → Table
 tableOf b =
     record {
+      version = version b;
       symbols = slice (start b 0) (start b 1) b;
       states = slice (start b 1) (start b 2) b;
       internals = records 3 (slice (start b 2) (start b 3) b);
@@ -70,7 +72,7 @@ fromSymbols t = t .symbols ++ fromStates t
 
 -- ".. then the trailer": the five distances and the version
 unfoldable pub trailerOf : Table → List ℕ
-trailerOf t = gather bytes16 (length (fromSymbols t) ∷ length (fromStates t) ∷ length (fromInternals t) ∷ length (fromCalls t) ∷ length (fromReturns t) ∷ 1 ∷ [])
+trailerOf t = gather bytes16 (length (fromSymbols t) ∷ length (fromStates t) ∷ length (fromInternals t) ∷ length (fromCalls t) ∷ length (fromReturns t) ∷ t .version ∷ [])
 
 unfoldable pub bytesOf : Table → List ℕ
 bytesOf t = fromSymbols t ++ trailerOf t

@@ -1,4 +1,5 @@
--- Reading a table: the refusals 39 and 1 to 8 in their order, and the answer (document 01, "The table file" and "Refused calls"). Assumes nothing.
+-- Reading a table: the refusals 39 and 1 to 8 in their order, and the answer (document 01, "The table file" and "Refused calls"; document 02,
+-- (v)). Assumes nothing.
 use mathlib.Core.Path.{_≡_}
 use mathlib.Core.Bool.{Bool, true, false, _&&_, _||_}
 use mathlib.Core.List.{List, [], _∷_}
@@ -18,6 +19,10 @@ use Rattle.table.specs.declared.Reading.the-variants.{Sections, Refused}
 unfoldable pub lengthFits : Limits → List ℕ → Bool
 lengthFits L b = leb 12 (length b) && leb (length b) (longest L)
 
+-- 2: "version"; request (v): "2 is any other version" than 1 and 2
+unfoldable pub versionFits : ℕ → Bool
+versionFits v = eqb v 1 || eqb v 2
+
 -- 3: "first distance not length less 12, distances rising, or a record section not a whole number of records"
 unfoldable pub distancesFit : List ℕ → Bool
 distancesFit b =
@@ -33,9 +38,13 @@ countsFit L t =
     && leb 1 (length (t .states)) && leb (length (t .states)) (L .states)
     && leb (length (t .internals)) moveLimit && leb (length (t .calls)) moveLimit && leb (length (t .returns)) returnLimit
 
--- 5: "a symbol byte over 2 or state byte over 3"
+-- a version's limit of a state byte; request (v), of version 2: "the byte is at most 63"; "Version 1 .. keeps its limit of 3"
+unfoldable pub stateByteMost : ℕ → ℕ
+stateByteMost v = elim (eqb v 2) [ true ↦ 63 | false ↦ 3 ]
+
+-- 5: "a symbol byte over 2"; request (v): "a state byte over its version's limit"
 unfoldable pub bytesFit : Table → Bool
-bytesFit t = all (λ x. leb x 2) (t .symbols) && all (λ x. leb x 3) (t .states)
+bytesFit t = all (λ x. leb x 2) (t .symbols) && all (λ x. leb x (stateByteMost (t .version))) (t .states)
 
 -- "1 for initial"
 unfoldable pub isInitial : ℕ → Bool
@@ -86,7 +95,7 @@ tableTests L t = (4, countsFit L t) ∷ (5, bytesFit t) ∷ (6, startFits t) ∷
 
 -- 39, "a limit of zero or past its maximum comes first"; then the first of 1 to 8 that applies; or 0
 unfoldable pub readNumber : Limits → List ℕ → ℕ
-readNumber L b = firstFailed ((39, limitsFit L) ∷ (1, lengthFits L b) ∷ (2, eqb (version b) 1) ∷ (3, distancesFit b) ∷ tableTests L (tableOf b))
+readNumber L b = firstFailed ((39, limitsFit L) ∷ (1, lengthFits L b) ∷ (2, versionFits (version b)) ∷ (3, distancesFit b) ∷ tableTests L (tableOf b))
 
 abbrev pub Readable : Limits → List ℕ → Type 0
 Readable L b = readNumber L b ≡ 0
@@ -108,9 +117,10 @@ unfoldable pub readingValues : Reading → List ℕ
 readingValues (Sections s) = s .symbols ∷ s .states ∷ s .internals ∷ s .calls ∷ s .returns ∷ []
 readingValues (Refused k) = []
 
--- a table whose bytes are readable: its records have their widths, and 39 and 4 to 8 do not apply
+-- a table whose bytes are readable: its version is 1 or 2, its records have their widths, and 39 and 4 to 8 do not apply
 pub record WellFormed (L : Limits) (t : Table) : Type 0 where
   pub limits : limitsFit L ≡ true
+  pub dated : versionFits (t .version) ≡ true
   pub internals-wide : all (λ r. eqb (length r) 3) (t .internals) ≡ true
   pub calls-wide : all (λ r. eqb (length r) 3) (t .calls) ≡ true
   pub returns-wide : all (λ r. eqb (length r) 4) (t .returns) ≡ true

@@ -1,5 +1,5 @@
--- What the functions of src/ are stated with: the table of five sections, a read table as it is passed on, and the first record at or after
--- a key. Assumes nothing.
+-- What the functions of src/ are stated with: the table of a version and five sections, a read table as it is passed on, and the first record
+-- at or after a key. Assumes nothing.
 use mathlib.Core.Path.{_≡_}
 use mathlib.Core.Bool.{true, false}
 use mathlib.Core.List.{List, [], _∷_}
@@ -13,10 +13,11 @@ use Rattle.table.specs.declared.Starts.{Starts}
 use Rattle.table.specs.declared.view.Section.{Section}
 use Rattle.table.specs.declared.view.Section.the-variants.{Symbols, States, Internals, Calls, Returns}
 
--- the table that five parts of a file hold: symbols, states, internals, calls, returns
-unfoldable pub sectioned : List ℕ → List ℕ → List ℕ → List ℕ → List ℕ → Table
-sectioned symbols states internals calls returns =
+-- the table that a version and five parts of a file give: symbols, states, internals, calls, returns; what a function is not lent is 0 or empty
+unfoldable pub sectioned : ℕ → List ℕ → List ℕ → List ℕ → List ℕ → List ℕ → Table
+sectioned version symbols states internals calls returns =
     record {
+      version = version;
       symbols = symbols;
       states = states;
       internals = records 3 internals;

@@ -8,8 +8,8 @@ ghost use lib.Dec.{ltb};
 ghost use Rattle.lists.specs.Lists.{any, all, firstFailed};
 ghost use Rattle.limits.specs.Limits.{standard, limitsFit};
 ghost use Rattle.table.specs.Limits.{longest};
-ghost use Rattle.table.specs.File.{word16, records, tableOf};
-ghost use Rattle.table.specs.Reading.{distancesFit, countsFit, bytesFit, isInitial, recordFits, recordsFit, ascend, orderFits, tableTests, startsOf, readOf};
+ghost use Rattle.table.specs.File.{word16, version, records, tableOf};
+ghost use Rattle.table.specs.Reading.{versionFits, distancesFit, countsFit, stateByteMost, bytesFit, isInitial, recordFits, recordsFit, ascend, orderFits, tableTests, startsOf, readOf};
 ghost use Rattle.table.specs.Sections.{sectioned};
 use limits::Limits;
 use limits::limits_fit;
@@ -65,6 +65,24 @@ fn word_at(table: &[u8], at: usize) -> usize
     wide(table[at]) + 256 * wide(table[at + 1])
 }
 
+// The file's version.
+pub fn version_of(table: &[u8]) -> usize
+    requires { ⌜ 12 ≤ length (now table) ⌝ }
+    ensures { λ r. ⌜ r ≡ version (now (table .entry)) ⌝ }
+{
+    word_at(table, table.len() - 2)
+}
+
+// 2: version 1 or 2.
+fn version_fits(version: usize) -> bool
+    ensures { λ r. ⌜ r ≡ versionFits version ⌝ }
+{
+    if version == 1 {
+        return true;
+    }
+    version == 2
+}
+
 // Every byte is below a limit.
 fn all_below(bytes: &[u8], limit: usize) -> bool
     ensures { λ r. ⌜ r ≡ all (λ x. ltb x limit) (now (bytes .entry)) ⌝ }
@@ -95,7 +113,7 @@ fn any_initial(states: &[u8]) -> bool
 
 // One record of any width: its state, its symbol and the symbol's kind, and its further states.
 fn record_fits(symbols: &[u8], states: &[u8], kind: u8, fields: &[u8]) -> bool
-    ensures { λ r. ⌜ r ≡ recordFits (sectioned (now (symbols .entry)) (now (states .entry)) [] [] []) kind (now (fields .entry)) ⌝ }
+    ensures { λ r. ⌜ r ≡ recordFits (sectioned 0 (now (symbols .entry)) (now (states .entry)) [] [] []) kind (now (fields .entry)) ⌝ }
 {
     if fields.len() < 2 {
         return false;
@@ -116,7 +134,7 @@ fn record_fits(symbols: &[u8], states: &[u8], kind: u8, fields: &[u8]) -> bool
 // The records of a section, of any width.
 fn records_fit(symbols: &[u8], states: &[u8], kind: u8, width: usize, section: &[u8]) -> bool
     requires { ⌜ 0 < width ⌝ }
-    ensures { λ r. ⌜ r ≡ all (recordFits (sectioned (now (symbols .entry)) (now (states .entry)) [] [] []) kind) (records width (now (section .entry))) ⌝ }
+    ensures { λ r. ⌜ r ≡ all (recordFits (sectioned 0 (now (symbols .entry)) (now (states .entry)) [] [] []) kind) (records width (now (section .entry))) ⌝ }
 {
     let mut at: usize = 0;
     'records: while width <= section.len() - at {
@@ -159,7 +177,7 @@ fn counts_fit(
     calls: &[u8],
     returns: &[u8],
 ) -> bool
-    ensures { λ r. ⌜ r ≡ countsFit limits (sectioned (now (symbols .entry)) (now (states .entry)) (now (internals .entry)) (now (calls .entry)) (now (returns .entry))) ⌝ }
+    ensures { λ r. ⌜ r ≡ countsFit limits (sectioned 0 (now (symbols .entry)) (now (states .entry)) (now (internals .entry)) (now (calls .entry)) (now (returns .entry))) ⌝ }
 {
     if limits.symbols < symbols.len() {
         return false;
@@ -179,14 +197,21 @@ fn counts_fit(
     returns.len() / 4 <= RETURNS
 }
 
+// The version's limit of a state byte: "3", or "63".
+fn state_byte_most(version: usize) -> usize
+    ensures { λ r. ⌜ r ≡ stateByteMost version ⌝ }
+{
+    if version == 2 { 63 } else { 3 }
+}
+
 // 5: the bytes of the symbols and the states.
-fn bytes_fit(symbols: &[u8], states: &[u8]) -> bool
-    ensures { λ r. ⌜ r ≡ bytesFit (sectioned (now (symbols .entry)) (now (states .entry)) [] [] []) ⌝ }
+fn bytes_fit(version: usize, symbols: &[u8], states: &[u8]) -> bool
+    ensures { λ r. ⌜ r ≡ bytesFit (sectioned version (now (symbols .entry)) (now (states .entry)) [] [] []) ⌝ }
 {
     if !all_below(symbols, 3) {
         return false;
     }
-    all_below(states, 4)
+    all_below(states, state_byte_most(version) + 1)
 }
 
 // 7: the records of the three sections, each of its kind and width.
@@ -197,7 +222,7 @@ fn sections_fit(
     calls: &[u8],
     returns: &[u8],
 ) -> bool
-    ensures { λ r. ⌜ r ≡ recordsFit (sectioned (now (symbols .entry)) (now (states .entry)) (now (internals .entry)) (now (calls .entry)) (now (returns .entry))) ⌝ }
+    ensures { λ r. ⌜ r ≡ recordsFit (sectioned 0 (now (symbols .entry)) (now (states .entry)) (now (internals .entry)) (now (calls .entry)) (now (returns .entry))) ⌝ }
 {
     if !records_fit(symbols, states, 0, 3, internals) {
         return false;
@@ -210,7 +235,7 @@ fn sections_fit(
 
 // 8: the order of the three sections.
 fn sections_ascend(internals: &[u8], calls: &[u8], returns: &[u8]) -> bool
-    ensures { λ r. ⌜ r ≡ orderFits (sectioned [] [] (now (internals .entry)) (now (calls .entry)) (now (returns .entry))) ⌝ }
+    ensures { λ r. ⌜ r ≡ orderFits (sectioned 0 [] [] (now (internals .entry)) (now (calls .entry)) (now (returns .entry))) ⌝ }
 {
     if !ascends(3, internals) {
         return false;
@@ -221,21 +246,22 @@ fn sections_ascend(internals: &[u8], calls: &[u8], returns: &[u8]) -> bool
     ascends(4, returns)
 }
 
-// The first of 4 to 8 that applies to five sections, or 0.
+// The first of 4 to 8 that applies to five sections of a version, or 0.
 fn table_number(
     limits: Limits,
+    version: usize,
     symbols: &[u8],
     states: &[u8],
     internals: &[u8],
     calls: &[u8],
     returns: &[u8],
 ) -> u8
-    ensures { λ r. ⌜ r ≡ firstFailed (tableTests limits (sectioned (now (symbols .entry)) (now (states .entry)) (now (internals .entry)) (now (calls .entry)) (now (returns .entry)))) ⌝ }
+    ensures { λ r. ⌜ r ≡ firstFailed (tableTests limits (sectioned version (now (symbols .entry)) (now (states .entry)) (now (internals .entry)) (now (calls .entry)) (now (returns .entry)))) ⌝ }
 {
     if !counts_fit(limits, symbols, states, internals, calls, returns) {
         return 4;
     }
-    if !bytes_fit(symbols, states) {
+    if !bytes_fit(version, symbols, states) {
         return 5;
     }
     if !any_initial(states) {
@@ -299,8 +325,8 @@ fn starts_at(table: &[u8], end: usize) -> Starts
 }
 
 // The first of 4 to 8 that applies to the file's table: each section is handed on as a part of the file.
-fn sections_number(limits: Limits, table: &[u8], starts: Starts, end: usize) -> u8
-    requires { ⌜ (end + 12 ≡ length (now table)) × (distancesFit (now table) ≡ true) × (starts ≡ startsOf (now table)) ⌝ }
+fn sections_number(limits: Limits, table: &[u8], dated: usize, starts: Starts, end: usize) -> u8
+    requires { ⌜ (end + 12 ≡ length (now table)) × (distancesFit (now table) ≡ true) × (starts ≡ startsOf (now table)) × (dated ≡ version (now table)) ⌝ }
     ensures { λ r. ⌜ r ≡ firstFailed (tableTests limits (tableOf (now (table .entry)))) ⌝ }
 {
     let symbols = starts.symbols;
@@ -310,6 +336,7 @@ fn sections_number(limits: Limits, table: &[u8], starts: Starts, end: usize) -> 
     let returns = starts.returns;
     table_number(
         limits,
+        dated,
         &table[symbols..states],
         &table[states..internals],
         &table[internals..calls],
@@ -340,14 +367,15 @@ fn read_fit(limits: Limits, table: &[u8]) -> Reading
         return Reading::Refused(1);
     }
     let end = length - 12;
-    if word_at(table, end + 10) != 1 {
+    let dated = version_of(table);
+    if !version_fits(dated) {
         return Reading::Refused(2);
     }
     if !distances_fit(table, end) {
         return Reading::Refused(3);
     }
     let starts = starts_at(table, end);
-    let number = sections_number(limits, table, starts, end);
+    let number = sections_number(limits, table, dated, starts, end);
     if number != 0 {
         return Reading::Refused(number);
     }

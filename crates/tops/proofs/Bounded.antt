@@ -39,8 +39,8 @@ module _ {m : ℕ} {t : Table} (bounded : Bounded m t) where
   pub a-return : (r : List ℕ) → List·Memᴰ r (t .returns) → automaton t .return (getD r 0 0) (getD r 1 0) (getD r 2 0) (getD r 3 0)
   a-return r i = Memᴰ·cast (sym (four-bytes r (bounded .returns r i .wide))) i
 
-  marked : (q : ℕ) → byteOf t q ≢ 0 → q < count t
-  marked q h = go (decLt q (count t))
+  named : (q : ℕ) → byteOf t q ≢ 0 → q < count t
+  named q h = go (decLt q (count t))
     where
       go : Dec (q < count t) → q < count t
       go (yes l) = l
@@ -49,8 +49,9 @@ module _ {m : ℕ} {t : Table} (bounded : Bounded m t) where
   -- the automaton of the table names states only
   pub lawful : Lawful (automaton t)
   lawful = record {
-    initially = λ {q} i. marked q (omega arith);
-    finally = λ {q} i. marked q (omega arith);
+    initially = λ {q} i. named q (omega arith);
+    finally = λ {q} i. named q (omega arith);
+    marked = λ i. i .0;
     internals = λ r. (bounded .internals _ r .from, bounded .internals _ r .to);
     calls = λ r. (bounded .calls _ r .from, bounded .calls _ r .to);
     returns = λ r. (bounded .returns _ r .from, bounded .returns _ r .under, bounded .returns _ r .to);

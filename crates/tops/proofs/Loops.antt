@@ -201,7 +201,7 @@ module _ {s words : List ℕ} {q : ℕ} (p : Starting s words q) where
         meets = p .meets ∙ ap (λ zs. map startWord (take q s) ++ zs) (zeros h) ∙ ap (λ x. map startWord (take q s) ++ x ∷ replicate (stateMost - (q + 1)) 0) f ∙ one-more h;
       }
 
-  pub started : length s ≤ q → words ≡ startWords stateMost (sectioned [] s [] [] []) ++ replicate (stateMost - length s) 0
+  pub started : length s ≤ q → words ≡ startWords stateMost (sectioned 0 [] s [] [] []) ++ replicate (stateMost - length s) 0
   unfolding startWords startWord sectioned
   started h =
       let e : q ≡ length s = omega (arith, p .inside) in

@@ -32,27 +32,27 @@ use Rattle.tops.specs.declared.Examined.{Examined}
 use Rattle.tops.proofs.Exact.{top-bit}
 use Rattle.tops.proofs.Formed.{bounded}
 
--- ---- the tops do not look at the symbols
+-- ---- the tops do not look at the version and the symbols
 
 module _ (states : List ℕ) (internals calls returns : List (List ℕ)) where
-  abbrev pub with-symbols : List ℕ → Table
-  with-symbols symbols = record { symbols = symbols; states = states; internals = internals; calls = calls; returns = returns }
+  abbrev pub headed : ℕ × List ℕ → Table
+  headed h = record { version = h .0; symbols = h .1; states = states; internals = internals; calls = calls; returns = returns }
 
-  rounds-alike : (y z : List ℕ) (n : ℕ) (f : List ℕ) → rounds n (with-symbols y) f ≡ rounds n (with-symbols z) f
+  rounds-alike : (y z : ℕ × List ℕ) (n : ℕ) (f : List ℕ) → rounds n (headed y) f ≡ rounds n (headed z) f
   unfolding rounds round
   rounds-alike y z zero f = refl
-  rounds-alike y z (suc n) f = go (same (round (with-symbols y) f) f) (rounds-alike y z n (round (with-symbols y) f))
+  rounds-alike y z (suc n) f = go (same (round (headed y) f) f) (rounds-alike y z n (round (headed y) f))
     where
-      go : (b : Bool) → rounds n (with-symbols y) (round (with-symbols y) f) ≡ rounds n (with-symbols z) (round (with-symbols z) f)
-          → _≡_ {A = List ℕ} (elim b [ true ↦ f | false ↦ rounds n (with-symbols y) (round (with-symbols y) f) ]) (elim b [ true ↦ f | false ↦ rounds n (with-symbols z) (round (with-symbols z) f) ])
+      go : (b : Bool) → rounds n (headed y) (round (headed y) f) ≡ rounds n (headed z) (round (headed z) f)
+          → _≡_ {A = List ℕ} (elim b [ true ↦ f | false ↦ rounds n (headed y) (round (headed y) f) ]) (elim b [ true ↦ f | false ↦ rounds n (headed z) (round (headed z) f) ])
       go true h = refl
       go false h = h
 
-  pub words-alike : (y z : List ℕ) → topWords (with-symbols y) ≡ topWords (with-symbols z)
+  pub words-alike : (y z : ℕ × List ℕ) → topWords (headed y) ≡ topWords (headed z)
   unfolding topWordsAt startWords
-  words-alike y z = ap (λ f. f ++ replicate (stateMost - length states) 0) (rounds-alike y z (suc (length states * suc (length states))) (startWords stateMost (with-symbols y)))
+  words-alike y z = ap (λ f. f ++ replicate (stateMost - length states) 0) (rounds-alike y z (suc (length states * suc (length states))) (startWords stateMost (headed y)))
 
-  pub found-alike : (y z : List ℕ) → topsFound (with-symbols y) ≡ topsFound (with-symbols z)
+  pub found-alike : (y z : ℕ × List ℕ) → topsFound (headed y) ≡ topsFound (headed z)
   unfolding topsFound topCount
   found-alike y z = let e = words-alike y z in λ i. record { number = 0; words = e i; found = onesOver (suc stateMost) (e i) }
 
@@ -74,9 +74,9 @@ module _ (L : Limits) (b : List ℕ) (readable : Readable L b) where
       }
 
 -- the answer is that of the sections
-pub tops-read : (b : List ℕ) → topsFound (sectioned [] (slice (start b 1) (start b 2) b) (slice (start b 2) (start b 3) b) (slice (start b 3) (start b 4) b) (slice (start b 4) (trailer b) b)) ≡ topsFound (tableOf b)
+pub tops-read : (b : List ℕ) → topsFound (sectioned 0 [] (slice (start b 1) (start b 2) b) (slice (start b 2) (start b 3) b) (slice (start b 3) (start b 4) b) (slice (start b 4) (trailer b) b)) ≡ topsFound (tableOf b)
 unfolding tableOf sectioned
-tops-read b = let t = tableOf b in found-alike (t .states) (t .internals) (t .calls) (t .returns) [] (t .symbols)
+tops-read b = let t = tableOf b in found-alike (t .states) (t .internals) (t .calls) (t .returns) (0, []) (t .version, t .symbols)
 
 -- ---- as the code takes them: the parts that the starts give
 
@@ -85,7 +85,7 @@ module _ (b : List ℕ) {s : Starts} (h : HasRead b s) {states internals calls r
   pub parts-sections : Sections states internals calls returns
   parts-sections = let starts = h .known .starts in rw (e1 ∙ states-at b starts, e2 ∙ internals-at b starts, e3 ∙ calls-at b starts, e4 ∙ returns-at b starts) (sections-read (h .limits) b (h .known .readable))
 
-  pub parts-tops : topsFound (sectioned [] states internals calls returns) ≡ topsFound (tableOf b)
+  pub parts-tops : topsFound (sectioned 0 [] states internals calls returns) ≡ topsFound (tableOf b)
   parts-tops = let starts = h .known .starts in rw (e1 ∙ states-at b starts, e2 ∙ internals-at b starts, e3 ∙ calls-at b starts, e4 ∙ returns-at b starts) (tops-read b)
 
 -- ---- the answer with the starts

@@ -106,7 +106,7 @@ first-more n f g h q = go (decLt q n)
     go (yes l) = rw (getD-take n f q 0 l, getD-take n g q 0 l) (h q)
     go (no l) = rw (List·getD-eq-default (take n f) 0 {n = q} (omega (arith, length-take n f))) (omega arith)
 
-module _ {s i c r f g : List ℕ} (h : Sections s i c r) (small : Small f) (e : g ≡ round (sectioned [] s i c r) f) where
+module _ {s i c r f g : List ℕ} (h : Sections s i c r) (small : Small f) (e : g ≡ round (sectioned 0 [] s i c r) f) where
   pub small-on : Small g
   small-on = rw e (round-grown f (sections-bounded h) small .small)
 
@@ -114,7 +114,7 @@ module _ {s i c r f g : List ℕ} (h : Sections s i c r) (small : Small f) (e : 
   pub sum-same : sumOf (take (length s) g) ≡ sumOf (take (length s) f) → same g f ≡ true
   sum-same k =
       let p = round-grown f (sections-bounded h) small in
-      let d = sum-tells (take (length s) f) (take (length s) (round (sectioned [] s i c r) f)) (length-take _ _ ∙ ap (min (length s)) (p .wide) ∙ sym (length-take _ _)) (first-more (length s) f _ (p .more)) (rw e at k) in
+      let d = sum-tells (take (length s) f) (take (length s) (round (sectioned 0 [] s i c r) f)) (length-take _ _ ∙ ap (min (length s)) (p .wide) ∙ sym (length-take _ _)) (first-more (length s) f _ (p .more)) (rw e at k) in
       round-told f h e (rw (e, d) (same-refl (take (length s) f)))
 
   pub sum-other : sumOf (take (length s) g) ≢ sumOf (take (length s) f) → same g f ≡ false
@@ -126,12 +126,12 @@ module _ {s i c r f g : List ℕ} (h : Sections s i c r) (small : Small f) (e : 
 
 -- ---- the words at the start are small
 
-pub start-small : (s : List ℕ) {words : List ℕ} → length s ≤ stateMost → words ≡ startWords stateMost (sectioned [] s [] [] []) ++ replicate (stateMost - length s) 0 → Small words
+pub start-small : (s : List ℕ) {words : List ℕ} → length s ≤ stateMost → words ≡ startWords stateMost (sectioned 0 [] s [] [] []) ++ replicate (stateMost - length s) 0 → Small words
 unfolding startWords sectioned
 start-small s few e = record { long = ap length e ∙ long; each = λ q. rw (e, getD-padded _ (stateMost - length s) q) (state-small s q) }
   where
-    long : length (startWords stateMost (sectioned [] s [] [] []) ++ replicate (stateMost - length s) 0) ≡ stateMost
-    long = length-append (startWords stateMost (sectioned [] s [] [] [])) (replicate (stateMost - length s) 0) ∙ (λ i. length-map {B = ℕ} s (λ byte. elim (isInitial byte) [ true ↦ 2 ^ stateMost | false ↦ 0 ]) i + length-replicate {A = ℕ} (stateMost - length s) 0 i) ∙ omega arith
+    long : length (startWords stateMost (sectioned 0 [] s [] [] []) ++ replicate (stateMost - length s) 0) ≡ stateMost
+    long = length-append (startWords stateMost (sectioned 0 [] s [] [] [])) (replicate (stateMost - length s) 0) ∙ (λ i. length-map {B = ℕ} s (λ byte. elim (isInitial byte) [ true ↦ 2 ^ stateMost | false ↦ 0 ]) i + length-replicate {A = ℕ} (stateMost - length s) 0 i) ∙ omega arith
 
     word-small : (b : Bool) → elim b as (λ _. ℕ) [ true ↦ 2 ^ stateMost | false ↦ 0 ] < 2 ^ suc stateMost
     word-small true = omega arith
@@ -149,11 +149,11 @@ pub record Told (s : List ℕ) (t : Table) (end words : List ℕ) (left sum : �
   pub small : Small words
   pub summed : sum ≡ sumOf (take (length s) words)
 
-module _ {s i c r end words new : List ℕ} {left sum : ℕ} (p : Told s (sectioned [] s i c r) end words left sum) (h : Sections s i c r) (l : 0 < left) (e : new ≡ round (sectioned [] s i c r) words) where
+module _ {s i c r end words new : List ℕ} {left sum : ℕ} (p : Told s (sectioned 0 [] s i c r) end words left sum) (h : Sections s i c r) (l : 0 < left) (e : new ≡ round (sectioned 0 [] s i c r) words) where
   pub told-small : Small new
   told-small = small-on h (p .small) e
 
-  pub told-on : {told : ℕ} → told ≡ sumOf (take (length s) new) → told ≢ sum → Told s (sectioned [] s i c r) end new (left - 1) told
+  pub told-on : {told : ℕ} → told ≡ sumOf (take (length s) new) → told ≢ sum → Told s (sectioned 0 [] s i c r) end new (left - 1) told
   told-on k n = record { rest = rest-on (p .rest) l e (sum-other h (p .small) e (λ d. n (k ∙ d ∙ sym (p .summed)))); small = told-small; summed = k }
 
   pub told-end : {told : ℕ} → told ≡ sumOf (take (length s) new) → told ≡ sum → new ≡ end

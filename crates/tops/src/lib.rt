@@ -70,7 +70,7 @@ fn add(words: &mut [u64; 40], q: usize, w: u64)
 // An initial state has bottom, numbered 40.
 fn start_words(states: &[u8]) -> [u64; 40]
     requires { ⌜ length (now states) ≤ 40 ⌝ }
-    ensures { λ r. ⌜ r ≡ startWords stateMost (sectioned [] (now (states .entry)) [] [] []) ++ replicate (40 - length (now (states .entry))) 0 ⌝ }
+    ensures { λ r. ⌜ r ≡ startWords stateMost (sectioned 0 [] (now (states .entry)) [] [] []) ++ replicate (40 - length (now (states .entry))) 0 ⌝ }
 {
     let mut words = [0u64; 40];
     let mut q: usize = 0;
@@ -154,7 +154,7 @@ fn sum_of(words: &[u64; 40], n: usize) -> u64
 // (proofs/Exact).
 fn rest(states: &[u8], internals: &[u8], calls: &[u8], returns: &[u8], words: &mut [u64; 40])
     requires { ⌜ Sections (now states) (now internals) (now calls) (now returns) × Small (now words) ⌝ }
-    ensures { λ _. ⌜ now (words .exit) ≡ rounds (suc (length (now (states .entry)) * suc (length (now (states .entry))))) (sectioned [] (now (states .entry)) (now (internals .entry)) (now (calls .entry)) (now (returns .entry))) (now (words .entry)) ⌝ }
+    ensures { λ _. ⌜ now (words .exit) ≡ rounds (suc (length (now (states .entry)) * suc (length (now (states .entry))))) (sectioned 0 [] (now (states .entry)) (now (internals .entry)) (now (calls .entry)) (now (returns .entry))) (now (words .entry)) ⌝ }
 {
     let n = states.len();
     let mut left = n * (n + 1) + 1;
@@ -175,7 +175,7 @@ fn rest(states: &[u8], internals: &[u8], calls: &[u8], returns: &[u8], words: &m
 // The top words of the table with these sections.
 fn words_of(states: &[u8], internals: &[u8], calls: &[u8], returns: &[u8]) -> [u64; 40]
     requires { ⌜ Sections (now states) (now internals) (now calls) (now returns) ⌝ }
-    ensures { λ r. ⌜ r ≡ topWords (sectioned [] (now (states .entry)) (now (internals .entry)) (now (calls .entry)) (now (returns .entry))) ⌝ }
+    ensures { λ r. ⌜ r ≡ topWords (sectioned 0 [] (now (states .entry)) (now (internals .entry)) (now (calls .entry)) (now (returns .entry))) ⌝ }
 {
     let mut words = start_words(states);
     rest(states, internals, calls, returns, &mut words);
@@ -206,7 +206,7 @@ fn count_tops(words: [u64; 40], n: usize) -> u32
 // The answer for the table with these sections.
 fn tops_of(states: &[u8], internals: &[u8], calls: &[u8], returns: &[u8]) -> TopWords
     requires { ⌜ Sections (now states) (now internals) (now calls) (now returns) ⌝ }
-    ensures { λ r. ⌜ r ≡ topsFound (sectioned [] (now (states .entry)) (now (internals .entry)) (now (calls .entry)) (now (returns .entry))) ⌝ }
+    ensures { λ r. ⌜ r ≡ topsFound (sectioned 0 [] (now (states .entry)) (now (internals .entry)) (now (calls .entry)) (now (returns .entry))) ⌝ }
 {
     let words = words_of(states, internals, calls, returns);
     TopWords {

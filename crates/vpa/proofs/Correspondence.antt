@@ -5,7 +5,7 @@ use mathlib.Core.Logic.{_↔_}
 use mathlib.Core.List.{List, [], _∷_, map}
 use Prim.Native.Nat.{ℕ}
 use native.Mathlib.Omega.{arith}
-use Rattle.vpa.specs.Automata.{Automaton, Configuration, _at_, Lawful, Step, internally, calling, returning, Run, Reachable, start, next, AcceptsBy, Ended, Accepts}
+use Rattle.vpa.specs.Automata.{Automaton, Configuration, _at_, Lawful, Step, internally, calling, returning, Run, Reachable, start, next, AcceptsBy, Ended, Accepts, EndedIn, EndsIn}
 use Rattle.vpa.specs.Quotients.{Raq, Joined, quotient, Corresponds, AtEveryStep, at-end, at-step, EveryStep}
 use Rattle.vpa.proofs.Tops.{chain, chain-top, reachable-top, top-named, reachable-state}
 use Rattle.vpa.proofs.Simulation.{trace, Simulation, steps-map, steps-swap, sim-steps, sim-accepts}
@@ -136,12 +136,30 @@ module _ {S T : Type 0} (A : Automaton S) (m : S → T) where
     pub quotient-words : (w : List ℕ) → Accepts A w ↔ Accepts (quotient A m) w
     quotient-words = quotient-exact ended-exact
 
+    mark-exact : (k : ℕ) (c : Configuration S) (C : Configuration T) → Reachable A c → Corresponds A m c C → A .mark (c .state) k ↔ quotient A m .mark (C .state) k
+    unfolding quotient
+    mark-exact k c C h e = (
+      λ i. (c .state, e .states, i),
+      λ (p, f, i). raq .marks (joined (lawful .marked i) f (reachable-state A lawful h) (e .states)) .0 i,
+    )
+
+    ended-in-exact : (k : ℕ) (c : Configuration S) (C : Configuration T) → Reachable A c → Corresponds A m c C → EndedIn A k c ↔ EndedIn (quotient A m) k C
+    ended-in-exact k c C h e =
+        let a = mark-exact k c C h e in
+        let n = empty-exact (c .stack) (C .stack) (e .stacks) in
+        (λ i. record { mark = a .0 (i .mark); closed = n .0 (i .closed) }, λ i. record { mark = a .1 (i .mark); closed = n .1 (i .closed) })
+
+    -- request (v), of words that end on the empty stack in a state of a mark
+    pub quotient-marks : (k : ℕ) (w : List ℕ) → EndsIn A k w ↔ EndsIn (quotient A m) k w
+    quotient-marks k = quotient-exact (ended-in-exact k)
+
   -- the quotient names states only
   pub quotient-lawful : Lawful A → Lawful (quotient A m)
   unfolding quotient
   quotient-lawful lawful = record {
     initially = λ (p, e, i). (p, e, lawful .initially i);
     finally = λ (p, e, i). (p, e, lawful .finally i);
+    marked = λ (p, e, i). (p, e, lawful .marked i);
     internals = λ (p, q, e, f, r). ((p, e, lawful .internals r .0), (q, f, lawful .internals r .1));
     calls = λ (p, q, e, f, r). ((p, e, lawful .calls r .0), (q, f, lawful .calls r .1));
     returns = λ (p, s, q, e, f, g, r, k). ((p, e, lawful .returns r .0), (s, f, lawful .returns r .1), (q, g, lawful .returns r .2));

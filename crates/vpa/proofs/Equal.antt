@@ -4,7 +4,7 @@ use mathlib.Core.Logic.{_↔_}
 use mathlib.Core.List.{List}
 use mathlib.Core.Option.{Option}
 use Prim.Native.Nat.{ℕ}
-use Rattle.vpa.specs.Automata.{Automaton, Configuration, Step, internally, calling, returning, Reachable, start, next, Tops, AcceptsBy, Accepts}
+use Rattle.vpa.specs.Automata.{Automaton, Configuration, Step, internally, calling, returning, Reachable, start, next, Tops, AcceptsBy, Accepts, EndsIn}
 use Rattle.vpa.proofs.Simulation.{Simulation, sim-accepts}
 
 -- what A has, B has
@@ -14,10 +14,11 @@ pub record Within {S : Type 0} (A B : Automaton S) : Type 0 where
   pub calls : {q q' : S} {a : ℕ} → A .call q a q' → B .call q a q'
   pub returns : {q s q' : S} {a : ℕ} → A .return q a s q' → B .return q a s q'
 
--- the same initial and accepting states and the same moves
+-- the same initial and accepting states, the same marks and the same moves
 pub record Same {S : Type 0} (A B : Automaton S) : Type 0 where
   pub initially : (q : S) → A .initial q ↔ B .initial q
   pub finally : (q : S) → A .accepting q ↔ B .accepting q
+  pub marked : (q : S) (k : ℕ) → A .mark q k ↔ B .mark q k
   pub internals : (q : S) (a : ℕ) (q' : S) → A .internal q a q' ↔ B .internal q a q'
   pub calls : (q : S) (a : ℕ) (q' : S) → A .call q a q' ↔ B .call q a q'
   pub returns : (q : S) (a : ℕ) (s q' : S) → A .return q a s q' ↔ B .return q a s q'
@@ -83,4 +84,11 @@ module _ {S : Type 0} {A B : Automaton S} (alike : Same A B) where
   same-words = same-accepts (λ c. (
     λ h. record { accepting = alike .finally (c .state) .0 (h .accepting); empty = h .empty },
     λ h. record { accepting = alike .finally (c .state) .1 (h .accepting); empty = h .empty },
+  ))
+
+  -- the same words that end in a state of a mark
+  pub same-marks : (k : ℕ) (w : List ℕ) → EndsIn A k w ↔ EndsIn B k w
+  same-marks k = same-accepts (λ c. (
+    λ h. record { mark = alike .marked (c .state) k .0 (h .mark); closed = h .closed },
+    λ h. record { mark = alike .marked (c .state) k .1 (h .mark); closed = h .closed },
   ))

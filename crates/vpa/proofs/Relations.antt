@@ -11,6 +11,7 @@ module _ {S : Type 0} (A : Automaton S) (R : S → S → Type 0) where
   -- Definition 1 read one way: what p does, a joined q does
   pub record Matched : Type 0 where
     pub accepting : {p q : S} → R p q → A .accepting p → A .accepting q
+    pub marks : {p q : S} {k : ℕ} → R p q → A .mark p k → A .mark q k
     pub internals : {p q p' : S} {a : ℕ} → R p q → A .internal p a p' → (q' : S) × A .internal q a q' × R p' q'
     pub calls : {p q p' : S} {a : ℕ} → R p q → A .call p a p' → (q' : S) × A .call q a q' × R p' q'
     pub returns : {p q s u p' : S} {a : ℕ} → R p q → R s u → Tops A p (some s) → Tops A q (some u) → A .return p a s p' → (q' : S) × A .return q a u q' × R p' q'
@@ -26,6 +27,7 @@ module _ {S : Type 0} (A : Automaton S) (R : S → S → Type 0) where
   pub matched-of : Raq A R → Matched
   matched-of raq = record {
     accepting = λ e. raq .accepting e .0;
+    marks = λ e. raq .marks e .0;
     internals = λ e. raq .internals e .forth;
     calls = λ e. raq .calls e .forth;
     returns = λ e f. raq-returns raq e f;
@@ -48,6 +50,7 @@ module _ {S : Type 0} (A : Automaton S) (R : S → S → Type 0) where
     raq-of = record {
       equivalence = equivalence;
       accepting = λ e. (matched .accepting e, matched .accepting (equivalence .symmetric e));
+      marks = λ e. (matched .marks e, matched .marks (equivalence .symmetric e));
       internals = λ e. record { forth = λ r. matched .internals e r; back = λ r. flipped (matched .internals (equivalence .symmetric e) r) };
       calls = λ e. record { forth = λ r. matched .calls e r; back = λ r. flipped (matched .calls (equivalence .symmetric e) r) };
       returns = λ e f. agreed e f (reachable? _ _ (equivalence .within e .0) (equivalence .within f .0)) (reachable? _ _ (equivalence .within e .1) (equivalence .within f .1));
@@ -72,6 +75,7 @@ module _ {S : Type 0} (A : Automaton S) (R Q : S → S → Type 0) (forth : (p q
       transitive = λ h k. forth _ _ (raq .equivalence .transitive (back _ _ h) (back _ _ k));
     };
     accepting = λ h. raq .accepting (back _ _ h);
+    marks = λ h. raq .marks (back _ _ h);
     internals = λ h. along (raq .internals (back _ _ h));
     calls = λ h. along (raq .calls (back _ _ h));
     returns = λ h k. agree-along (raq .returns (back _ _ h) (back _ _ k));
@@ -103,6 +107,7 @@ module _ {S : Type 0} (A : Automaton S) where
   equality-raq lawful = record {
     equivalence = joined-equivalence A (λ q. q);
     accepting = λ e. (λ h. subst (A .accepting) (e .classes) h, λ h. subst (A .accepting) (sym (e .classes)) h);
+    marks = λ {p} {q} {k} e. (λ h. subst (λ s. A .mark s k) (e .classes) h, λ h. subst (λ s. A .mark s k) (sym (e .classes)) h);
     internals = λ {p} {q} e. equal-closed (A .internal p) (A .internal q) (λ a q r. lawful .internals r .1) (ap (A .internal) (e .classes));
     calls = λ {p} {q} e. equal-closed (A .call p) (A .call q) (λ a q r. lawful .calls r .1) (ap (A .call) (e .classes));
     returns = λ {p} {q} {p̂} {q̂} e f. closed (equal-closed (λ a. A .return p a p̂) (λ a. A .return q a q̂) (λ a q r. lawful .returns r .2) (λ i a. A .return (e .classes i) a (f .classes i)));

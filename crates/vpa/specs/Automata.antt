@@ -1,15 +1,17 @@
 -- Visibly pushdown automata over any type of states, given by relations: configurations, steps, runs, reachable stack tops, accepted words
--- (source 000, Sect. 2; document 01, "Runs and reachable tops"; document 02, (iv)). Assumes nothing.
+-- (source 000, Sect. 2; document 01, "Runs and reachable tops"; document 02, (iv) and (v)). Assumes nothing.
 use mathlib.Core.Path.{_≡_}
 use mathlib.Core.List.{List, [], _∷_}
 use mathlib.Core.Option.{Option, none, some}
 use Prim.Native.Nat.{ℕ, zero, suc, _-_}
 
--- source 000, Sect. 2.1: the states Q, the initial and the accepting ones, and the internal, call and return transitions; symbols are numbers
+-- source 000, Sect. 2.1: the states Q, the initial and the accepting ones, and the internal, call and return transitions; symbols are numbers.
+-- Request (v) adds the states of each mark
 pub record Automaton (S : Type 0) : Type 1 where
   pub state : S → Type 0
   pub initial : S → Type 0
   pub accepting : S → Type 0
+  pub mark : S → ℕ → Type 0
   pub internal : S → ℕ → S → Type 0
   pub call : S → ℕ → S → Type 0
   pub return : S → ℕ → S → S → Type 0
@@ -29,10 +31,11 @@ top [] = none
 top (s ∷ σ) = some s
 
 module _ {S : Type 0} (A : Automaton S) where
-  -- Δ, Q₀ and F name states only
+  -- Δ, Q₀, F and the marks name states only
   pub record Lawful : Type 0 where
     pub initially : {q : S} → A .initial q → A .state q
     pub finally : {q : S} → A .accepting q → A .state q
+    pub marked : {q : S} {k : ℕ} → A .mark q k → A .state q
     pub internals : {q q' : S} {a : ℕ} → A .internal q a q' → A .state q × A .state q'
     pub calls : {q q' : S} {a : ℕ} → A .call q a q' → A .state q × A .state q'
     pub returns : {q s q' : S} {a : ℕ} → A .return q a s q' → A .state q × A .state s × A .state q'
@@ -83,6 +86,15 @@ module _ {S : Type 0} (A : Automaton S) where
   -- request (iv): "A word is now accepted when some run ends in an accepting state on the empty stack."
   abbrev pub Accepts : List ℕ → Type 0
   Accepts = AcceptsBy Ended
+
+  -- "on the empty stack in a state of that mark", accepting or not
+  pub record EndedIn (k : ℕ) (c : Configuration S) : Type 0 where
+    pub mark : A .mark (c .state) k
+    pub closed : c .stack ≡ []
+
+  -- request (v): the words with a run that ends so
+  abbrev pub EndsIn : ℕ → List ℕ → Type 0
+  EndsIn k = AcceptsBy (EndedIn k)
 
 -- how many calls are open behind a symbol where n were before it, by the symbol's kind, "0 internal, 1 call, 2 return": a call opens, a return
 -- closes the latest that is open, and where none is open it closes nothing

@@ -1,5 +1,5 @@
 -- Source 000, Sect. 2.1 and 3: the quotient, closure under successors and Definition 1, in the paper's own form; runs compared at every step
--- (document 02, (xii)). Assumes nothing.
+-- (document 02, (xii)); marks (document 02, (v)). Assumes nothing.
 use mathlib.Core.Path.{_≡_}
 use mathlib.Core.Logic.{_↔_}
 use mathlib.Core.List.{List, [], _∷_, map}
@@ -26,10 +26,11 @@ module _ {S : Type 0} (A : Automaton S) where
     second-unreachable : ¬ Tops A q (some q̂) → ReturnsAgree R p q p̂ q̂
     first-unreachable : ¬ Tops A p (some p̂) → ReturnsAgree R p q p̂ q̂
 
-  -- Definition 1: a reachability-aware quotienting relation
+  -- Definition 1: a reachability-aware quotienting relation; by request (v) its condition (i) is that joined states agree on accepting and on mark
   pub record Raq (R : S → S → Type 0) : Type 0 where
     pub equivalence : Equivalence R
     pub accepting : {p q : S} → R p q → A .accepting p ↔ A .accepting q
+    pub marks : {p q : S} {k : ℕ} → R p q → A .mark p k ↔ A .mark q k
     pub internals : {p q : S} → R p q → Closed R (A .internal p) (A .internal q)
     pub calls : {p q : S} → R p q → Closed R (A .call p) (A .call q)
     pub returns : {p q p̂ q̂ : S} → R p q → R p̂ q̂ → ReturnsAgree R p q p̂ q̂
@@ -42,12 +43,13 @@ module _ {S T : Type 0} (A : Automaton S) (m : S → T) where
     pub classes : m p ≡ m q
 
   -- the quotient under a map of the states to classes, "without the input's dead returns": "Its records are the images of internals, calls
-  -- and live returns", a class is "initial or accepting if a member is"
+  -- and live returns", a class is "initial or accepting if a member is", and has "the members' mark"
   unfoldable pub quotient : Automaton T
   quotient = record {
     state = λ P. (p : S) × (m p ≡ P) × A .state p;
     initial = λ P. (p : S) × (m p ≡ P) × A .initial p;
     accepting = λ P. (p : S) × (m p ≡ P) × A .accepting p;
+    mark = λ P k. (p : S) × (m p ≡ P) × A .mark p k;
     internal = λ P a Q. (p q : S) × (m p ≡ P) × (m q ≡ Q) × A .internal p a q;
     call = λ P a Q. (p q : S) × (m p ≡ P) × (m q ≡ Q) × A .call p a q;
     return = λ P a U Q. (p s q : S) × (m p ≡ P) × (m s ≡ U) × (m q ≡ Q) × A .return p a s q × Tops A p (some s);

@@ -14,7 +14,7 @@ mod random;
 mod reference;
 
 use frames::{Cases, Room};
-use named::{faults, fewer_pairs, joined_stack_symbols, longest, more_classes, more_faults, not_transitive, one_undone, one_way, pigeons};
+use named::{faults, fewer_pairs, joined_stack_symbols, longest, more_classes, more_faults, named_located, not_transitive, one_undone, one_way, pigeons};
 use named::{silent, t, t_with_call, t_with_return, two_undone, unreachable_stack};
 use random::Random;
 use reference::{Delivery, Limits, Table, LARGEST, STANDARD};
@@ -549,6 +549,54 @@ fn reduced_within(c: &mut Cases, r: &mut Random) {
     c.limits = STANDARD;
 }
 
+/// Version 2: its limits, marks that forbid and marks that do not, the quotient's version and marks.
+fn marks(c: &mut Cases, r: &mut Random) {
+    let table = named_located();
+    let (b, n) = (table.bytes(), table.count());
+    c.read(&b).unwrap();
+    assert_eq!(c.check(&b, &[0, 1, 2, 2]), Err(17));
+    assert_eq!(c.quotient(&b, &[0, 1, 2, 2], 90), Err(17));
+    assert_eq!(c.reduce(&b, 9, Room { list: short_words(&table), map: n, out: b.len() }).0.map(|x| x.classes), Ok(4));
+    c.clauses(&b, words_needed(&table)).unwrap();
+    // without the marks both are one state; version 2 stays version 2
+    let plain = Table { states: table.states.iter().map(|x| x % 4).collect(), ..table.clone() };
+    for version in [1, 2] {
+        let b = Table { version, ..plain.clone() }.bytes();
+        let (answer, map, out) = c.reduce(&b, 9, Room { list: short_words(&plain), map: n, out: b.len() });
+        let length = answer.unwrap().length;
+        assert_eq!((&map[..], &out[length - 2..length]), (&[0, 1, 2, 2][..], &[version as u8, 0][..]));
+    }
+    // the same mark on both: joined, and the class has it; marks of joined states that are not accepting; initial is not compared
+    let both = Table { states: vec![3, 0, 2 + 4 * 15, 2 + 4 * 15], ..table.clone() };
+    let (_, _, out) = c.reduce(&both.bytes(), 9, Room { list: short_words(&both), map: n, out: 90 });
+    assert_eq!(out[4..7], [3, 0, 62]);
+    let silent = |states: &[u8]| Table { version: 2, ..silent(states) };
+    for (states, map, answer) in [(&[5, 4][..], &[0, 0][..], Ok(1)), (&[5, 0], &[0, 0], Err(17)), (&[5, 8], &[0, 0], Err(17)), (&[7, 4], &[0, 0], Err(17)), (&[63, 62], &[0, 0], Ok(1))] {
+        let b = silent(states).bytes();
+        assert_eq!(c.check(&b, map), answer);
+        c.quotient(&b, map, 14).ok();
+        c.clauses(&b, 4).ok();
+    }
+    // 2 by the whole number; 5 by the version's limit
+    let file = |version: u16, state: u8| Table { version, ..silent(&[1, state]) }.bytes();
+    for version in [0, 3, 4, 256, 257, 258, 512, 65_535] {
+        assert_eq!(c.read(&file(version, 0)), Err(2));
+    }
+    for (version, state, answer) in [(1, 3, 0), (1, 4, 5), (1, 63, 5), (1, 64, 5), (2, 4, 0), (2, 63, 0), (2, 64, 5), (2, 255, 5)] {
+        assert_eq!(c.read(&file(version, state)).err().unwrap_or(0), answer, "{version} {state}");
+        assert_eq!(c.tops(&file(version, state)).err().unwrap_or(0), answer);
+    }
+    assert_eq!(c.read(&silent(&[4, 8]).bytes()), Err(6));
+    for turn in 0..30 {
+        let some = small_table(r, turn);
+        let table = random::marked(r, &some);
+        let map = around_needs(c, &table, turn);
+        for (number, map) in coarser(&table, &map).into_iter().take(2) {
+            assert_eq!(c.check(&table.bytes(), &map), Err(number));
+        }
+    }
+}
+
 /// A line: a state, and its uses as 32 bits.
 fn line(state: u8, uses: u32) -> Vec<u8> {
     [&[state][..], &uses.to_le_bytes()].concat()
@@ -656,6 +704,7 @@ fn main() {
     reduced_within(&mut c, &mut r);
     using(&mut c, &mut r);
     choosing(&mut c, &mut r);
+    marks(&mut c, &mut r);
     println!("cases of the operations by number: {:?}; {} bytes", &c.counts[1..], c.input.len() + c.output.len());
     std::fs::write(format!("{root}/crates/cases/stdin"), &c.input).unwrap();
     std::fs::write(format!("{root}/crates/cases/stdout"), &c.output).unwrap();

@@ -20,6 +20,7 @@ fn main() {
     let tables = [
         ("t", named::t().bytes()),
         ("atlas", named::atlas().bytes()),
+        ("named_located", named::named_located().bytes()),
         ("unreachable_stack", named::unreachable_stack().bytes()),
         ("not_transitive", named::not_transitive().bytes()),
         ("joined_stack_symbols", named::joined_stack_symbols().bytes()),

@@ -12,7 +12,7 @@ start c = c .before .before .before .before .before .before .before .before .bef
 few : (c : tie.After-return-keys2) → Few (start c .args .symbols .now) (c .before .before .before .before .before .before .before .before .before .class-count .result) (c .before .before .before .before .before .before .before .collect .result) (c .before .before .before .before .collect2 .result) (c .before .collect3 .result)
 few c =
     let a = start c in
-    counts-few (a .args .symbols .now) (a .args .states .now) (a .args .internals .now) (a .args .calls .now) (a .args .returns .now) (a .args .words .now) (a .args .map .now) (c .before .before .before .before .before .before .before .before .before .class-count .ensures) (c .before .before .before .before .before .before .before .collect .ensures) (c .before .before .before .before .collect2 .ensures) (c .before .collect3 .ensures) (a .pre) (λ k. c .before .before .before .before .before .before .before .before .before .before .before .shared-slice-known7 .given k .fits)
+    counts-few (a .args .version) (a .args .symbols .now) (a .args .states .now) (a .args .internals .now) (a .args .calls .now) (a .args .returns .now) (a .args .words .now) (a .args .map .now) (c .before .before .before .before .before .before .before .before .before .class-count .ensures) (c .before .before .before .before .before .before .before .collect .ensures) (c .before .before .before .before .collect2 .ensures) (c .before .collect3 .ensures) (a .pre) (λ k. c .before .before .before .before .before .before .before .before .before .before .before .shared-slice-known7 .given k .fits)
 
 class-count-requires : tie.Need-class-count-requires
 class-count-requires c κs = search needs
@@ -60,7 +60,7 @@ add-length-5 : tie.Need-add-length-5
 add-length-5 c = omega (arith, few c)
 
 returns : tie.Need-returns
-returns c = let a = c .before .before .before .before .before .before .before .before .before .before .before .before .before .before .before .before .before .before .before in short (a .args .symbols .now) (a .args .states .now) (a .args .internals .now) (a .args .calls .now) (a .args .returns .now) (a .args .words .now) (a .args .map .now) (c .before .before .before .before .before .before .before .before .before .before .class-count .ensures) (c .before .before .before .before .before .before .before .before .collect .ensures) (c .before .before .before .before .before .collect2 .ensures) (c .before .before .collect3 .ensures) (a .args .out .now) (c .if1 .taken)
+returns c = let a = c .before .before .before .before .before .before .before .before .before .before .before .before .before .before .before .before .before .before .before in short (a .args .version) (a .args .symbols .now) (a .args .states .now) (a .args .internals .now) (a .args .calls .now) (a .args .returns .now) (a .args .words .now) (a .args .map .now) (c .before .before .before .before .before .before .before .before .before .before .class-count .ensures) (c .before .before .before .before .before .before .before .before .collect .ensures) (c .before .before .before .before .before .collect2 .ensures) (c .before .before .collect3 .ensures) (a .args .out .now) (c .if1 .taken)
 
 array-share-prefix-internal-keys : tie.Need-array-share-prefix-internal-keys
 array-share-prefix-internal-keys c = omega (arith, few (c .before) .internals)
@@ -81,13 +81,13 @@ slice-aggregate-put-table-3 : tie.Need-slice-aggregate-put-table-3
 slice-aggregate-put-table-3 c = holds-long (c .before .before .before .before .before .collect3 .ensures)
 
 put-table-requires : tie.Need-put-table-requires
-put-table-requires c κs = let a = c .before .before .before .before .before .before .before .before .before .before .before .before .before .before .before .before .before .before .before .before .before .before .before in (few (c .before .before .before .before .before) .classes, fits (a .args .symbols .now) (a .args .states .now) (a .args .internals .now) (a .args .calls .now) (a .args .returns .now) (a .args .words .now) (a .args .map .now) (c .before .before .before .before .before .before .before .before .before .before .before .before .before .before .class-count .ensures) (c .before .before .before .before .before .before .before .before .before .before .before .before .collect .ensures) (c .before .before .before .before .before .before .before .before .before .collect2 .ensures) (c .before .before .before .before .before .before .collect3 .ensures) (a .args .out .now) (c .before .before .before .before .if1 .left))
+put-table-requires c κs = let a = c .before .before .before .before .before .before .before .before .before .before .before .before .before .before .before .before .before .before .before .before .before .before .before in (few (c .before .before .before .before .before) .classes, fits (a .args .version) (a .args .symbols .now) (a .args .states .now) (a .args .internals .now) (a .args .calls .now) (a .args .returns .now) (a .args .words .now) (a .args .map .now) (c .before .before .before .before .before .before .before .before .before .before .before .before .before .before .class-count .ensures) (c .before .before .before .before .before .before .before .before .before .before .before .before .collect .ensures) (c .before .before .before .before .before .before .before .before .before .collect2 .ensures) (c .before .before .before .before .before .before .collect3 .ensures) (a .args .out .now) (c .before .before .before .before .if1 .left))
 
 same-length : tie.Need-same-length
 same-length c = search needs
 
 returns-2 : tie.Need-returns-2
-returns-2 c = let a = c .before .before .before .before .before .before .before .before .before .before .before .before .before .before .before .before .before .before .before .before .before .before .before .before .before .before in put (a .args .symbols .now) (a .args .states .now) (a .args .internals .now) (a .args .calls .now) (a .args .returns .now) (a .args .words .now) (a .args .map .now) (c .before .before .before .before .before .before .before .before .before .before .before .before .before .before .before .before .before .class-count .ensures) (c .before .before .before .before .before .before .before .before .before .before .before .before .before .before .before .collect .ensures) (c .before .before .before .before .before .before .before .before .before .before .before .before .collect2 .ensures) (c .before .before .before .before .before .before .before .before .before .collect3 .ensures) (a .args .out .now) (c .before .before .before .before .before .before .before .if1 .left) (c .before .before .put-table .ensures)
+returns-2 c = let a = c .before .before .before .before .before .before .before .before .before .before .before .before .before .before .before .before .before .before .before .before .before .before .before .before .before .before in put (a .args .version) (a .args .symbols .now) (a .args .states .now) (a .args .internals .now) (a .args .calls .now) (a .args .returns .now) (a .args .words .now) (a .args .map .now) (c .before .before .before .before .before .before .before .before .before .before .before .before .before .before .before .before .before .class-count .ensures) (c .before .before .before .before .before .before .before .before .before .before .before .before .before .before .before .collect .ensures) (c .before .before .before .before .before .before .before .before .before .before .before .before .collect2 .ensures) (c .before .before .before .before .before .before .before .before .before .collect3 .ensures) (a .args .out .now) (c .before .before .before .before .before .before .before .if1 .left) (c .before .before .put-table .ensures)
 
 pub write-parts-spec : {M : Type 1} → statement M
 write-parts-spec =

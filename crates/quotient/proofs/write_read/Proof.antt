@@ -1,9 +1,12 @@
 -- `quotient::write_read` meets its contract: the parts that are handed on are the sections. Assumes nothing.
 use mathlib.Core.Path.{_∙_}
-use Rattle.quotient.proofs.Quotienting.{known-sized, written-read}
+use Rattle.quotient.proofs.Quotienting.{known-long, known-sized, written-read}
 use borrow.Author.Needs.{needs}
 use Rattle.quotient.proofs.write_read.Statement.{statement}
 use Rattle.quotient.proofs.write_read.Tie as tie
+
+version-of-requires : tie.Need-version-of-requires
+version-of-requires c κs = known-long (c .before .before .before .before .pre)
 
 part-requires : tie.Need-part-requires
 part-requires c κs = search needs
@@ -22,7 +25,7 @@ part-requires-5 c κs = search needs
 
 write-parts-requires : tie.Need-write-parts-requires
 write-parts-requires c κs =
-    known-sized (c .before .before .before .before .before .before .before .before .before .before .pre)
+    known-sized (c .before .before .before .before .before .before .before .before .before .before .before .pre)
     (c .before .before .before .before .before .part .ensures) (c .before .before .before .before .part2 .ensures) (c .before .before .before .part3 .ensures) (c .before .before .part4 .ensures) (c .before .part5 .ensures)
 
 same-length : tie.Need-same-length
@@ -31,15 +34,16 @@ same-length c = search needs
 returns : tie.Need-returns
 returns c =
     c .before .before .write-parts .ensures
-    ∙ written-read (c .before .before .before .before .before .before .before .before .before .before .before .before .before .pre)
+    ∙ written-read (c .before .before .before .before .before .before .before .before .before .before .before .before .before .before .pre)
     (c .before .before .before .before .before .before .before .before .part .ensures) (c .before .before .before .before .before .before .before .part2 .ensures) (c .before .before .before .before .before .before .part3 .ensures) (c .before .before .before .before .before .part4 .ensures) (c .before .before .before .before .part5 .ensures)
-    (c .before .before .before .before .before .before .before .before .before .before .before .before .before .args .map .now) (λ k. c .before .before .before .before .before .before .before .before .before .before .before .before .shared-slice-known .given k .fits) (λ k. c .before .before .before .before .before .before .before .before .before .before .shared-slice-known3 .given k .fits)
-    (c .before .before .before .before .before .before .before .before .before .before .before .before .before .args .out .now)
+    (c .before .before .before .before .before .before .before .before .before .before .before .before .before .before .args .map .now) (λ k. c .before .before .before .before .before .before .before .before .before .before .before .before .before .shared-slice-known .given k .fits) (λ k. c .before .before .before .before .before .before .before .before .before .before .before .shared-slice-known3 .given k .fits)
+    (c .before .before .before .before .before .before .before .before .before .version-of .ensures) (c .before .before .before .before .before .before .before .before .before .before .before .before .before .before .args .out .now)
 
 pub write-read-spec : {M : Type 1} → statement M
 write-read-spec =
     tie.close
     (tie.spec
+    version-of-requires
     part-requires
     part-requires-2
     part-requires-3

@@ -14,7 +14,7 @@ use Rattle.table.proofs.records_fit.Statement.{statement}
 use Rattle.table.proofs.records_fit.Tie as tie
 
 abbrev Inv-records : tie.InvT-records
-Inv-records symbols states kind width section at₀ at = walks.Still (λ x. all (recordFits (sectioned symbols states [] [] []) kind) (records width x)) section at
+Inv-records symbols states kind width section at₀ at = walks.Still (λ x. all (recordFits (sectioned 0 symbols states [] [] []) kind) (records width x)) section at
 
 abbrev μ-records : tie.MeasureT-records
 μ-records symbols states kind width section at₀ at = length section - at

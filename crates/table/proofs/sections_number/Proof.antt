@@ -57,7 +57,7 @@ table-number-requires : tie.Need-table-number-requires
 table-number-requires c κs = search needs
 
 returns : tie.Need-returns
-returns c = (c .table-number .ensures) ∙ ap (λ t. firstFailed (tableTests (c .before .before .before .before .before .before .before .args .limits) t)) (numbers.sections-are _ _ _ ((c .before .before .before .before .before .before .before .pre) .0) ((c .before .before .before .before .before .before .before .pre) .1) ((c .before .before .before .before .before .before .before .pre) .2))
+returns c = (c .table-number .ensures) ∙ ap (λ t. firstFailed (tableTests (c .before .before .before .before .before .before .before .args .limits) t)) (numbers.sections-are _ _ _ ((c .before .before .before .before .before .before .before .pre) .0) ((c .before .before .before .before .before .before .before .pre) .1) ((c .before .before .before .before .before .before .before .pre) .2) ((c .before .before .before .before .before .before .before .pre) .3))
 
 pub sections-number-spec : {M : Type 1} → statement M
 sections-number-spec =

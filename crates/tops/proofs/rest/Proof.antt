@@ -13,7 +13,7 @@ use Rattle.tops.proofs.rest.Tie as tie
 
 abbrev Inv-rounds : tie.InvT-rounds
 Inv-rounds states internals calls returns words₀ n left₀ sum₀ words left sum =
-    Told states (sectioned [] states internals calls returns) (rounds (suc (length states * suc (length states))) (sectioned [] states internals calls returns) words₀) words left sum
+    Told states (sectioned 0 [] states internals calls returns) (rounds (suc (length states * suc (length states))) (sectioned 0 [] states internals calls returns) words₀) words left sum
 
 abbrev μ-rounds : tie.MeasureT-rounds
 μ-rounds states internals calls returns words₀ n left₀ sum₀ words left sum = left

@@ -23,11 +23,11 @@ module _ (c : tie.Start) where
   abbrev states : List ℕ
   states = classBytes (ofStates (c .args .states .now)) (c .args .map .now) (c .args .classes)
 
-  abbrev behind : (List ℕ → List ℕ → List ℕ → List ℕ → List ℕ → List ℕ) → List ℕ
-  behind f = f (c .args .symbols .now) states (c .args .internals .now) (c .args .calls .now) (c .args .returns .now)
+  abbrev behind : (ℕ → List ℕ → List ℕ → List ℕ → List ℕ → List ℕ → List ℕ) → List ℕ
+  behind f = f (c .args .version) (c .args .symbols .now) states (c .args .internals .now) (c .args .calls .now) (c .args .returns .now)
 
   abbrev all : List ℕ
-  all = bytesOf (keyedTable (c .args .symbols .now) states (c .args .internals .now) (c .args .calls .now) (c .args .returns .now))
+  all = bytesOf (keyedTable (c .args .version) (c .args .symbols .now) states (c .args .internals .now) (c .args .calls .now) (c .args .returns .now))
 
   abbrev end : List ℕ
   end = over all (c .args .out .now)
@@ -36,10 +36,10 @@ module _ (c : tie.Start) where
   states-long = length-bytes (ofStates (c .args .states .now)) (c .args .map .now) (c .args .classes)
 
   all-long : length all ≡ length (c .args .symbols .now) + length states + 3 * length (c .args .internals .now) + 3 * length (c .args .calls .now) + 4 * length (c .args .returns .now) + 12
-  all-long = bytes-long (c .args .symbols .now) states (c .args .internals .now) (c .args .calls .now) (c .args .returns .now)
+  all-long = bytes-long (c .args .version) (c .args .symbols .now) states (c .args .internals .now) (c .args .calls .now) (c .args .returns .now)
 
   end-long : length end < 2 ^ 64
-  end-long = omega (arith, length-over all (c .args .out .now) (c .pre .1), c .good .1 .1 .1 .1 .1 .1 .1 .0 .0)
+  end-long = omega (arith, length-over all (c .args .out .now) (c .pre .1), c .good .1 .1 .1 .1 .1 .1 .1 .1 .0 .0)
 
 -- the output when a part that was lent from a place on is back
 abbrev back : List ℕ → ℕ → List ℕ → List ℕ
@@ -57,7 +57,7 @@ abbrev out2 : tie.After-slice-known2 → List ℕ
 out2 c = c .before .before .put-bytes .last .1 .0
 
 symbols-put : (c : tie.After-slice-known2) → Writing (behind (start2 c) behindSymbols) (end (start2 c)) (out2 c) (at2 c)
-symbols-put c = let a = start2 c in begun (a .args .symbols .now) (a .args .out .now) (a .pre .1) (bytes-apart (a .args .symbols .now) (states a) (a .args .internals .now) (a .args .calls .now) (a .args .returns .now)) (c .before .before .put-bytes .ensures)
+symbols-put c = let a = start2 c in begun (a .args .symbols .now) (a .args .out .now) (a .pre .1) (bytes-apart (a .args .version) (a .args .symbols .now) (states a) (a .args .internals .now) (a .args .calls .now) (a .args .returns .now)) (c .before .before .put-bytes .ensures)
 
 abbrev start3 : tie.After-slice-known3 → tie.Start
 start3 c = c .before .before .before .before .before .before .before .before .before .before .before .before .before .before .before
@@ -114,14 +114,14 @@ abbrev at7 : tie.After-slice-known7 → ℕ
 at7 c = at6 (c .before .before .before .before) + 12
 
 abbrev out7 : tie.After-slice-known7 → List ℕ
-out7 c = back (out6 (c .before .before .before .before)) (at6 (c .before .before .before .before)) (c .before .before .put-trailer .last .1 .1 .1 .1 .1 .0)
+out7 c = back (out6 (c .before .before .before .before)) (at6 (c .before .before .before .before)) (c .before .before .put-trailer .last .1 .1 .1 .1 .1 .1 .0)
 
 all-put : (c : tie.After-slice-known7) → Writing [] (end (start7 c)) (out7 c) (at7 c)
 all-put c =
     let a = start7 c in
-    let t : ℕ → List ℕ = λ k. trailerFrom (length (a .args .symbols .now)) k (length (a .args .internals .now)) (length (a .args .calls .now)) (length (a .args .returns .now)) in
+    let t : ℕ → List ℕ = λ k. trailerFrom (a .args .version) (length (a .args .symbols .now)) k (length (a .args .internals .now)) (length (a .args .calls .now)) (length (a .args .returns .now)) in
     let e = c .before .before .put-trailer .ensures ∙ ap (λ k. over (t k) (take (length (out6 (c .before .before .before .before)) - at6 (c .before .before .before .before)) (drop (at6 (c .before .before .before .before)) (out6 (c .before .before .before .before))))) (sym (states-long a)) in
-    written (behind a behindReturns) (returns-put (c .before .before .before .before)) (sym (append-nil (behind a behindReturns))) (length-trailer (a .args .symbols .now) (states a) (a .args .internals .now) (a .args .calls .now) (a .args .returns .now)) (part-put (t (length (states a))) (out6 (c .before .before .before .before)) (at6 (c .before .before .before .before)) e)
+    written (behind a behindReturns) (returns-put (c .before .before .before .before)) (sym (append-nil (behind a behindReturns))) (length-trailer (a .args .version) (a .args .symbols .now) (states a) (a .args .internals .now) (a .args .calls .now) (a .args .returns .now)) (part-put (t (length (states a))) (out6 (c .before .before .before .before)) (at6 (c .before .before .before .before)) e)
 
 -- ---- the needs
 
@@ -210,7 +210,7 @@ put-trailer-requires : tie.Need-put-trailer-requires
 put-trailer-requires c κs =
     let a = c .before .before .before .before .before .before .before .before .before .before .before .before .before .before .before .before .before .before .before .before .before .before .before .before .before .before .before .before in
     let r = part-room (behind a behindReturns) [] (returns-put (c .before)) (sym (append-nil (behind a behindReturns))) in
-    (omega (arith, a .pre .1, all-long a, states-long a, a .good .1 .1 .1 .1 .1 .1 .1 .0 .0), rw (length-trailer (a .args .symbols .now) (states a) (a .args .internals .now) (a .args .calls .now) (a .args .returns .now)) at r)
+    (omega (arith, a .pre .1, all-long a, states-long a, a .good .1 .1 .1 .1 .1 .1 .1 .1 .0 .0), rw (length-trailer (a .args .version) (a .args .symbols .now) (states a) (a .args .internals .now) (a .args .calls .now) (a .args .returns .now)) at r)
 
 same-length : tie.Need-same-length
 same-length c = let a = start7 c in ap length (finished (all-put c)) ∙ length-over (all a) (a .args .out .now) (a .pre .1)
