@@ -63,7 +63,8 @@ pub fn compare(cases: usize) {
     for i in 0..cases {
         let l = [STANDARD, LARGEST, Limits { states: r.below(43), symbols: r.below(67) }][i % 3];
         let most = if i % 50 == 0 { 40 } else { 8 };
-        let valid = random::any_table(&mut r, most);
+        let plain = random::any_table(&mut r, most);
+        let valid = if r.chance(30) { random::marked(&mut r, &plain) } else { plain };
         let bytes = valid.bytes();
         let table = if r.chance(30) { random::damaged(&mut r, &bytes) } else { bytes };
         compare_table(&mut r, l, &table);

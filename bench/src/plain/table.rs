@@ -4,6 +4,7 @@ use crate::reference::Limits;
 
 /// The sections of a table that was read.
 pub struct Table<'a> {
+    pub version: u16,
     pub symbols: &'a [u8],
     pub states: &'a [u8],
     pub internals: &'a [[u8; 3]],
@@ -25,7 +26,7 @@ fn starts_of(l: Limits, bytes: &[u8]) -> Result<[usize; 5], u8> {
     }
     let (body, trailer) = bytes.split_at(bytes.len() - 12);
     let word = |i: usize| u16::from_le_bytes([trailer[2 * i], trailer[2 * i + 1]]) as usize;
-    if word(5) != 1 {
+    if !(1..=2).contains(&word(5)) {
         return Err(2);
     }
     let distances: [usize; 5] = std::array::from_fn(word);
@@ -63,7 +64,7 @@ fn test(l: Limits, t: &Table) -> Result<(), u8> {
     if !counts_fit(l, t) {
         return Err(4);
     }
-    if t.symbols.iter().any(|&x| x > 2) || t.states.iter().any(|&x| x > 3) {
+    if t.symbols.iter().any(|&x| x > 2) || t.states.iter().any(|&x| x > if t.version == 2 { 63 } else { 3 }) {
         return Err(5);
     }
     if t.states.iter().all(|x| x % 2 == 0) {
@@ -90,7 +91,9 @@ pub fn parse(l: Limits, bytes: &[u8]) -> Result<(Table<'_>, [usize; 5]), u8> {
     }
     let starts = starts_of(l, bytes)?;
     let [_, states, internals, calls, returns] = starts;
+    let version = u16::from_le_bytes([bytes[bytes.len() - 2], bytes[bytes.len() - 1]]);
     let table = Table {
+        version,
         symbols: &bytes[..states],
         states: &bytes[states..internals],
         internals: bytes[internals..calls].as_chunks().0,
