@@ -57,12 +57,23 @@ fn compare_search(r: &mut Random, l: Limits) {
     assert!(ours == theirs, "{list:?}");
 }
 
+/// A random table from a seed.
+fn compare_generate(r: &mut Random, l: Limits) {
+    let load = random::load(r, l);
+    let need = capi::generate(l, load, &mut vec![0; 22_644]).map_or(9, |v| v[0]) as usize;
+    let mut ours = vec![7; around(r, need)];
+    let mut theirs = ours.clone();
+    assert_eq!(capi::generate(l, load, &mut ours), plain::generate(l, load, &mut theirs), "{load:?}");
+    assert!(ours == theirs, "{load:?}");
+}
+
 /// So many cases; stops the program at the first difference.
 pub fn compare(cases: usize) {
     let mut r = Random::new(1);
     for i in 0..cases {
         let l = [STANDARD, LARGEST, Limits { states: r.below(43), symbols: r.below(67) }][i % 3];
         let most = if i % 50 == 0 { 40 } else { 8 };
+        compare_generate(&mut r, l);
         let plain = random::any_table(&mut r, most);
         let valid = if r.chance(30) { random::marked(&mut r, &plain) } else { plain };
         let bytes = valid.bytes();

@@ -4,6 +4,7 @@
 //!   basilvault-bench instructions FOLDER    instructions by callgrind, whose files go to the folder
 //!   basilvault-bench one STAGE SIDE         a stage once over all its inputs, by the `library` or in `plain` Rust
 //!   basilvault-bench processes FOLDER       the search as a process against minisat, on files in the folder
+//!   basilvault-bench load                   tables a second of a load from the library's generator
 //!   basilvault-bench seeds                  how the inputs' seeds were found
 
 #[path = "../../tests/src/capi.rs"]
@@ -13,6 +14,7 @@ mod compare;
 mod dimacs;
 mod inputs;
 mod instructions;
+mod load;
 mod plain;
 mod processes;
 #[path = "../../tests/src/random.rs"]
@@ -35,6 +37,7 @@ fn main() {
         ["instructions", folder] => instructions::print(folder),
         ["one", stage, side] => instructions::one(stage, side),
         ["processes", folder] => processes::print(folder),
+        ["load"] => load::print(),
         ["seeds"] => inputs::find(),
         _ => panic!("unknown arguments: {arguments:?}"),
     }

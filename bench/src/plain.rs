@@ -1,6 +1,7 @@
-//! The seven operations in plain Rust, by the same algorithms as the proved ones and with the same answers on every input.
+//! Operations in plain Rust, by the same algorithms as the proved ones and with the same answers on every input.
 
 mod clauses;
+mod generate;
 mod quotient;
 mod reduce;
 mod search;
@@ -8,6 +9,7 @@ mod table;
 mod tops;
 
 pub use clauses::clauses;
+pub use generate::generate;
 pub use quotient::{check, quotient};
 pub use reduce::reduce;
 pub use search::search;

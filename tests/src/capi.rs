@@ -1,6 +1,8 @@
 //! A safe wrapper over the proved library's C interface. Every call is total, so nothing has to be tested before it; the values buffer is made
 //! long enough here, but for `tops_into`.
 
+use crate::reference::Load;
+
 #[link(name = "capi", kind = "static")]
 extern "C" {
     fn basilvault_read(table: *const u8, n: usize, values: *mut u64, k: usize) -> u32;
@@ -42,6 +44,21 @@ extern "C" {
     ) -> u32;
     fn basilvault_choose(table: *const u8, n: usize, first: *const u8, f: usize, second: *const u8, s: usize, values: *mut u64, k: usize) -> u32;
     fn basilvault_choose_within(states: usize, symbols: usize, table: *const u8, n: usize, first: *const u8, f: usize, second: *const u8, s: usize, values: *mut u64, k: usize) -> u32;
+    fn basilvault_generate(seed: u32, states: usize, internals: usize, calls: usize, returns: usize, density: u32, out: *mut u8, o: usize, values: *mut u64, k: usize) -> u32;
+    fn basilvault_generate_within(
+        most_states: usize,
+        most_symbols: usize,
+        seed: u32,
+        states: usize,
+        internals: usize,
+        calls: usize,
+        returns: usize,
+        density: u32,
+        out: *mut u8,
+        o: usize,
+        values: *mut u64,
+        k: usize,
+    ) -> u32;
     fn basilvault_uses(table: *const u8, n: usize, map: *const u8, m: usize, lines: *const u8, l: usize, values: *mut u64, k: usize) -> u32;
     fn basilvault_uses_within(states: usize, symbols: usize, table: *const u8, n: usize, map: *const u8, m: usize, lines: *const u8, l: usize, values: *mut u64, k: usize) -> u32;
 }
@@ -131,11 +148,19 @@ pub fn choose(table: &[u8], first: &[u8], second: &[u8]) -> Result<[u64; 1], u8>
     answer(k, v)
 }
 
+/// The length of the table of a load.
+pub fn generate(load: Load, out: &mut [u8]) -> Result<[u64; 1], u8> {
+    let Load { seed, states, internals, calls, returns, density } = load;
+    let mut v = [0u64; 1];
+    let k = unsafe { basilvault_generate(seed, states, internals, calls, returns, density, out.as_mut_ptr(), out.len(), v.as_mut_ptr(), v.len()) };
+    answer(k, v)
+}
+
 /// The same operations at given limits.
 #[allow(dead_code)]
 pub mod within {
     use super::answer;
-    use crate::reference::Limits;
+    use crate::reference::{Limits, Load};
 
     pub fn read(l: Limits, table: &[u8]) -> Result<[u64; 5], u8> {
         let mut v = [0u64; 5];
@@ -207,4 +232,13 @@ pub mod within {
         let k = unsafe { super::basilvault_choose_within(l.states, l.symbols, table.as_ptr(), table.len(), first.as_ptr(), first.len(), second.as_ptr(), second.len(), v.as_mut_ptr(), v.len()) };
         answer(k, v)
     }
+
+    /// The length of the table of a load.
+    pub fn generate(l: Limits, load: Load, out: &mut [u8]) -> Result<[u64; 1], u8> {
+        let Load { seed, states, internals, calls, returns, density } = load;
+        let mut v = [0u64; 1];
+        let k = unsafe { super::basilvault_generate_within(l.states, l.symbols, seed, states, internals, calls, returns, density, out.as_mut_ptr(), out.len(), v.as_mut_ptr(), v.len()) };
+        answer(k, v)
+    }
+
 }

@@ -1,7 +1,7 @@
 //! The cases that the program `cases` reads and the lines that it must write. Each method adds one case of its operation, with the plain
 //! implementation's answer, and hands that answer back.
 
-use crate::reference::{self, Delivery, Limits};
+use crate::reference::{self, Delivery, Limits, Load};
 use std::fmt::Write;
 
 /// What every buffer is filled with beforehand.
@@ -155,6 +155,20 @@ impl Cases {
         }));
         self.end();
         answer
+    }
+
+    /// The written file. The seed and the density stand as two words each, the lower first; the counts as words.
+    pub fn generate(&mut self, load: Load, room: usize) -> Result<Vec<u8>, u8> {
+        let long = |x: u32| [x as usize % 65_536, x as usize / 65_536];
+        let Load { seed, states, internals, calls, returns, density } = load;
+        self.frame(12, &[&words(&long(seed)), &words(&[states, internals, calls, returns]), &words(&long(density)), &words(&[room])]);
+        let mut out = vec![FILL; room];
+        let answer = reference::generate(self.limits, load, &mut out);
+        assert!(answer.is_ok() || out.iter().all(|&x| x == FILL), "outputs keep their bytes");
+        self.line("generate", answer.map(|length| vec![length as u64]));
+        self.buffer(&longs(&out));
+        self.end();
+        answer.map(|length| out[..length].to_vec())
     }
 
     /// The written bytes.

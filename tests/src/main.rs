@@ -6,7 +6,7 @@ mod random;
 mod reference;
 
 use random::Random;
-use reference::{Delivery, Limits, Table, LARGEST, STANDARD};
+use reference::{Delivery, Limits, Load, Table, LARGEST, STANDARD};
 use std::io::Write;
 use std::process::{Command, Stdio};
 
@@ -20,7 +20,7 @@ impl Counts {
 }
 
 /// The numbers that each operation can give, 0 for none: a run of many cases must have met each of them.
-const NUMBERS: [(&str, &[u8]); 16] = [
+const NUMBERS: [(&str, &[u8]); 17] = [
     ("read", &[0, 39, 1, 2, 3, 4, 5, 6, 7, 8]),
     ("tops", &[0, 39, 2, 3, 5, 7, 8]),
     ("clauses", &[0, 39, 3, 5, 7, 8, 10]),
@@ -32,6 +32,7 @@ const NUMBERS: [(&str, &[u8]); 16] = [
     ("choose", &[0, 39, 3, 7, 8, 40]),
     ("the first map chosen", &[0]),
     ("the second map chosen", &[0]),
+    ("generate", &[0, 39, 35, 36, 21]),
     ("reduce, spent", &[0]),
     ("reduce, spent with pairs joined", &[0]),
     ("words of input and quotient", &[0]),
@@ -148,6 +149,26 @@ fn compare_choose(l: Limits, b: &[u8], first: &[u8], second: &[u8], c: &mut Coun
     if let Ok([which]) = e {
         c.add(["the first map chosen", "the second map chosen"][which as usize - 1], Ok(()));
     }
+}
+
+fn compare_generate(r: &mut Random, l: Limits, load: Load, c: &mut Counts) {
+    let need = reference::generated(l, load).map_or(9, |t| t.bytes().len());
+    let mut ours = vec![0x33u8; around(r, need)];
+    let mut theirs = ours.clone();
+    let a = if l == STANDARD { capi::generate(load, &mut ours) } else { capi::within::generate(l, load, &mut ours) };
+    let e = reference::generate(l, load, &mut theirs).map(|k| [k as u64]);
+    assert!((a, &ours) == (e, &theirs), "generate differs: {a:?} against {e:?} for {load:?} at {l:?}");
+    c.add("generate", e);
+}
+
+/// A table of a load of the library's own making, of two to so many states.
+fn generated(r: &mut Random, most: usize) -> Table {
+    let states = 2 + r.below(most - 1);
+    let [internals, calls, returns] = [0; 3].map(|_| r.below(3));
+    let load = Load { seed: r.next() as u32, states, internals, calls, returns, density: (1 + r.below(4)) as u32 * 10_000 / states as u32 };
+    let mut out = vec![0; 22_644];
+    let [length] = capi::within::generate(LARGEST, load, &mut out).expect("few records");
+    reference::parse(LARGEST, &out[..length as usize]).expect("a generated table is readable").0
 }
 
 /// As many lines as there may be, and one more.
@@ -413,7 +434,7 @@ fn main() {
     for i in 0..cases {
         let l = any_limits(&mut r, i);
         let most = if i % 100 == 0 { 40 } else if i % 7 == 0 { 12 } else { 7 };
-        let mut t = random::any_table(&mut r, most);
+        let mut t = if r.chance(12) { generated(&mut r, most) } else { random::any_table(&mut r, most) };
         if most < 12 && r.chance(15) {
             let more = 1 + r.below(3);
             t = random::with_unreachable(&mut r, &t, more);
@@ -425,7 +446,11 @@ fn main() {
         let b = if r.chance(25) { random::damaged(&mut r, &valid) } else { valid.clone() };
         compare_read(l, &b, &mut c);
         match i % 6 {
-            0 => compare_tops(l, &b, &mut c),
+            0 => {
+                compare_tops(l, &b, &mut c);
+                let load = random::load(&mut r, l);
+                compare_generate(&mut r, l, load, &mut c);
+            }
             1 => compare_clauses(&mut r, l, &b, &mut c),
             2 => {
                 let variables = if r.chance(2) { 270 + r.below(10) } else if r.chance(2) { 775 + r.below(10) } else { r.below(16) };

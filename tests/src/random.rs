@@ -1,6 +1,6 @@
 //! Pseudo-random tables, clause lists and maps.
 
-use crate::reference::Table;
+use crate::reference::{Limits, Load, Table};
 use std::collections::BTreeSet;
 
 /// xorshift64*.
@@ -232,3 +232,20 @@ pub fn lines(r: &mut Random, n: usize) -> Vec<u8> {
     }
     lines
 }
+
+/// What a random table is asked to be: mostly within the limits, now and then past one, or with more records than a file permits.
+pub fn load(r: &mut Random, l: Limits) -> Load {
+    let few = if r.chance(80) { 6 } else { 40 };
+    let states = if r.chance(3) { [0, l.states + 1, usize::MAX][r.below(3)] } else { 1 + r.below(l.states.clamp(1, few)) };
+    let mut counts = [0; 3].map(|_| r.below(l.symbols / 3 + 1).min(4));
+    if r.chance(4) {
+        counts[r.below(3)] = [l.symbols + 1, usize::MAX, usize::MAX - 1][r.below(3)];
+    }
+    let density = match r.below(20) {
+        0 => [0, 65_536, 65_537, u32::MAX][r.below(4)],
+        1..=4 => r.below(65_536) as u32,
+        _ => r.below(15_000) as u32,
+    };
+    Load { seed: r.next() as u32, states, internals: counts[0], calls: counts[1], returns: counts[2], density }
+}
+

@@ -50,6 +50,7 @@ module _ (values : List ℕ) where
   unfoldable pub checkOut : Checked → Out
   checkOut r = out values (checkedNumber r) (checkedValues r) []
 
+  -- a table that is written: a quotient, or one drawn from a seed
   unfoldable pub quotientOut : QuotientDone → Out
   quotientOut r = out values (writtenNumber (r .answer)) (writtenValues (r .answer)) (r .out ∷ [])
 

@@ -9,10 +9,11 @@ ghost use Rattle.tops.specs.Tops.{topsOf};
 ghost use Rattle.clauses.specs.Clauses.{clausesOf};
 ghost use Rattle.search.specs.Answers.{searchOf};
 ghost use Rattle.maps.specs.Check.{checkOf};
-ghost use Rattle.quotient.specs.Quotient.{quotientOf};
+ghost use Rattle.quotient.specs.Quotient.{quotientOf, writtenNumber, writtenValues};
 ghost use Rattle.reduce.specs.Reduce.{reduceOf, spentValue};
 ghost use Rattle.uses.specs.Uses.{usesOf};
 ghost use Rattle.choose.specs.Choose.{choiceOf};
+ghost use Rattle.loads.specs.Loads.{loadOf, generateOf};
 ghost use Rattle.capi.specs.Answers.{stored, readOut, topsOut, clausesOut, searchOut, checkOut, quotientOut, reduceOut, usesOut, chooseOut};
 use choose::Which;
 use clauses::Listed;
@@ -245,6 +246,21 @@ pub extern "C" fn basilvault_check(table: &[u8], map: &[u8], values: &mut [u64])
     basilvault_check_within(limits::STATES, limits::SYMBOLS, table, map, values)
 }
 
+// An answer that is a length: its one value is stored.
+fn say_written(written: Written, values: &mut [u64]) -> u32
+    ensures number { λ r. ⌜ r ≡ writtenNumber written ⌝ }
+    ensures values { λ _. ⌜ now (values .exit) ≡ stored (writtenValues written) (now (values .entry)) ⌝ }
+{
+    match written {
+        Written::Length(length) => {
+            let answer = [length as u64];
+            store(&answer, values);
+            0
+        }
+        Written::Refused(number) => number as u32,
+    }
+}
+
 // Writes the quotient under a map. One value: its length.
 #[no_mangle]
 pub extern "C" fn basilvault_quotient_within(
@@ -261,14 +277,7 @@ pub extern "C" fn basilvault_quotient_within(
 {
     let limits = Limits { states, symbols };
     let written = quotient::quotient_within(limits, table, map, out);
-    match written {
-        Written::Length(length) => {
-            let answer = [length as u64];
-            store(&answer, values);
-            0
-        }
-        Written::Refused(number) => number as u32,
-    }
+    say_written(written, values)
 }
 
 // The same at the limits of a caller that gives none.
@@ -449,6 +458,71 @@ pub extern "C" fn basilvault_choose(
         table,
         first,
         second,
+        values,
+    )
+}
+
+// Writes a random table from a seed, where states may be at most `most`. One value: its length.
+#[no_mangle]
+pub extern "C" fn basilvault_generate_within(
+    most: usize,
+    symbols: usize,
+    seed: u32,
+    states: usize,
+    internals: usize,
+    calls: usize,
+    returns: usize,
+    density: u32,
+    out: &mut [u8],
+    values: &mut [u64],
+) -> u32
+    ensures { λ r. ⌜
+        record { number = r; buffers = now (out .exit) ∷ []; values = now (values .exit) }
+        ≡ quotientOut (now (values .entry)) (generateOf (record { states = most; symbols = symbols }) (loadOf seed states internals calls returns density) (now (out .entry))) ⌝ }
+{
+    let limits = Limits {
+        states: most,
+        symbols,
+    };
+    let written = generate::generate_within(
+        limits,
+        seed,
+        states,
+        internals,
+        calls,
+        returns,
+        density,
+        out,
+    );
+    say_written(written, values)
+}
+
+// The same at the limits of a caller that gives none.
+#[no_mangle]
+pub extern "C" fn basilvault_generate(
+    seed: u32,
+    states: usize,
+    internals: usize,
+    calls: usize,
+    returns: usize,
+    density: u32,
+    out: &mut [u8],
+    values: &mut [u64],
+) -> u32
+    ensures { λ r. ⌜
+        record { number = r; buffers = now (out .exit) ∷ []; values = now (values .exit) }
+        ≡ quotientOut (now (values .entry)) (generateOf standard (loadOf seed states internals calls returns density) (now (out .entry))) ⌝ }
+{
+    basilvault_generate_within(
+        limits::STATES,
+        limits::SYMBOLS,
+        seed,
+        states,
+        internals,
+        calls,
+        returns,
+        density,
+        out,
         values,
     )
 }

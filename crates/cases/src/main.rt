@@ -11,6 +11,8 @@
 //   6 quotient  the map's length, the output's length; the map; the table
 //   7 reduce    the budget, the lengths of the list, of the map buffer and of the output; the table
 //   10 uses     the map's length, the number of line bytes; the map; the lines; the table
+//   12 generate the seed, a word for its lower and one for its higher half; states, internals, calls, returns; the density, as the seed; the output's
+//               length
 //   14 choose   the lengths of the first and of the second map; the first; the second; the table
 //
 // A line is the operation's name, the refusal's number or 0, the answer's values and, each behind a bar, the buffers at exit, which are filled
@@ -233,13 +235,8 @@ fn say_check(limits: Limits, rest: &[u8]) -> bool {
     say(b"\n")
 }
 
-// Writes the quotient into the first bytes of a buffer.
-fn say_written(limits: Limits, table: &[u8], map: &[u8], space: &mut [u8], length: usize) -> bool {
-    if space.len() < length {
-        return say(b" ?\n");
-    }
-    let out = &mut space[..length];
-    let written = quotient::quotient_within(limits, table, map, out);
+// The length of what was written, or the refusal.
+fn say_length(written: Written) {
     match written {
         Written::Length(bytes) => {
             number(0);
@@ -249,6 +246,16 @@ fn say_written(limits: Limits, table: &[u8], map: &[u8], space: &mut [u8], lengt
             number(wide(k) as u64);
         }
     }
+}
+
+// Writes the quotient into the first bytes of a buffer.
+fn say_written(limits: Limits, table: &[u8], map: &[u8], space: &mut [u8], length: usize) -> bool {
+    if space.len() < length {
+        return say(b" ?\n");
+    }
+    let out = &mut space[..length];
+    let written = quotient::quotient_within(limits, table, map, out);
+    say_length(written);
     say_bytes(out);
     say(b"\n")
 }
@@ -376,6 +383,37 @@ fn say_uses(limits: Limits, rest: &[u8]) -> bool {
     say_counted(limits, &rest[end..], &rest[4..middle], &rest[middle..end])
 }
 
+// Writes the table of a load into the first bytes of a buffer; its numbers stand behind each other, 16 bits each.
+fn say_generated(limits: Limits, rest: &[u8], space: &mut [u8], length: usize) -> bool {
+    if space.len() < length {
+        return say(b" ?\n");
+    }
+    let seed = word_at(rest, 0) as u32 + 65536 * word_at(rest, 2) as u32;
+    let density = word_at(rest, 12) as u32 + 65536 * word_at(rest, 14) as u32;
+    let out = &mut space[..length];
+    let written = generate::generate_within(
+        limits,
+        seed,
+        word_at(rest, 4),
+        word_at(rest, 6),
+        word_at(rest, 8),
+        word_at(rest, 10),
+        density,
+        out,
+    );
+    say_length(written);
+    say_bytes(out);
+    say(b"\n")
+}
+
+// A random table from a seed, with a buffer for it.
+fn say_generate(limits: Limits, rest: &[u8]) -> bool {
+    say(b"generate");
+    let length = word_at(rest, 16);
+    let mut out = [7u8; 4096];
+    say_generated(limits, rest, &mut out, length)
+}
+
 // The number, which map, and the map that is handed back.
 fn say_chosen<'a>(limits: Limits, table: &[u8], first: &'a [u8], second: &'a [u8]) -> bool {
     number(choose::choose_number_within(limits, table, first, second) as u64);
@@ -418,6 +456,7 @@ fn say_case(operation: u8, limits: Limits, rest: &[u8]) -> bool {
         6 => say_quotient(limits, rest),
         7 => say_reduce(limits, rest),
         10 => say_uses(limits, rest),
+        12 => say_generate(limits, rest),
         14 => say_choose(limits, rest),
         _ => say(b"?\n"),
     }

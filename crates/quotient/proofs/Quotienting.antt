@@ -6,7 +6,7 @@ use mathlib.Core.List.{List, [], _∷_, map, List·Memᴰ, List·Memᴰ·head, L
 use Prim.Native.Nat.{ℕ, zero, suc, _+_, _*_, _/_, _<_, _≤_}
 use native.Mathlib.Omega.{arith}
 use lib.ListN.{length, take, drop, length-map}
-use lib.Seq.{getD-drop}
+use lib.Seq.{getD-drop, take-at}
 use lib.Dec.{eqb, leb}
 use borrow.Author.Tests.{le-leb, lt-leb, eq-eqb, ne-eqb}
 use Rattle.lists.specs.Lists.{keep, upto, parts, over}
@@ -58,6 +58,11 @@ image-keys-few w s f m =
 pub holds-long : {buffer ks : List ℕ} {n : ℕ} → Holds buffer n ks → n ≡ length (take n buffer)
 holds-long h = h .count ∙ ap length (sym (h .same))
 
+-- the state bytes, put to the front of a buffer
+pub states-put : (t : Table) (m : List ℕ) (k : ℕ) (old : List ℕ) {now : List ℕ} → now ≡ over (classBytes t m k) old → Holds now k (classBytes t m k)
+unfolding over
+states-put t m k old e = record { count = sym (length-bytes t m k); same = ap (take k) e ∙ take-at (classBytes t m k) (drop (length (classBytes t m k)) old) k (length-bytes t m k) }
+
 -- ---- over the parts of a table
 
 -- how many symbols, classes and images there are
@@ -78,25 +83,26 @@ module _ (v : ℕ) (y s i c r f m : List ℕ) {k a b d : ℕ} {ks ls ms : List �
     returns = omega (arith, g .count, image-keys-few 4 r f m, z .returns-few);
   }
 
-  -- the table that is written
-  same-bytes : bytesOf (keyedTable v y (classBytes (ofStates s) m k) (take a ks) (take b ls) (take d ms)) ≡ bytesOf (partedQuotient v y s i c r f m)
-  same-bytes = λ j. bytesOf (keyedTable v y (classBytes (ofStates s) m (e j)) (h .same j) (l .same j) (g .same j))
-
   whole : length (bytesOf (partedQuotient v y s i c r f m)) ≡ length y + k + 3 * a + 3 * b + 4 * d + 12
   whole = omega (arith, bytes-long v y (classBytes (ofStates s) m (classes m)) (imageKeys 3 i f m) (imageKeys 3 c f m) (imageKeys 4 r f m), length-bytes (ofStates s) m (classes m), e, h .count, l .count, g .count)
 
-  module _ (out : List ℕ) where
-    pub fits : length y + k + 3 * a + 3 * b + 4 * d + 12 ≤ length out → length (bytesOf (keyedTable v y (classBytes (ofStates s) m k) (take a ks) (take b ls) (take d ms))) ≤ length out
-    fits n = omega (arith, ap length same-bytes, whole)
+  pub short : (out : List ℕ) → length out < length y + k + 3 * a + 3 * b + 4 * d + 12 → record { answer = Refused 21; out = out } ≡ writtenFor (bytesOf (partedQuotient v y s i c r f m)) out
+  unfolding writtenFor
+  short out n = sym (rw (lt-leb (length (bytesOf (partedQuotient v y s i c r f m))) (length out) (omega (arith, whole)), writtenFor))
 
-    pub short : length out < length y + k + 3 * a + 3 * b + 4 * d + 12 → record { answer = Refused 21; out = out } ≡ writtenFor (bytesOf (partedQuotient v y s i c r f m)) out
-    unfolding writtenFor
-    short n = sym (rw (lt-leb (length (bytesOf (partedQuotient v y s i c r f m))) (length out) (omega (arith, whole)), writtenFor))
+  module _ {vs : List ℕ} (z : Holds vs k (classBytes (ofStates s) m k)) where
+    -- the table that is written
+    same-bytes : bytesOf (keyedTable v y (take k vs) (take a ks) (take b ls) (take d ms)) ≡ bytesOf (partedQuotient v y s i c r f m)
+    same-bytes = λ j. bytesOf (keyedTable v y ((z .same ∙ ap (classBytes (ofStates s) m) e) j) (h .same j) (l .same j) (g .same j))
 
-    pub put : {out' : List ℕ} → length y + k + 3 * a + 3 * b + 4 * d + 12 ≤ length out → out' ≡ over (bytesOf (keyedTable v y (classBytes (ofStates s) m k) (take a ks) (take b ls) (take d ms))) out
-        → record { answer = Length (length y + k + 3 * a + 3 * b + 4 * d + 12); out = out' } ≡ writtenFor (bytesOf (partedQuotient v y s i c r f m)) out
-    unfolding writtenFor
-    put {out'} n p = sym (rw (le-leb (length (bytesOf (partedQuotient v y s i c r f m))) (length out) (omega (arith, whole)), writtenFor) (λ j. record { answer = Length (whole j); out = sym (p ∙ ap (λ x. over x out) same-bytes) j }))
+    module _ (out : List ℕ) (n : length y + k + 3 * a + 3 * b + 4 * d + 12 ≤ length out) where
+      pub fits : length (bytesOf (keyedTable v y (take k vs) (take a ks) (take b ls) (take d ms))) ≤ length out
+      fits = omega (arith, ap length same-bytes, whole)
+
+      pub put : {out' : List ℕ} → out' ≡ over (bytesOf (keyedTable v y (take k vs) (take a ks) (take b ls) (take d ms))) out
+          → record { answer = Length (length y + k + 3 * a + 3 * b + 4 * d + 12); out = out' } ≡ writtenFor (bytesOf (partedQuotient v y s i c r f m)) out
+      unfolding writtenFor
+      put {out'} p = sym (rw (le-leb (length (bytesOf (partedQuotient v y s i c r f m))) (length out) (omega (arith, whole)), writtenFor) (λ j. record { answer = Length (whole j); out = sym (p ∙ ap (λ x. over x out) same-bytes) j }))
 
 -- ---- the keys of images give the images back
 
@@ -112,7 +118,7 @@ parts-bytes (suc k) w xs b r d = go (cases-cons d) (parts-bytes k w (drop w xs) 
     go (inl e) ih = subst Bytes (sym e) (part-bytes xs b 0 w)
     go (inr q) ih = ih q
 
-keys-back : (w : ℕ) → w ≤ 4 → (rs : List (List ℕ)) → ((r : List ℕ) → List·Memᴰ r rs → Same w r) → map (lastBytes w) (map key rs) ≡ rs
+pub keys-back : (w : ℕ) → w ≤ 4 → (rs : List (List ℕ)) → ((r : List ℕ) → List·Memᴰ r rs → Same w r) → map (lastBytes w) (map key rs) ≡ rs
 keys-back w l [] h = refl
 keys-back w l (r ∷ rs) h =
     let d = h r (List·Memᴰ·head refl) in

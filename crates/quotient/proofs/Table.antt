@@ -25,7 +25,7 @@ use Rattle.quotient.proofs.Image.{images-mem, images-length, image-leng
 use Rattle.quotient.proofs.States.{byte-small, count-classes, class-initial}
 
 -- a member stands at an index
-mem-index : (x : ℕ) (xs : List ℕ) → List·Memᴰ x xs → (i : ℕ) × (i < length xs) × (getD xs i 0 ≡ x)
+pub mem-index : (x : ℕ) (xs : List ℕ) → List·Memᴰ x xs → (i : ℕ) × (i < length xs) × (getD xs i 0 ≡ x)
 mem-index x (y ∷ xs) (List·Memᴰ·head e) = (0, omega arith, sym e)
 mem-index x (y ∷ xs) (List·Memᴰ·tail m) = let r = mem-index x xs m in (suc (r .0), omega (arith, r .1), r .2)
 

@@ -17,7 +17,8 @@ use limits::Limits;
 use maps::class_count;
 use table::Section;
 use table::Starts;
-use write::put_table;
+use write::put_states;
+pub use write::put_table;
 
 // What writing the quotient answers.
 pub enum Written {
@@ -53,12 +54,12 @@ fn write_parts(
     if out.len() < length {
         return Written::Refused(21);
     }
+    let mut state_bytes = [0u8; 256];
+    put_states(states, map, classes, &mut state_bytes);
     put_table(
         version,
         symbols,
-        states,
-        map,
-        classes,
+        &state_bytes[..classes],
         &internal_keys[..i],
         &call_keys[..c],
         &return_keys[..r],

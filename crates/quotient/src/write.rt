@@ -159,24 +159,22 @@ pub(crate) fn put_states(states: &[u8], map: &[u8], classes: usize, out: &mut [u
 }
 
 // "Each section is written behind the one before it, then the trailer."
-pub(crate) fn put_table(
+pub fn put_table(
     version: usize,
     symbols: &[u8],
     states: &[u8],
-    map: &[u8],
-    classes: usize,
     internals: &[u32],
     calls: &[u32],
     returns: &[u32],
     out: &mut [u8],
 )
-    requires { ⌜ (classes ≤ 256) × (length (bytesOf (keyedTable version (now symbols) (classBytes (ofStates (now states)) (now map) classes) (now internals) (now calls) (now returns))) ≤ length (now out)) ⌝ }
-    ensures { λ _. ⌜ now (out .exit) ≡ over (bytesOf (keyedTable version (now (symbols .entry)) (classBytes (ofStates (now (states .entry))) (now (map .entry)) classes) (now (internals .entry)) (now (calls .entry)) (now (returns .entry)))) (now (out .entry)) ⌝ }
+    requires { ⌜ length (bytesOf (keyedTable version (now symbols) (now states) (now internals) (now calls) (now returns))) ≤ length (now out) ⌝ }
+    ensures { λ _. ⌜ now (out .exit) ≡ over (bytesOf (keyedTable version (now (symbols .entry)) (now (states .entry)) (now (internals .entry)) (now (calls .entry)) (now (returns .entry)))) (now (out .entry)) ⌝ }
 {
     put_bytes(symbols, out);
     let mut at = symbols.len();
-    put_states(states, map, classes, &mut out[at..]);
-    at += classes;
+    put_bytes(states, &mut out[at..]);
+    at += states.len();
     put_keys(3, internals, &mut out[at..]);
     at += 3 * internals.len();
     put_keys(3, calls, &mut out[at..]);
@@ -186,7 +184,7 @@ pub(crate) fn put_table(
     put_trailer(
         version,
         symbols.len(),
-        classes,
+        states.len(),
         internals.len(),
         calls.len(),
         returns.len(),

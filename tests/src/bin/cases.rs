@@ -17,7 +17,7 @@ use frames::{Cases, Room};
 use named::{faults, fewer_pairs, joined_stack_symbols, longest, more_classes, more_faults, named_located, not_transitive, one_undone, one_way, pigeons};
 use named::{silent, t, t_with_call, t_with_return, two_undone, unreachable_stack};
 use random::Random;
-use reference::{Delivery, Limits, Table, LARGEST, STANDARD};
+use reference::{Delivery, Limits, Load, Table, LARGEST, STANDARD};
 
 /// The words of the list that reduce writes.
 fn short_words(table: &Table) -> usize {
@@ -679,6 +679,54 @@ fn choosing(c: &mut Cases, r: &mut Random) {
     }
 }
 
+/// Random tables from a seed: six loads stored whole, the edges of every count, the refusals in their order.
+fn generating(c: &mut Cases, r: &mut Random) {
+    let load = Load { seed: 1, states: 3, internals: 1, calls: 1, returns: 1, density: 20_000 };
+    for (turn, seed) in [0, 1, 2, 77_777, 0x8000_0000, u32::MAX].into_iter().enumerate() {
+        let b = c.generate(Load { seed, states: 2 + turn, ..load }, 600).unwrap();
+        c.read(&b).unwrap();
+        assert_eq!(c.generate(Load { seed, states: 2 + turn, ..load }, b.len()), Ok(b.clone()));
+        assert_eq!(c.generate(Load { seed, states: 2 + turn, ..load }, b.len() - 1), Err(21));
+    }
+    let bare = Load { internals: 0, calls: 0, returns: 0, ..load };
+    assert_eq!(c.generate(Load { states: 1, ..bare }, 13), Ok(silent(&[3]).bytes()));
+    assert_eq!(c.generate(Load { states: 24, ..bare }, 40).map(|x| x.len()), Ok(36));
+    // nothing is drawn with density 0, everything with 65,536
+    assert_eq!(c.generate(Load { density: 0, ..load }, 40).map(|x| x.len()), Ok(18));
+    assert_eq!(c.generate(Load { density: 65_536, ..load }, 200).map(|x| x.len()), Ok(18 + 27 + 27 + 108));
+    for bad in [
+        Load { states: 0, ..load },
+        Load { states: 25, ..load },
+        Load { internals: 31, ..load },
+        Load { calls: 65_535, returns: 65_535, ..load },
+        Load { density: 65_537, ..load },
+        Load { density: u32::MAX, states: 0, ..load },
+    ] {
+        assert_eq!(c.generate(bad, 0), Err(35));
+    }
+    assert_eq!(c.generate(Load { internals: 30, density: 0, ..load }, 60).map(|x| x.len()), Ok(32 + 3 + 12));
+    // 36 by the records that are present, before 21: 24 states make 576 possible internals a symbol
+    let dense = Load { states: 24, internals: 2, calls: 0, returns: 0, ..load };
+    assert_eq!(c.generate(Load { density: 65_536, ..dense }, 0), Err(36));
+    assert_eq!(c.generate(Load { density: 40_000, ..dense }, 0), Err(21));
+    assert_eq!(c.generate(Load { density: 65_536, internals: 0, calls: 2, ..dense }, 0), Err(36));
+    assert_eq!(c.generate(Load { density: 65_536, internals: 0, returns: 1, ..dense }, 0), Err(36));
+    c.limits = Limits { states: 0, symbols: 64 };
+    assert_eq!(c.generate(Load { states: 0, ..load }, 0), Err(39));
+    c.limits = LARGEST;
+    c.generate(Load { states: 40, internals: 20, calls: 22, returns: 22, density: 2, ..load }, 500).unwrap();
+    assert_eq!(c.generate(Load { states: 40, internals: 20, calls: 22, returns: 23, density: 2, ..load }, 500), Err(35));
+    assert_eq!(c.generate(Load { states: 41, ..load }, 400), Err(35));
+    c.limits = STANDARD;
+    for _ in 0..40 {
+        let mut load = random::load(r, STANDARD);
+        for x in [&mut load.states, &mut load.internals, &mut load.calls, &mut load.returns] {
+            *x = (*x).min(65_535);
+        }
+        c.generate(load, r.below(700)).ok();
+    }
+}
+
 /// Writes the cases and their lines.
 fn main() {
     let root = std::env::args().nth(1).expect("the repository's folder");
@@ -705,6 +753,7 @@ fn main() {
     using(&mut c, &mut r);
     choosing(&mut c, &mut r);
     marks(&mut c, &mut r);
+    generating(&mut c, &mut r);
     println!("cases of the operations by number: {:?}; {} bytes", &c.counts[1..], c.input.len() + c.output.len());
     std::fs::write(format!("{root}/crates/cases/stdin"), &c.input).unwrap();
     std::fs::write(format!("{root}/crates/cases/stdout"), &c.output).unwrap();

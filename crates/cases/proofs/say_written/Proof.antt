@@ -23,23 +23,8 @@ slice-aggregate-out c = simp length-take (omega arith)
 quotient-within-requires : tie.Need-quotient-within-requires
 quotient-within-requires c κs = search needs
 
-enum-known-written : tie.Need-enum-known-written
-enum-known-written c = search needs
-
-number-requires : tie.Need-number-requires
-number-requires c κs = search needs
-
-number-requires-2 : tie.Need-number-requires-2
-number-requires-2 c κs = search needs
-
-enum-known-written-2 : tie.Need-enum-known-written-2
-enum-known-written-2 c = search needs
-
-wide-requires : tie.Need-wide-requires
-wide-requires c κs = search needs
-
-number-requires-3 : tie.Need-number-requires-3
-number-requires-3 c κs = search needs
+say-length-requires : tie.Need-say-length-requires
+say-length-requires c κs = search needs
 
 say-bytes-requires : tie.Need-say-bytes-requires
 say-bytes-requires c κs = search needs
@@ -66,12 +51,7 @@ say-written-spec =
     slice-relend-prefix-out
     slice-aggregate-out
     quotient-within-requires
-    enum-known-written
-    number-requires
-    number-requires-2
-    enum-known-written-2
-    wide-requires
-    number-requires-3
+    say-length-requires
     say-bytes-requires
     slice-aggregate-say-2
     say-requires-2

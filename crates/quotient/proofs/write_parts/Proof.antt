@@ -1,5 +1,6 @@
 -- `quotient::write_parts` meets its contract: too short, or written. Assumes nothing.
-use Rattle.quotient.proofs.Quotienting.{Few, counts-few, fits, short, put, holds-long}
+use Rattle.quotient.proofs.Quotienting.{Few, counts-few, states-put, fits, short, put, holds-long}
+use Rattle.maps.specs.Sections.{ofStates}
 use native.Mathlib.Omega.{arith}
 use borrow.Author.Needs.{needs}
 use Rattle.quotient.proofs.write_parts.Statement.{statement}
@@ -62,32 +63,44 @@ add-length-5 c = omega (arith, few c)
 returns : tie.Need-returns
 returns c = let a = c .before .before .before .before .before .before .before .before .before .before .before .before .before .before .before .before .before .before .before in short (a .args .version) (a .args .symbols .now) (a .args .states .now) (a .args .internals .now) (a .args .calls .now) (a .args .returns .now) (a .args .words .now) (a .args .map .now) (c .before .before .before .before .before .before .before .before .before .before .class-count .ensures) (c .before .before .before .before .before .before .before .before .collect .ensures) (c .before .before .before .before .before .collect2 .ensures) (c .before .before .collect3 .ensures) (a .args .out .now) (c .if1 .taken)
 
-array-share-prefix-internal-keys : tie.Need-array-share-prefix-internal-keys
-array-share-prefix-internal-keys c = omega (arith, few (c .before) .internals)
+slice-aggregate-put-states : tie.Need-slice-aggregate-put-states
+slice-aggregate-put-states c = search needs
+
+put-states-requires : tie.Need-put-states-requires
+put-states-requires c κs = let k = few (c .before .before) .classes in (k, k)
+
+array-share-prefix-state-bytes : tie.Need-array-share-prefix-state-bytes
+array-share-prefix-state-bytes c = omega (arith, few (c .before .before .before .before) .classes)
 
 slice-aggregate-put-table : tie.Need-slice-aggregate-put-table
-slice-aggregate-put-table c = holds-long (c .before .before .before .before .before .before .before .before .before .collect .ensures)
+slice-aggregate-put-table c = let a = c .before .before .before .before .before .before .before .before .before .before .before .before .before .before .before .before .before .before .before .before .before .before .before in holds-long (states-put (ofStates (a .args .states .now)) (a .args .map .now) _ _ (c .before .before .put-states .ensures))
 
-array-share-prefix-call-keys : tie.Need-array-share-prefix-call-keys
-array-share-prefix-call-keys c = omega (arith, few (c .before .before) .calls)
+array-share-prefix-internal-keys : tie.Need-array-share-prefix-internal-keys
+array-share-prefix-internal-keys c = omega (arith, few (c .before .before .before .before .before) .internals)
 
 slice-aggregate-put-table-2 : tie.Need-slice-aggregate-put-table-2
-slice-aggregate-put-table-2 c = holds-long (c .before .before .before .before .before .before .before .collect2 .ensures)
+slice-aggregate-put-table-2 c = holds-long (c .before .before .before .before .before .before .before .before .before .before .before .before .before .collect .ensures)
 
-array-share-prefix-return-keys : tie.Need-array-share-prefix-return-keys
-array-share-prefix-return-keys c = omega (arith, few (c .before .before .before) .returns)
+array-share-prefix-call-keys : tie.Need-array-share-prefix-call-keys
+array-share-prefix-call-keys c = omega (arith, few (c .before .before .before .before .before .before) .calls)
 
 slice-aggregate-put-table-3 : tie.Need-slice-aggregate-put-table-3
-slice-aggregate-put-table-3 c = holds-long (c .before .before .before .before .before .collect3 .ensures)
+slice-aggregate-put-table-3 c = holds-long (c .before .before .before .before .before .before .before .before .before .before .before .collect2 .ensures)
+
+array-share-prefix-return-keys : tie.Need-array-share-prefix-return-keys
+array-share-prefix-return-keys c = omega (arith, few (c .before .before .before .before .before .before .before) .returns)
+
+slice-aggregate-put-table-4 : tie.Need-slice-aggregate-put-table-4
+slice-aggregate-put-table-4 c = holds-long (c .before .before .before .before .before .before .before .before .before .collect3 .ensures)
 
 put-table-requires : tie.Need-put-table-requires
-put-table-requires c κs = let a = c .before .before .before .before .before .before .before .before .before .before .before .before .before .before .before .before .before .before .before .before .before .before .before in (few (c .before .before .before .before .before) .classes, fits (a .args .version) (a .args .symbols .now) (a .args .states .now) (a .args .internals .now) (a .args .calls .now) (a .args .returns .now) (a .args .words .now) (a .args .map .now) (c .before .before .before .before .before .before .before .before .before .before .before .before .before .before .class-count .ensures) (c .before .before .before .before .before .before .before .before .before .before .before .before .collect .ensures) (c .before .before .before .before .before .before .before .before .before .collect2 .ensures) (c .before .before .before .before .before .before .collect3 .ensures) (a .args .out .now) (c .before .before .before .before .if1 .left))
+put-table-requires c κs = let a = c .before .before .before .before .before .before .before .before .before .before .before .before .before .before .before .before .before .before .before .before .before .before .before .before .before .before .before in fits (a .args .version) (a .args .symbols .now) (a .args .states .now) (a .args .internals .now) (a .args .calls .now) (a .args .returns .now) (a .args .words .now) (a .args .map .now) (c .before .before .before .before .before .before .before .before .before .before .before .before .before .before .before .before .before .before .class-count .ensures) (c .before .before .before .before .before .before .before .before .before .before .before .before .before .before .before .before .collect .ensures) (c .before .before .before .before .before .before .before .before .before .before .before .before .before .collect2 .ensures) (c .before .before .before .before .before .before .before .before .before .before .collect3 .ensures) (states-put (ofStates (a .args .states .now)) (a .args .map .now) _ _ (c .before .before .before .before .before .before .put-states .ensures)) (a .args .out .now) (c .before .before .before .before .before .before .before .before .if1 .left)
 
 same-length : tie.Need-same-length
 same-length c = search needs
 
 returns-2 : tie.Need-returns-2
-returns-2 c = let a = c .before .before .before .before .before .before .before .before .before .before .before .before .before .before .before .before .before .before .before .before .before .before .before .before .before .before in put (a .args .version) (a .args .symbols .now) (a .args .states .now) (a .args .internals .now) (a .args .calls .now) (a .args .returns .now) (a .args .words .now) (a .args .map .now) (c .before .before .before .before .before .before .before .before .before .before .before .before .before .before .before .before .before .class-count .ensures) (c .before .before .before .before .before .before .before .before .before .before .before .before .before .before .before .collect .ensures) (c .before .before .before .before .before .before .before .before .before .before .before .before .collect2 .ensures) (c .before .before .before .before .before .before .before .before .before .collect3 .ensures) (a .args .out .now) (c .before .before .before .before .before .before .before .if1 .left) (c .before .before .put-table .ensures)
+returns-2 c = let a = c .before .before .before .before .before .before .before .before .before .before .before .before .before .before .before .before .before .before .before .before .before .before .before .before .before .before .before .before .before .before in put (a .args .version) (a .args .symbols .now) (a .args .states .now) (a .args .internals .now) (a .args .calls .now) (a .args .returns .now) (a .args .words .now) (a .args .map .now) (c .before .before .before .before .before .before .before .before .before .before .before .before .before .before .before .before .before .before .before .before .before .class-count .ensures) (c .before .before .before .before .before .before .before .before .before .before .before .before .before .before .before .before .before .before .before .collect .ensures) (c .before .before .before .before .before .before .before .before .before .before .before .before .before .before .before .before .collect2 .ensures) (c .before .before .before .before .before .before .before .before .before .before .before .before .before .collect3 .ensures) (states-put (ofStates (a .args .states .now)) (a .args .map .now) _ _ (c .before .before .before .before .before .before .before .before .before .put-states .ensures)) (a .args .out .now) (c .before .before .before .before .before .before .before .before .before .before .before .if1 .left) (c .before .before .put-table .ensures)
 
 pub write-parts-spec : {M : Type 1} → statement M
 write-parts-spec =
@@ -109,12 +122,16 @@ write-parts-spec =
     add-length-4
     add-length-5
     returns
-    array-share-prefix-internal-keys
+    slice-aggregate-put-states
+    put-states-requires
+    array-share-prefix-state-bytes
     slice-aggregate-put-table
-    array-share-prefix-call-keys
+    array-share-prefix-internal-keys
     slice-aggregate-put-table-2
-    array-share-prefix-return-keys
+    array-share-prefix-call-keys
     slice-aggregate-put-table-3
+    array-share-prefix-return-keys
+    slice-aggregate-put-table-4
     put-table-requires
     same-length
     returns-2)

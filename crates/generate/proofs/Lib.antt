@@ -1,0 +1,5 @@
+pub mod Drawing
+pub mod Places
+pub mod Steps
+pub mod Writing
+pub mod Keyed

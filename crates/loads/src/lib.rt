@@ -1,0 +1,1 @@
+// Definitions and laws on tables that are drawn from a seed. No code.
