@@ -1,7 +1,7 @@
 //! Library and plain Rust on random tables, damaged ones, lists and maps, with buffers of any length: the same answers and the same bytes.
 
 use crate::random::{self, Random};
-use crate::reference::{Limits, LARGEST, STANDARD};
+use crate::reference::{Limits, Table, LARGEST, STANDARD};
 use crate::{capi::within as capi, plain};
 
 /// A length around what is needed: shorter, equal, or longer.
@@ -24,7 +24,13 @@ fn compare_table(r: &mut Random, l: Limits, table: &[u8]) {
     assert!(ours == theirs, "{table:02x?}");
 }
 
-/// Reduce; the map that it delivers, or none.
+/// Scripts on a table.
+fn compare_script(r: &mut Random, l: Limits, valid: &Table, table: &[u8]) {
+    let script = random::script(r, valid);
+    assert_eq!(capi::script(l, table, &script), plain::script(l, table, &script), "{table:02x?} {script:?}");
+}
+
+/// Reduce; the map that it delivers, or none, as where a damaged table has fewer states.
 fn compare_reduce(r: &mut Random, l: Limits, table: &[u8], states: usize) -> Option<Vec<u8>> {
     let budget = if r.chance(20) { r.below(3) as u64 } else { 100_000 };
     let length = [32_768, 32_768, 300][r.below(3)];
@@ -34,7 +40,7 @@ fn compare_reduce(r: &mut Random, l: Limits, table: &[u8], states: usize) -> Opt
     let b = plain::reduce(l, table, budget, &mut theirs.0, &mut theirs.1, &mut theirs.2);
     assert_eq!(a, b, "{table:02x?}");
     assert!(ours == theirs, "{table:02x?}");
-    a.ok().map(|_| ours.1[..states].to_vec())
+    a.ok().and_then(|_| Some(ours.1.get(..states)?.to_vec()))
 }
 
 /// Check and quotient under a map.
@@ -79,11 +85,12 @@ pub fn compare(cases: usize) {
         let bytes = valid.bytes();
         let table = if r.chance(30) { random::damaged(&mut r, &bytes) } else { bytes };
         compare_table(&mut r, l, &table);
+        compare_script(&mut r, l, &valid, &table);
         let states = valid.count();
         let map = compare_reduce(&mut r, l, &table, states).filter(|_| i % 2 == 0);
         let map = map.unwrap_or_else(|| random::map(&mut r, states));
         compare_map(&mut r, l, &table, &map);
         compare_search(&mut r, l);
     }
-    println!("library and plain Rust agree on {cases} random tables, maps and lists\n");
+    println!("library and plain Rust agree on {cases} random tables, scripts, maps and lists\n");
 }

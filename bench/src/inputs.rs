@@ -1,8 +1,9 @@
 //! What is measured: tables of 4 to 24 states, with at most one target a move and with any number, some of them copies of a smaller one; three that
-//! take thousands of guesses; and for the search a list with tens of thousands.
+//! take thousands of guesses; for the search a list with tens of thousands; and scripts on two tables with as many records as there may be.
 
 use crate::capi;
 use crate::random::{self, Random};
+use crate::reference::Table;
 
 /// The clause words and the guesses that the program allows.
 pub const WORDS: usize = 32_768;
@@ -39,6 +40,7 @@ pub struct Input {
     pub list: Vec<u16>,
     pub variables: usize,
     pub map: Vec<u8>,
+    pub script: Vec<u8>,
     classes: usize,
 }
 
@@ -59,7 +61,7 @@ impl Input {
         list.truncate(words as usize);
         let targets = if one { "one" } else { "any" };
         let label = format!("{states:6} {targets:>7} {classes:7} {:5} {words:5} {guesses:7}", table.len());
-        Some(Input { label, table, list, variables: states * (states - 1) / 2, map, classes: classes as usize })
+        Some(Input { label, table, list, variables: states * (states - 1) / 2, map, script: Vec::new(), classes: classes as usize })
     }
 }
 
@@ -125,5 +127,64 @@ pub fn nothing() -> Input {
 /// An input of a list alone.
 fn alone(list: Vec<u16>, variables: usize, guesses: u64) -> Input {
     let label = format!("{:>6} {:>7} {:>7} {:>5} {:5} {guesses:7}", "-", "-", "-", "-", list.len());
-    Input { label, table: Vec::new(), list, variables, map: Vec::new(), classes: 0 }
+    Input { label, table: Vec::new(), list, variables, map: Vec::new(), script: Vec::new(), classes: 0 }
+}
+
+/// The symbols of a script.
+const SYMBOLS: usize = 100_000;
+
+/// A dense table of 24 states, two symbols of each kind and some 1,000, 1,000 and 4,000 records: every state is reached behind every symbol.
+fn dense(r: &mut Random) -> Table {
+    let moves = |r: &mut Random, symbols: [u8; 2]| {
+        let all = (0..24).flat_map(|q| symbols.into_iter().flat_map(move |a| (0..24).map(move |e| [q, a, e])));
+        all.filter(|_| r.chance(86)).collect::<Vec<[u8; 3]>>()
+    };
+    let (internals, calls) = (moves(r, [0, 1]), moves(r, [2, 3]));
+    let all = (0..24).flat_map(|q| (4..6).flat_map(move |a| (0..24).flat_map(move |s| (0..24).map(move |e| [q, a, s, e]))));
+    let returns = all.filter(|_| r.chance(14)).collect();
+    Table { version: 1, symbols: vec![0, 0, 1, 1, 2, 2], states: [vec![3], vec![2; 23]].concat(), internals, calls, returns }
+}
+
+/// A table of 40 states whose 1,000 calls and 4,096 returns are by one symbol each, and all of them are passed again and again.
+fn worst() -> Table {
+    let calls = (0..40).flat_map(|q| (0..25).map(move |e| [q, 0, e])).collect();
+    let mut returns: Vec<[u8; 4]> = Vec::new();
+    for q in 0..25 {
+        for s in 0..40 {
+            let targets = if returns.len() < 480 { 5 } else { 4 };
+            returns.extend((0..targets).map(|j| [q, 1, s, (q + s + 8 * j) % 40]));
+        }
+    }
+    returns.truncate(4096);
+    returns.sort();
+    Table { version: 1, symbols: vec![1, 2], states: vec![3; 40], internals: vec![], calls, returns }
+}
+
+/// Symbols of a table at random, of each kind as often, with at most 64 calls open and none in the end.
+fn balanced(r: &mut Random, t: &Table) -> Vec<u8> {
+    let of = |kind: u8| (0..t.symbols.len() as u8).filter(|&a| t.symbols[a as usize] == kind).collect::<Vec<u8>>();
+    let kinds = [of(0), of(1), of(2)];
+    let mut open = 0;
+    let mut script = Vec::new();
+    while script.len() < SYMBOLS {
+        let kind = if script.len() + open >= SYMBOLS { 2 } else { r.below(3) };
+        if kinds[kind].is_empty() || kind == 1 && open == 64 || kind == 2 && open == 0 {
+            continue;
+        }
+        open = open + (kind == 1) as usize - (kind == 2) as usize;
+        script.push(kinds[kind][r.below(kinds[kind].len())]);
+    }
+    script
+}
+
+/// The inputs of the scripts, a script of 100,000 symbols on each of the two tables.
+pub fn scripts() -> Vec<Input> {
+    let mut r = Random::new(7);
+    let tables = [dense(&mut r), worst()];
+    let input = |t: Table| {
+        let (script, table) = (balanced(&mut r, &t), t.bytes());
+        let label = format!("{:6} {:>7} {:>7} {:5} {:>5} {:>7}", t.count(), "any", "-", table.len(), "-", "-");
+        Input { label, table, list: Vec::new(), variables: 0, map: Vec::new(), script, classes: 0 }
+    };
+    tables.map(input).into()
 }

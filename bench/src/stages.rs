@@ -1,6 +1,6 @@
-//! The seven operations at the program's limits, each by the library and in plain Rust, on an input.
+//! The operations at the program's limits, each by the library and in plain Rust, on an input.
 
-use crate::inputs::{inputs, pigeons, Input, BUDGET, WORDS};
+use crate::inputs::{inputs, pigeons, scripts, Input, BUDGET, WORDS};
 use crate::reference::LARGEST;
 use crate::{capi, plain};
 
@@ -59,8 +59,8 @@ macro_rules! stage {
     };
 }
 
-/// The seven of them.
-pub static STAGES: [Stage; 7] = [
+/// All of them.
+pub static STAGES: [Stage; 8] = [
     stage!(read, |i, b| &i.table),
     stage!(tops, |i, b| &i.table),
     stage!(clauses, |i, b| &i.table, &mut b.list),
@@ -68,11 +68,15 @@ pub static STAGES: [Stage; 7] = [
     stage!(check, |i, b| &i.table, &i.map),
     stage!(quotient, |i, b| &i.table, &i.map, &mut b.out),
     stage!(reduce, |i, b| &i.table, BUDGET, &mut b.list, &mut b.map, &mut b.out),
+    stage!(script, |i, b| &i.table, &i.script),
 ];
 
 impl Stage {
     /// The inputs of the stage.
     pub fn inputs(&self) -> Vec<Input> {
+        if self.name == "script" {
+            return scripts();
+        }
         let mut all = inputs();
         if self.name == "search" {
             all.push(pigeons(7));

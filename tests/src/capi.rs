@@ -42,6 +42,8 @@ extern "C" {
         values: *mut u64,
         k: usize,
     ) -> u32;
+    fn basilvault_script(table: *const u8, n: usize, script: *const u8, s: usize, values: *mut u64, k: usize) -> u32;
+    fn basilvault_script_within(states: usize, symbols: usize, table: *const u8, n: usize, script: *const u8, s: usize, values: *mut u64, k: usize) -> u32;
     fn basilvault_choose(table: *const u8, n: usize, first: *const u8, f: usize, second: *const u8, s: usize, values: *mut u64, k: usize) -> u32;
     fn basilvault_choose_within(states: usize, symbols: usize, table: *const u8, n: usize, first: *const u8, f: usize, second: *const u8, s: usize, values: *mut u64, k: usize) -> u32;
     fn basilvault_generate(seed: u32, states: usize, internals: usize, calls: usize, returns: usize, density: u32, out: *mut u8, o: usize, values: *mut u64, k: usize) -> u32;
@@ -156,6 +158,13 @@ pub fn generate(load: Load, out: &mut [u8]) -> Result<[u64; 1], u8> {
     answer(k, v)
 }
 
+/// 1 where the table accepts the script, else 0.
+pub fn script(table: &[u8], script: &[u8]) -> Result<[u64; 1], u8> {
+    let mut v = [0u64; 1];
+    let k = unsafe { basilvault_script(table.as_ptr(), table.len(), script.as_ptr(), script.len(), v.as_mut_ptr(), v.len()) };
+    answer(k, v)
+}
+
 /// The same operations at given limits.
 #[allow(dead_code)]
 pub mod within {
@@ -230,6 +239,13 @@ pub mod within {
     pub fn choose(l: Limits, table: &[u8], first: &[u8], second: &[u8]) -> Result<[u64; 1], u8> {
         let mut v = [0u64; 1];
         let k = unsafe { super::basilvault_choose_within(l.states, l.symbols, table.as_ptr(), table.len(), first.as_ptr(), first.len(), second.as_ptr(), second.len(), v.as_mut_ptr(), v.len()) };
+        answer(k, v)
+    }
+
+    /// 1 where the table accepts the script, else 0.
+    pub fn script(l: Limits, table: &[u8], script: &[u8]) -> Result<[u64; 1], u8> {
+        let mut v = [0u64; 1];
+        let k = unsafe { super::basilvault_script_within(l.states, l.symbols, table.as_ptr(), table.len(), script.as_ptr(), script.len(), v.as_mut_ptr(), v.len()) };
         answer(k, v)
     }
 

@@ -171,6 +171,15 @@ impl Cases {
         answer.map(|length| out[..length].to_vec())
     }
 
+    /// Whether the table accepts the script.
+    pub fn script(&mut self, b: &[u8], script: &[u8]) -> Result<bool, u8> {
+        self.frame(8, &[&words(&[script.len()]), script, b]);
+        let answer = reference::script(self.limits, b, script);
+        self.line("script", answer.map(|yes| vec![u64::from(yes)]));
+        self.end();
+        answer
+    }
+
     /// The written bytes.
     pub fn quotient(&mut self, b: &[u8], map: &[u8], room: usize) -> Result<Vec<u8>, u8> {
         self.frame(6, &[&words(&[map.len(), room]), map, b]);

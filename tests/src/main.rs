@@ -20,7 +20,7 @@ impl Counts {
 }
 
 /// The numbers that each operation can give, 0 for none: a run of many cases must have met each of them.
-const NUMBERS: [(&str, &[u8]); 17] = [
+const NUMBERS: [(&str, &[u8]); 21] = [
     ("read", &[0, 39, 1, 2, 3, 4, 5, 6, 7, 8]),
     ("tops", &[0, 39, 2, 3, 5, 7, 8]),
     ("clauses", &[0, 39, 3, 5, 7, 8, 10]),
@@ -32,6 +32,10 @@ const NUMBERS: [(&str, &[u8]); 17] = [
     ("choose", &[0, 39, 3, 7, 8, 40]),
     ("the first map chosen", &[0]),
     ("the second map chosen", &[0]),
+    ("script", &[0, 39, 3, 7, 8, 30, 31]),
+    ("script: no", &[0]),
+    ("script: yes", &[0]),
+    ("script, on table and reduced table", &[0, 30, 31]),
     ("generate", &[0, 39, 35, 36, 21]),
     ("reduce, spent", &[0]),
     ("reduce, spent with pairs joined", &[0]),
@@ -171,6 +175,20 @@ fn generated(r: &mut Random, most: usize) -> Table {
     reference::parse(LARGEST, &out[..length as usize]).expect("a generated table is readable").0
 }
 
+fn compare_script(r: &mut Random, l: Limits, t: &Table, b: &[u8], c: &mut Counts) {
+    let script = random::script(r, t);
+    let e = reference::script(l, b, &script).map(|yes| [u64::from(yes)]);
+    let a = if l == STANDARD { capi::script(b, &script) } else { capi::within::script(l, b, &script) };
+    same("script", b, (&script, a), (&script, e));
+    c.add("script", e);
+    if let (Ok([yes]), Ok((t, _))) = (e, reference::parse(l, b)) {
+        c.add(["script: no", "script: yes"][yes as usize], Ok(()));
+        if script.len() < 9 {
+            assert_eq!(yes == 1, reference::accepts(&t, &script), "by configurations: {script:?} on {b:02x?}");
+        }
+    }
+}
+
 /// As many lines as there may be, and one more.
 fn compare_many_lines() {
     let b = Table { version: 1, symbols: vec![], states: vec![3], internals: vec![], calls: vec![], returns: vec![] }.bytes();
@@ -259,6 +277,12 @@ fn compare_reduce(r: &mut Random, l: Limits, b: &[u8], c: &mut Counts) {
             c.add("reduce, spent with pairs joined", Ok(()));
         }
         let small = reference::parse(l, &out[..v.length]).expect("the quotient is readable").0;
+        for _ in 0..3 {
+            let script = random::script(r, &t);
+            let [table, reduced] = [b, &out[..v.length]].map(|x| capi::within::script(l, x, &script));
+            assert_eq!(table, reduced, "script {script:?} tells {t:?} and {small:?} apart");
+            c.add("script, on table and reduced table", table);
+        }
         if t.count() <= 8 {
             compare_words(r, &t, &small, c);
             compare_steps(r, &t, &map[..t.count()], &small, c);
@@ -448,6 +472,7 @@ fn main() {
         match i % 6 {
             0 => {
                 compare_tops(l, &b, &mut c);
+                (0..4).for_each(|_| compare_script(&mut r, l, &t, &b, &mut c));
                 let load = random::load(&mut r, l);
                 compare_generate(&mut r, l, load, &mut c);
             }

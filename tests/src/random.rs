@@ -233,6 +233,64 @@ pub fn lines(r: &mut Random, n: usize) -> Vec<u8> {
     lines
 }
 
+/// A script: any symbols, a walk of the table, or many calls and returns around the most that may be open; now and then a symbol past the count.
+pub fn script(r: &mut Random, t: &Table) -> Vec<u8> {
+    let k = t.symbols.len();
+    if k == 0 {
+        return vec![0; r.below(3)];
+    }
+    let of_kind = |kind: u8| (0..k as u8).filter(|&a| t.symbols[a as usize] == kind).collect::<Vec<u8>>();
+    let (calls, returns) = (of_kind(1), of_kind(2));
+    let mut script: Vec<u8> = match r.below(3) {
+        0 => (0..r.below(10)).map(|_| r.below(k) as u8).collect(),
+        1 if !calls.is_empty() && !returns.is_empty() => {
+            let deep = [3, 62, 63, 64, 65, 66][r.below(6)];
+            let mut script: Vec<u8> = (0..deep).map(|_| calls[r.below(calls.len())]).collect();
+            let back = if r.chance(60) { deep } else { r.below(deep + 2) };
+            script.extend((0..back).map(|_| returns[r.below(returns.len())]));
+            if r.chance(40) {
+                script.extend((0..r.below(4)).map(|_| r.below(k) as u8));
+            }
+            script
+        }
+        _ => walk(r, t),
+    };
+    if r.chance(3) {
+        let i = r.below(script.len() + 1);
+        script.insert(i, (k + r.below(3)) as u8);
+    }
+    script
+}
+
+/// The symbols of a run, as long as there is a move; it goes for the empty stack in the end.
+fn walk(r: &mut Random, t: &Table) -> Vec<u8> {
+    let starts: Vec<u8> = (0..t.count() as u8).filter(|&q| t.initial(q as usize)).collect();
+    let mut q = starts[r.below(starts.len())];
+    let (mut stack, mut script) = (Vec::new(), Vec::new());
+    let long = r.below(60);
+    for i in 0..long {
+        let mut moves: Vec<(u8, u8, u8)> = Vec::new();
+        let popped = stack.last().copied();
+        moves.extend(t.returns.iter().filter(|x| x[0] == q && Some(x[2]) == popped).map(|x| (2, x[1], x[3])));
+        if 2 * i < long || moves.is_empty() {
+            moves.extend(t.internals.iter().filter(|x| x[0] == q).map(|x| (0, x[1], x[2])));
+            moves.extend(t.calls.iter().filter(|x| x[0] == q).map(|x| (1, x[1], x[2])));
+        }
+        if moves.is_empty() || (stack.is_empty() && t.accepting(q as usize) && r.chance(30)) {
+            break;
+        }
+        let (kind, a, e) = moves[r.below(moves.len())];
+        match kind {
+            1 => stack.push(q),
+            2 => drop(stack.pop()),
+            _ => {}
+        }
+        script.push(a);
+        q = e;
+    }
+    script
+}
+
 /// What a random table is asked to be: mostly within the limits, now and then past one, or with more records than a file permits.
 pub fn load(r: &mut Random, l: Limits) -> Load {
     let few = if r.chance(80) { 6 } else { 40 };

@@ -810,6 +810,55 @@ pub fn end_marks(t: &Table, word: &[u8]) -> BTreeSet<u8> {
     last.iter().filter(|(_, stack)| stack.is_empty()).map(|(q, _)| t.mark(*q as usize)).collect()
 }
 
+/// The same by summaries, for words of any length: at each level the pairs of the state in which it was entered and the state now.
+pub fn accepts_long(t: &Table, word: &[u8]) -> bool {
+    let mut level: BTreeSet<(u8, u8)> = (0..t.count() as u8).filter(|&q| t.initial(q as usize)).map(|q| (q, q)).collect();
+    let mut below: Vec<(BTreeSet<(u8, u8)>, u8)> = Vec::new();
+    for &a in word {
+        match t.symbols[a as usize] {
+            0 => level = level.iter().flat_map(|&(x, q)| t.internals.iter().filter(move |r| r[0] == q && r[1] == a).map(move |r| (x, r[2]))).collect(),
+            1 => {
+                let entered = level.iter().flat_map(|&(_, q)| t.calls.iter().filter(move |r| r[0] == q && r[1] == a).map(|r| (r[2], r[2]))).collect();
+                below.push((std::mem::replace(&mut level, entered), a));
+            }
+            _ => {
+                let Some((outer, call)) = below.pop() else {
+                    return false;
+                };
+                let mut after = BTreeSet::new();
+                for &(x, p) in &outer {
+                    for c in t.calls.iter().filter(|c| c[0] == p && c[1] == call) {
+                        for &(_, q) in level.iter().filter(|y| y.0 == c[2]) {
+                            after.extend(t.returns.iter().filter(|r| r[0] == q && r[1] == a && r[2] == p).map(|r| (x, r[3])));
+                        }
+                    }
+                }
+                level = after;
+            }
+        }
+    }
+    below.is_empty() && level.iter().any(|&(_, q)| t.accepting(q as usize))
+}
+
+/// The operation script: whether the table accepts it.
+pub fn script(l: Limits, b: &[u8], script: &[u8]) -> Result<bool, u8> {
+    let t = parse(l, b)?.0;
+    if script.iter().any(|&a| a as usize >= t.symbols.len()) {
+        return Err(30);
+    }
+    let mut open = 0;
+    for &a in script {
+        match t.symbols[a as usize] {
+            1 if open == 64 => return Err(31),
+            1 => open += 1,
+            2 if open == 0 => return Ok(false),
+            2 => open -= 1,
+            _ => {}
+        }
+    }
+    Ok(accepts_long(&t, script))
+}
+
 /// Every run over the whole word, configuration by configuration, accepted or not.
 pub fn runs(t: &Table, word: &[u8]) -> BTreeSet<Vec<Configuration>> {
     let first = starts(t).into_iter().map(|c| vec![c]).collect();

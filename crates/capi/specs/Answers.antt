@@ -19,6 +19,8 @@ use Rattle.uses.specs.declared.Counted.{Counted}
 use Rattle.uses.specs.Uses.{countedValues}
 use Rattle.choose.specs.declared.Choice.{Choice}
 use Rattle.choose.specs.Choose.{choiceValues}
+use Rattle.scripts.specs.declared.Read.{Read}
+use Rattle.scripts.specs.Script.{readNumberOf, readValues}
 
 -- the values at the front of the buffer, where it has room for all of them
 unfoldable pub stored : List ℕ → List ℕ → List ℕ
@@ -62,3 +64,6 @@ module _ (values : List ℕ) where
 
   unfoldable pub chooseOut : Choice → Out
   chooseOut r = out values (r .number) (choiceValues r) []
+
+  unfoldable pub scriptOut : Read → Out
+  scriptOut r = out values (readNumberOf r) (readValues r) []

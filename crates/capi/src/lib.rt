@@ -14,13 +14,15 @@ ghost use Rattle.reduce.specs.Reduce.{reduceOf, spentValue};
 ghost use Rattle.uses.specs.Uses.{usesOf};
 ghost use Rattle.choose.specs.Choose.{choiceOf};
 ghost use Rattle.loads.specs.Loads.{loadOf, generateOf};
-ghost use Rattle.capi.specs.Answers.{stored, readOut, topsOut, clausesOut, searchOut, checkOut, quotientOut, reduceOut, usesOut, chooseOut};
+ghost use Rattle.scripts.specs.Script.{yesValue, scriptOf};
+ghost use Rattle.capi.specs.Answers.{stored, readOut, topsOut, clausesOut, searchOut, checkOut, quotientOut, reduceOut, usesOut, chooseOut, scriptOut};
 use choose::Which;
 use clauses::Listed;
 use limits::Limits;
 use maps::Checked;
 use quotient::Written;
 use reduce::Reduction;
+use scripts::Read;
 use search::Solution;
 use table::Reading;
 
@@ -525,4 +527,46 @@ pub extern "C" fn basilvault_generate(
         out,
         values,
     )
+}
+
+// Yes or no as a value.
+fn yes_value(yes: bool) -> u64
+    ensures { λ r. ⌜ r ≡ yesValue yes ⌝ }
+{
+    if yes { 1 } else { 0 }
+}
+
+// Reads a script on a table. One value: 1 yes, 0 no.
+#[no_mangle]
+pub extern "C" fn basilvault_script_within(
+    states: usize,
+    symbols: usize,
+    table: &[u8],
+    script: &[u8],
+    values: &mut [u64],
+) -> u32
+    ensures { λ r. ⌜
+        record { number = r; buffers = []; values = now (values .exit) }
+        ≡ scriptOut (now (values .entry)) (scriptOf (record { states = states; symbols = symbols }) (now (table .entry)) (now (script .entry))) ⌝ }
+{
+    let limits = Limits { states, symbols };
+    let read = script::script_within(limits, table, script);
+    match read {
+        Read::Answer(yes) => {
+            let answer = [yes_value(yes)];
+            store(&answer, values);
+            0
+        }
+        Read::Refused(number) => number as u32,
+    }
+}
+
+// The same at the limits of a caller that gives none.
+#[no_mangle]
+pub extern "C" fn basilvault_script(table: &[u8], script: &[u8], values: &mut [u64]) -> u32
+    ensures { λ r. ⌜
+        record { number = r; buffers = []; values = now (values .exit) }
+        ≡ scriptOut (now (values .entry)) (scriptOf standard (now (table .entry)) (now (script .entry))) ⌝ }
+{
+    basilvault_script_within(limits::STATES, limits::SYMBOLS, table, script, values)
 }

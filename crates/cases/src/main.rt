@@ -10,6 +10,7 @@
 //   5 check     the map's length; the map; the table
 //   6 quotient  the map's length, the output's length; the map; the table
 //   7 reduce    the budget, the lengths of the list, of the map buffer and of the output; the table
+//   8 script    the script's length; the script; the table
 //   10 uses     the map's length, the number of line bytes; the map; the lines; the table
 //   12 generate the seed, a word for its lower and one for its higher half; states, internals, calls, returns; the density, as the seed; the output's
 //               length
@@ -27,6 +28,7 @@ use limits::Limits;
 use maps::Checked;
 use quotient::Written;
 use reduce::Reduction;
+use scripts::Read;
 use search::Solution;
 use table::Reading;
 
@@ -445,6 +447,30 @@ fn say_choose(limits: Limits, rest: &[u8]) -> bool {
     say_chosen(limits, &rest[end..], &rest[4..middle], &rest[middle..end])
 }
 
+// The script at the beginning on the table behind it: 1 yes, 0 no.
+fn say_script(limits: Limits, rest: &[u8]) -> bool {
+    say(b"script");
+    let end = 2 + word_at(rest, 0);
+    if rest.len() < end {
+        return say(b" ?\n");
+    }
+    let read = script::script_within(limits, &rest[end..], &rest[2..end]);
+    match read {
+        Read::Answer(yes) => {
+            number(0);
+            if yes {
+                number(1);
+            } else {
+                number(0);
+            }
+        }
+        Read::Refused(refusal) => {
+            number(refusal as u64);
+        }
+    }
+    say(b"\n")
+}
+
 // One case by its operation's number.
 fn say_case(operation: u8, limits: Limits, rest: &[u8]) -> bool {
     match operation {
@@ -455,6 +481,7 @@ fn say_case(operation: u8, limits: Limits, rest: &[u8]) -> bool {
         5 => say_check(limits, rest),
         6 => say_quotient(limits, rest),
         7 => say_reduce(limits, rest),
+        8 => say_script(limits, rest),
         10 => say_uses(limits, rest),
         12 => say_generate(limits, rest),
         14 => say_choose(limits, rest),

@@ -29,7 +29,7 @@ use Rattle.maps.specs.Check.{checkNumber}
 use Rattle.maps.specs.Sections.{ofStates, kept, Known}
 use Rattle.maps.proofs.Matched.{move-kept, return-kept}
 use Rattle.quotient.specs.Quotient.{image, images, memberHas, classMark, classByte, quotientTable, quotientBytes, quotientNumber, QuotientDone, quotientOf}
-use Rattle.quotient.specs.Demands.{WritesQuotient, WritesSameWords, WritesSameMarks, WritesNoneOpen, WritesSteps}
+use Rattle.quotient.specs.Demands.{WritesQuotient, WritesSameWords, WritesSameMarks, WritesNoneOpen, WritesSteps, WritesSameScripts}
 use Rattle.table.specs.Keys.{key}
 use Rattle.table.proofs.Keys.{part-bytes}
 use Rattle.quotient.specs.Keys.{lastBytes, Holds}
@@ -37,7 +37,7 @@ use Rattle.quotient.specs.Sections.{classBytes, keyedTable, Sized, image
 use Rattle.quotient.specs.declared.Written.{Written}
 use Rattle.quotient.specs.declared.Written.the-variants.{Length, Refused}
 use Rattle.quotient.proofs.Image.{images-mem, images-length, image-length}
-use Rattle.quotient.proofs.Theorems.{writes-quotient, writes-same-words, writes-same-marks, writes-none-open, writes-steps}
+use Rattle.quotient.proofs.Theorems.{writes-quotient, writes-same-words, writes-same-marks, writes-none-open, writes-steps, writes-same-scripts}
 use Rattle.quotient.proofs.ClassBytes.{length-bytes}
 use Rattle.quotient.proofs.Keys.{Same, last-key}
 use Rattle.quotient.proofs.Collecting.{image-bytes}
@@ -247,10 +247,10 @@ module _ (L : Limits) (b m out : List ℕ) where
           let n : quotientNumber L b m out ≡ 21 = rw (eq-eqb _ _ e, quotientNumber) (rw p) in
           rw (p, writtenFor) (sym (rw (ne-eqb (quotientNumber L b m out) 0 (λ q. omega (arith, n, q)), quotientOf) (λ j. record { answer = Refused (n j); out = out })))
 
-  -- demands 2 and 3, requests (iv), (xii) and (v)
+  -- demands 2 and 3, requests (iv), (xii), (v) and (i)
   pub quotiented : {r : Written} {now : List ℕ} → record { answer = r; out = now } ≡ quotientOf L b m out
-      → (record { answer = r; out = now } ≡ quotientOf L b m out) × (WritesQuotient L r b m now × (WritesSameWords r b now × (WritesNoneOpen r b now × (WritesSteps r b m now × WritesSameMarks r b now))))
-  quotiented {r} {now} e = (e, (exact, (words, (none-open, (steps, marks)))))
+      → (record { answer = r; out = now } ≡ quotientOf L b m out) × (WritesQuotient L r b m now × (WritesSameWords r b now × (WritesNoneOpen r b now × (WritesSteps r b m now × (WritesSameMarks r b now × WritesSameScripts L r b now)))))
+  quotiented {r} {now} e = (e, (exact, (words, (none-open, (steps, (marks, same))))))
     where
       answered : (P : Written → List ℕ → Type 0) → P (quotientOf L b m out .answer) (quotientOf L b m out .out) → P r now
       answered P = subst (λ (d : QuotientDone). P (d .answer) (d .out)) (sym e)
@@ -269,3 +269,6 @@ module _ (L : Limits) (b m out : List ℕ) where
 
       marks : WritesSameMarks r b now
       marks = answered (λ r now. WritesSameMarks r b now) (writes-same-marks L b m out)
+
+      same : WritesSameScripts L r b now
+      same = answered (λ r now. WritesSameScripts L r b now) (writes-same-scripts L b m out)

@@ -26,8 +26,10 @@ use Rattle.tops.proofs.Formed.{bounded}
 use Rattle.tops.proofs.Exact.{live-exact}
 use Rattle.maps.specs.Check.{checkNumber}
 use Rattle.maps.proofs.Accepted.{Accepted, accepted}
+use Rattle.scripts.specs.Demands.{SameScripts}
+use Rattle.scripts.proofs.Promises.{scripts-same}
 use Rattle.quotient.specs.Quotient.{quotientTable, quotientBytes, quotientNumber, QuotientDone, quotientOf}
-use Rattle.quotient.specs.Demands.{IsQuotient, ShowsSteps, OnWriting, WritesQuotient, WritesSameWords, WritesSameMarks, WritesNoneOpen, WritesSteps}
+use Rattle.quotient.specs.Demands.{IsQuotient, ShowsSteps, OnWriting, WritesQuotient, WritesSameWords, WritesSameMarks, WritesNoneOpen, WritesSteps, WritesSameScripts}
 use Rattle.quotient.specs.declared.Written.the-variants.{Length, Refused}
 use Rattle.quotient.proofs.States.{count-classes}
 use Rattle.quotient.proofs.Automaton.{quotient-initial, quotient-accepting, quotient-mark, quotient-internal, quotient-call, quotient-return}
@@ -116,6 +118,12 @@ module _ (L : Limits) (b m : List ℕ) where
       let a = accepted L b m e in
       every-step (automatonOf b) (classOf m) (lawful-bytes a) (a .raq) (bytes-same a)
 
+  -- request (i): one answer to every script, number included
+  pub keeps-scripts : checkNumber L b m ≡ 0 → SameScripts L b (quotientBytes b m)
+  keeps-scripts e =
+      let q = is-quotient e in
+      scripts-same L b (quotientBytes b m) (accepted L b m e .readable) (q .readable) (sym (q .symbols)) (keeps-words e)
+
   -- ---- the operation
 
   pub number-checked : (out : List ℕ) → quotientNumber L b m out ≡ 0 → checkNumber L b m ≡ 0
@@ -155,3 +163,6 @@ module _ (L : Limits) (b m : List ℕ) where
 
   pub writes-steps : (out : List ℕ) → WritesSteps (quotientOf L b m out .answer) b m (quotientOf L b m out .out)
   writes-steps = on-writing (ShowsSteps b m) keeps-steps
+
+  pub writes-same-scripts : (out : List ℕ) → WritesSameScripts L (quotientOf L b m out .answer) b (quotientOf L b m out .out)
+  writes-same-scripts = on-writing (SameScripts L b) keeps-scripts

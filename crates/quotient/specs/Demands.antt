@@ -1,4 +1,4 @@
--- What a written quotient is (demand 2; document 02, (iv), (v) and (xii)): the quotient of source 000 under the map, without the input's dead
+-- What a written quotient is (demand 2; document 02, (i), (iv), (v) and (xii)): the quotient of source 000 under the map, without the input's dead
 -- returns. Assumes nothing.
 use mathlib.Core.Path.{_≡_}
 use mathlib.Core.Logic.{_↔_}
@@ -11,6 +11,7 @@ use Rattle.table.specs.File.{tableOf}
 use Rattle.table.specs.Reading.{Readable}
 use Rattle.table.specs.Language.{count, automatonOf, SameWords, SameMarks, OpenByNeither}
 use Rattle.table.specs.Maps.{classOf, classes}
+use Rattle.scripts.specs.Demands.{SameScripts}
 use Rattle.quotient.specs.declared.Written.{Written}
 use Rattle.quotient.specs.declared.Written.the-variants.{Length, Refused}
 
@@ -55,3 +56,7 @@ WritesNoneOpen r b out = OnWriting r (λ n. OpenByNeither b (take n out))
 -- request (xii): "the input must have a run over that word whose states and stacks, at every step, are members of the classes shown"
 abbrev pub WritesSteps : Written → List ℕ → List ℕ → List ℕ → Type 0
 WritesSteps r b m out = OnWriting r (λ n. ShowsSteps b m (take n out))
+
+-- request (i): "Tables and reduced tables must give one answer to every script read", at the limits in force
+abbrev pub WritesSameScripts : Limits → Written → List ℕ → List ℕ → Type 0
+WritesSameScripts L r b out = OnWriting r (λ n. SameScripts L b (take n out))

@@ -6,7 +6,7 @@ ghost use Rattle.table.specs.File.{bytesOf};
 ghost use Rattle.table.specs.Reading.{Readable};
 ghost use Rattle.maps.specs.Sections.{Known};
 ghost use Rattle.quotient.specs.Quotient.{quotientBytes, quotientOf};
-ghost use Rattle.quotient.specs.Demands.{WritesQuotient, WritesSameWords, WritesSameMarks, WritesNoneOpen, WritesSteps};
+ghost use Rattle.quotient.specs.Demands.{WritesQuotient, WritesSameWords, WritesSameMarks, WritesNoneOpen, WritesSteps, WritesSameScripts};
 ghost use Rattle.quotient.specs.Sections.{Sized, partedQuotient, writtenFor};
 
 mod images;
@@ -113,6 +113,7 @@ pub fn quotient_within(limits: Limits, table: &[u8], map: &[u8], out: &mut [u8])
     ensures open { λ r. ⌜ WritesNoneOpen r (now (table .entry)) (now (out .exit)) ⌝ }
     ensures steps { λ r. ⌜ WritesSteps r (now (table .entry)) (now (map .entry)) (now (out .exit)) ⌝ }
     ensures marks { λ r. ⌜ WritesSameMarks r (now (table .entry)) (now (out .exit)) ⌝ }
+    ensures same { λ r. ⌜ WritesSameScripts limits r (now (table .entry)) (now (out .exit)) ⌝ }
 {
     let examined = tops::examine(limits, table);
     if examined.number != 0 {
@@ -131,6 +132,7 @@ pub fn quotient(table: &[u8], map: &[u8], out: &mut [u8]) -> Written
     ensures open { λ r. ⌜ WritesNoneOpen r (now (table .entry)) (now (out .exit)) ⌝ }
     ensures steps { λ r. ⌜ WritesSteps r (now (table .entry)) (now (map .entry)) (now (out .exit)) ⌝ }
     ensures marks { λ r. ⌜ WritesSameMarks r (now (table .entry)) (now (out .exit)) ⌝ }
+    ensures same { λ r. ⌜ WritesSameScripts standard r (now (table .entry)) (now (out .exit)) ⌝ }
 {
     quotient_within(limits::standard(), table, map, out)
 }

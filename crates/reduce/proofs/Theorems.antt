@@ -25,10 +25,11 @@ use Rattle.clauses.specs.Maps.{mapOf}
 use Rattle.clauses.proofs.Formed.{list-horn}
 use Rattle.clauses.proofs.Theorems.{map-proper, none-coarser}
 use Rattle.quotient.specs.Quotient.{quotientBytes}
+use Rattle.scripts.specs.Demands.{SameScripts}
 use Rattle.quotient.specs.Demands.{IsQuotient, ShowsSteps}
-use Rattle.quotient.proofs.Theorems.{is-quotient, keeps-words, keeps-marks, open-neither, keeps-steps}
+use Rattle.quotient.proofs.Theorems.{is-quotient, keeps-words, keeps-marks, open-neither, keeps-steps, keeps-scripts}
 use Rattle.reduce.specs.Reduce.{Reduced, searchOfTable, joinedPairs, reduceOf, reductionNumber}
-use Rattle.reduce.specs.Demands.{OnDelivery, KeepsWords, DeliversQuotient, DeliversChecked, DeliversMaximal, FewGuesses, DeliversCeiling, SameSearch, SpentSaid, DeliversNoneOpen, DeliversSteps, KeepsMarks, mapWritten}
+use Rattle.reduce.specs.Demands.{OnDelivery, KeepsWords, DeliversQuotient, DeliversChecked, DeliversMaximal, FewGuesses, DeliversCeiling, SameSearch, SpentSaid, DeliversNoneOpen, DeliversSteps, KeepsMarks, KeepsScripts, mapWritten}
 use Rattle.reduce.specs.declared.Reduction.{Reduction}
 use Rattle.reduce.specs.declared.Reduction.the-variants.{Delivered}
 use Rattle.reduce.proofs.Ways.{FirstNumber, of-limits, of-reading, map-short, list-long, first-number, list-formed, Held, Ways, refused-first, refused-short, delivers, reduce-ways}
@@ -167,6 +168,10 @@ module _ (L : Limits) (b : List ℕ) (budget : ℕ) (list map out : List ℕ) wh
   pub delivers-steps : DeliversSteps (reduceOf L b budget list map out .answer) b (reduceOf L b budget list map out .map) (reduceOf L b budget list map out .out)
   delivers-steps = delivered-ways (ShowsSteps b) (keeps-steps L b) (reduce-ways L b budget list map out)
 
+  -- request (i): one answer to every script, number included
+  pub delivers-scripts : KeepsScripts L (reduceOf L b budget list map out .answer) b (reduceOf L b budget list map out .out)
+  delivers-scripts = delivered-ways (λ m c. SameScripts L b c) (keeps-scripts L b) (reduce-ways L b budget list map out)
+
   -- the numbers that reduce refuses by: 39, "1 to 8; 22 ..; 10; .. 21". None other comes out, 12, 13 and those of the check among them
   pub data Number (k : ℕ) : Type 0 where
     first : FirstNumber k → Number k
@@ -199,8 +204,8 @@ module _ (L : Limits) (b : List ℕ) (budget : ℕ) (list map out : List ℕ) wh
 
 -- what the contract of reduce says, of the answer and the buffers that the definition gives
 module _ (L : Limits) (b : List ℕ) (budget : ℕ) (list map out : List ℕ) {r : Reduction} {list' map' out' : List ℕ} (e : record { answer = r; list = list'; map = map'; out = out' } ≡ reduceOf L b budget list map out) where
-  pub promised : (_≡_ {A = Reduced} (record { answer = r; list = list'; map = map'; out = out' }) (reduceOf L b budget list map out)) × (KeepsWords r b out' × (DeliversQuotient L r b map' out' × (DeliversChecked L r b map' × (DeliversMaximal r b map' × (FewGuesses r b × (DeliversCeiling r b map' × (SameSearch r b budget × (SpentSaid r b budget × (DeliversNoneOpen r b out' × (DeliversSteps r b map' out' × KeepsMarks r b out'))))))))))
-  promised = (e, (kept, (quotient, (checked, (maximal, (few, (ceiling, (same, (ended, (none-open, (steps, marks)))))))))))
+  pub promised : (_≡_ {A = Reduced} (record { answer = r; list = list'; map = map'; out = out' }) (reduceOf L b budget list map out)) × (KeepsWords r b out' × (DeliversQuotient L r b map' out' × (DeliversChecked L r b map' × (DeliversMaximal r b map' × (FewGuesses r b × (DeliversCeiling r b map' × (SameSearch r b budget × (SpentSaid r b budget × (DeliversNoneOpen r b out' × (DeliversSteps r b map' out' × (KeepsMarks r b out' × KeepsScripts L r b out')))))))))))
+  promised = (e, (kept, (quotient, (checked, (maximal, (few, (ceiling, (same, (ended, (none-open, (steps, (marks, scripts))))))))))))
     where
       kept : KeepsWords r b out'
       kept = subst (λ (d : Reduced). KeepsWords (d .answer) b (d .out)) (sym e) (delivers-words L b budget list map out)
@@ -234,6 +239,9 @@ module _ (L : Limits) (b : List ℕ) (budget : ℕ) (list map out : List ℕ) {r
 
       marks : KeepsMarks r b out'
       marks = subst (λ (d : Reduced). KeepsMarks (d .answer) b (d .out)) (sym e) (delivers-marks L b budget list map out)
+
+      scripts : KeepsScripts L r b out'
+      scripts = subst (λ (d : Reduced). KeepsScripts L (d .answer) b (d .out)) (sym e) (delivers-scripts L b budget list map out)
 
   pub delivered-fits : {c g w l j u : ℕ} {z : Bool} → r ≡ Delivered c g w l j u z → l ≤ length out
   delivered-fits f =

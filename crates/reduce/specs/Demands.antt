@@ -1,4 +1,4 @@
--- What a delivery promises (demand 3, requests (iv), (v), (viii) and (xii)), over the lent bytes and what is written. Assumes nothing.
+-- What a delivery promises (demand 3, requests (i), (iv), (v), (viii) and (xii)), over the lent bytes and what is written. Assumes nothing.
 use mathlib.Core.Path.{_≡_}
 use mathlib.Core.Bool.{Bool, true, false}
 use mathlib.Core.List.{List}
@@ -10,6 +10,7 @@ use Rattle.table.specs.File.{tableOf}
 use Rattle.table.specs.Language.{count, SameWords, SameMarks, OpenByNeither, OneTarget}
 use Rattle.table.specs.Maps.{RaqMap, NoneCoarser}
 use Rattle.maps.specs.Check.{checkOf}
+use Rattle.scripts.specs.Demands.{SameScripts}
 use Rattle.quotient.specs.Demands.{IsQuotient, ShowsSteps}
 use Rattle.maps.specs.declared.Checked.the-variants.{Accepted}
 use Rattle.reduce.specs.Reduce.{searchOfTable, joinedPairs}
@@ -45,6 +46,10 @@ DeliversNoneOpen r b out = OnDelivery r (λ c g w l. OpenByNeither b (take l out
 -- request (xii), under the map delivered: "at every step"
 abbrev pub DeliversSteps : Reduction → List ℕ → List ℕ → List ℕ → Type 0
 DeliversSteps r b map out = OnDelivery r (λ c g w l. ShowsSteps b (mapWritten b map) (take l out))
+
+-- request (i): "Tables and reduced tables must give one answer to every script read", at the limits in force
+abbrev pub KeepsScripts : Limits → Reduction → List ℕ → List ℕ → Type 0
+KeepsScripts L r b out = OnDelivery r (λ c g w l. SameScripts L b (take l out))
 
 -- the map delivered is one that the check accepts, with as many classes
 abbrev pub DeliversChecked : Limits → Reduction → List ℕ → List ℕ → Type 0

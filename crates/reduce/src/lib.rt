@@ -14,7 +14,7 @@ ghost use Rattle.clauses.specs.Clauses.{shortWords};
 ghost use Rattle.clauses.specs.Maps.{mapOf};
 ghost use Rattle.reduce.specs.Reduce.{Reduced, triedOfTable, deliver, afterSearch, reduceOf};
 ghost use Rattle.reduce.specs.Held.{MadeBy, HeldFor};
-ghost use Rattle.reduce.specs.Demands.{KeepsWords, DeliversQuotient, DeliversChecked, DeliversMaximal, FewGuesses, DeliversCeiling, SameSearch, SpentSaid, DeliversNoneOpen, DeliversSteps, KeepsMarks};
+ghost use Rattle.reduce.specs.Demands.{KeepsWords, DeliversQuotient, DeliversChecked, DeliversMaximal, FewGuesses, DeliversCeiling, SameSearch, SpentSaid, DeliversNoneOpen, DeliversSteps, KeepsMarks, KeepsScripts};
 use clauses::Listed;
 use limits::Limits;
 use map::map_of;
@@ -191,6 +191,7 @@ pub fn reduce_within(
     ensures open { λ r. ⌜ DeliversNoneOpen r (now (table .entry)) (now (out .exit)) ⌝ }
     ensures steps { λ r. ⌜ DeliversSteps r (now (table .entry)) (now (map .exit)) (now (out .exit)) ⌝ }
     ensures marks { λ r. ⌜ KeepsMarks r (now (table .entry)) (now (out .exit)) ⌝ }
+    ensures scripts { λ r. ⌜ KeepsScripts limits r (now (table .entry)) (now (out .exit)) ⌝ }
 {
     let examined = tops::examine(limits, table);
     if examined.number != 0 {
@@ -226,6 +227,7 @@ pub fn reduce(
     ensures open { λ r. ⌜ DeliversNoneOpen r (now (table .entry)) (now (out .exit)) ⌝ }
     ensures steps { λ r. ⌜ DeliversSteps r (now (table .entry)) (now (map .exit)) (now (out .exit)) ⌝ }
     ensures marks { λ r. ⌜ KeepsMarks r (now (table .entry)) (now (out .exit)) ⌝ }
+    ensures scripts { λ r. ⌜ KeepsScripts standard r (now (table .entry)) (now (out .exit)) ⌝ }
 {
     reduce_within(limits::standard(), table, budget, list, map, out)
 }

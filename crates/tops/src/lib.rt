@@ -60,7 +60,7 @@ fn has_top(words: &[u64; 40], q: usize, x: usize) -> bool
 }
 
 // Word q gains the tops of w.
-fn add(words: &mut [u64; 40], q: usize, w: u64)
+pub fn add(words: &mut [u64; 40], q: usize, w: u64)
     requires { ⌜ q < 40 ⌝ }
     ensures { λ _. ⌜ now (words .exit) ≡ add (now (words .entry)) q w ⌝ }
 {
@@ -68,7 +68,7 @@ fn add(words: &mut [u64; 40], q: usize, w: u64)
 }
 
 // An initial state has bottom, numbered 40.
-fn start_words(states: &[u8]) -> [u64; 40]
+pub fn start_words(states: &[u8]) -> [u64; 40]
     requires { ⌜ length (now states) ≤ 40 ⌝ }
     ensures { λ r. ⌜ r ≡ startWords stateMost (sectioned 0 [] (now (states .entry)) [] [] []) ++ replicate (40 - length (now (states .entry))) 0 ⌝ }
 {

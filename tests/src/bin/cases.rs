@@ -727,6 +727,55 @@ fn generating(c: &mut Cases, r: &mut Random) {
     }
 }
 
+/// Scripts: T's, 64 and 65 open calls, a return on the empty stack before and behind other faults, one word a level instead of a set.
+fn scripts(c: &mut Cases, r: &mut Random) {
+    let b = t().bytes();
+    let cases: [(&[u8], Result<bool, u8>); 10] = [
+        (&[], Ok(false)),
+        (&[1, 2], Ok(true)),
+        (&[1, 0, 0, 2], Ok(true)),
+        (&[1], Ok(false)),
+        (&[0, 1, 2], Ok(false)),
+        (&[1, 2, 1, 2], Ok(false)),
+        (&[2], Ok(false)),
+        (&[2, 3], Err(30)),
+        (&[2, 0, 0, 255], Err(30)),
+        (&[3], Err(30)),
+    ];
+    for (script, answer) in cases {
+        assert_eq!(c.script(&b, script), answer, "{script:?}");
+    }
+    // the stack tells two runs apart that end in one state
+    let apart = from_text("00 01 02 03 00 00 00 00 00 00 01 01 01 00 00 02 00 00 12 00 0f 00 0d 00 07 00 04 00 01 00");
+    assert_eq!(c.script(&apart, &[0, 1, 2]), Ok(false));
+    // one state that calls and returns: open as often as there are calls
+    let nest = Table { version: 1, symbols: vec![1, 2, 0], states: vec![3], internals: vec![], calls: vec![[0, 0, 0]], returns: vec![[0, 1, 0, 0]] };
+    let b = nest.bytes();
+    let deep = |calls: usize, returns: usize| [vec![0; calls], vec![1; returns]].concat();
+    assert_eq!(c.script(&b, &deep(64, 64)), Ok(true));
+    assert_eq!(c.script(&b, &deep(64, 63)), Ok(false));
+    assert_eq!(c.script(&b, &deep(65, 65)), Err(31));
+    assert_eq!(c.script(&b, &[deep(64, 1), deep(1, 64)].concat()), Ok(true));
+    assert_eq!(c.script(&b, &[deep(64, 1), deep(2, 65)].concat()), Err(31));
+    assert_eq!(c.script(&b, &[vec![1], deep(65, 0)].concat()), Ok(false));
+    assert_eq!(c.script(&b, &[deep(65, 0), vec![9]].concat()), Err(30));
+    // 31 is judged by the kinds, whether or not a run is left
+    assert_eq!(c.script(&b, &[vec![2], deep(65, 0)].concat()), Err(31));
+    for (f, k) in faults().iter().zip(1..) {
+        assert_eq!(c.script(f, &[9]), Err(k));
+    }
+    c.limits = Limits { states: 41, symbols: 64 };
+    assert_eq!(c.script(&b, &[9]), Err(39));
+    c.limits = STANDARD;
+    let mut yes = 0;
+    for turn in 0..200 {
+        let table = small_table(r, turn % 5);
+        let script = random::script(r, &table);
+        yes += (c.script(&table.bytes(), &script) == Ok(true)) as usize;
+    }
+    assert!(yes > 10, "{yes} scripts accepted");
+}
+
 /// Writes the cases and their lines.
 fn main() {
     let root = std::env::args().nth(1).expect("the repository's folder");
@@ -753,6 +802,7 @@ fn main() {
     using(&mut c, &mut r);
     choosing(&mut c, &mut r);
     marks(&mut c, &mut r);
+    scripts(&mut c, &mut r);
     generating(&mut c, &mut r);
     println!("cases of the operations by number: {:?}; {} bytes", &c.counts[1..], c.input.len() + c.output.len());
     std::fs::write(format!("{root}/crates/cases/stdin"), &c.input).unwrap();

@@ -1,0 +1,107 @@
+-- A read table's sections as they are handed on. Assumes nothing.
+use mathlib.Core.Path.{_≡_, refl, ap, _∙_, subst}
+use mathlib.Core.Bool.{Bool, true, false}
+use mathlib.Core.List.{List, [], _∷_, List·Memᴰ}
+use mathlib.Core.Option.{Option, none, some}
+use Prim.Native.Nat.{ℕ, zero, suc, _≤_}
+use native.Mathlib.Omega.{arith}
+use lib.ListN.{length, getD}
+use borrow.Author.Tests.{not-true}
+use Rattle.lists.specs.Lists.{firstFailed}
+use Rattle.lists.proofs.Refusals.{passed}
+use Rattle.limits.specs.Limits.{symbolMost}
+use Rattle.limits.proofs.Within.{limits-within}
+use Rattle.table.specs.File.{Table, tableOf, records}
+use Rattle.table.specs.Limits.{returnLimit}
+use Rattle.table.specs.Reading.{ascend}
+use Rattle.table.specs.Language.{count}
+use Rattle.table.specs.Sections.{sectioned, partOf, HasRead}
+use Rattle.table.specs.declared.Starts.{Starts}
+use Rattle.table.specs.declared.view.Section.the-variants.{Symbols, States, Internals, Calls, Returns}
+use Rattle.table.proofs.Bytes.{read-well-formed}
+use Rattle.table.proofs.Passed.{formed-tested}
+use Rattle.table.proofs.Facts.{Fit, internals-fit, calls-fit, returns-fit, most-states}
+use Rattle.table.proofs.Parts.{symbols-read, states-read, internals-read, calls-read, returns-read}
+use Rattle.tops.specs.Tops.{startWords}
+use Rattle.scripts.specs.Script.{Levels, behind, ended, reads, started, scriptTests}
+use Rattle.script.specs.Sections.{Lent, Sections, Fits, sectionsRead}
+
+-- what is read does not hang on the version
+module _ (v u : ℕ) (symbols states internals calls returns : List ℕ) where
+  abbrev of : ℕ → Table
+  of version = sectioned version symbols states internals calls returns
+
+  version-behind : (a k : ℕ) (l : Levels) → behind (of v) a k l ≡ behind (of u) a k l
+  unfolding behind sectioned
+  version-behind a zero l = refl
+  version-behind a (suc zero) l = refl
+  version-behind a (suc (suc k)) l = refl
+
+  version-levels : (w : List ℕ) (l : Levels) → reads (of v) l w ≡ reads (of u) l w
+  unfolding reads sectioned ended
+  version-levels [] l = refl
+  version-levels (a ∷ w) l = go (version-levels w) (version-behind a (getD symbols a 0) l)
+    where
+      by : ℕ → Option Levels → Bool
+      by version o = elim o [ none ↦ false | some k ↦ reads (of version) k w ]
+
+      go : ((l : Levels) → reads (of v) l w ≡ reads (of u) l w) → {o p : Option Levels} → o ≡ p → by v o ≡ by u p
+      go ih {o} {p} e = ap (by v) e ∙ told ih p
+        where
+          told : ((l : Levels) → reads (of v) l w ≡ reads (of u) l w) → (o : Option Levels) → by v o ≡ by u o
+          told ih none = refl
+          told ih (some k) = ih k
+
+  version-read : (w : List ℕ) → reads (of v) (started (of v)) w ≡ reads (of u) (started (of u)) w
+  unfolding started startWords sectioned
+  version-read w = version-levels w _
+
+-- a section's records, by the table's
+lent : {t : Table} {kind w n : ℕ} {rs : List (List ℕ)} {section : List ℕ} → n ≡ count t → length (t .symbols) ≤ symbolMost → records w section ≡ rs → ascend rs ≡ true → length rs ≤ returnLimit → Fit t kind w rs → Lent w n section
+lent e most f up few fit =
+    record {
+      in-order = ap ascend f ∙ up;
+      few = omega (arith, ap length f, few);
+      states = λ r m i d k. omega (arith, e, fit .states r (subst (λ xs. List·Memᴰ r xs) f m) i d k);
+      symbols = λ r m. omega (arith, most, fit .symbol r (subst (λ xs. List·Memᴰ r xs) f m) .0);
+    }
+
+module _ (b : List ℕ) {s : Starts} (h : HasRead b s) {symbols states internals calls returns : List ℕ}
+    (e0 : symbols ≡ partOf b s Symbols) (e1 : states ≡ partOf b s States) (e2 : internals ≡ partOf b s Internals) (e3 : calls ≡ partOf b s Calls) (e4 : returns ≡ partOf b s Returns) where
+  pub parts-sections : Sections states internals calls returns
+  parts-sections =
+      let wf = read-well-formed (h .limits) b (h .known .readable) in
+      let c = formed-tested wf in
+      let all = ap length (states-read (h .known) e1) in
+      let most : length (tableOf b .symbols) ≤ symbolMost = omega (arith, c .symbols-few, limits-within (wf .limits) .symbols) in
+      record {
+        few = omega (arith, all, most-states wf);
+        internals-lent = lent all most (internals-read (h .known) e2) (c .internals-ascend) (omega (arith, c .internals-few)) (internals-fit wf);
+        calls-lent = lent all most (calls-read (h .known) e3) (c .calls-ascend) (omega (arith, c .calls-few)) (calls-fit wf);
+        returns-lent = lent all most (returns-read (h .known) e4) (c .returns-ascend) (c .returns-few) (returns-fit wf);
+      }
+
+  -- a table that was read has at most 64 symbols
+  pub parts-symbols : length symbols ≤ symbolMost
+  parts-symbols =
+      let wf = read-well-formed (h .limits) b (h .known .readable) in
+      omega (arith, ap length (symbols-read (h .known) e0), formed-tested wf .symbols-few, limits-within (wf .limits) .symbols)
+
+  -- the table of the parts is the file's
+  parts-table : sectioned (tableOf b .version) symbols states internals calls returns ≡ tableOf b
+  unfolding sectioned
+  parts-table =
+      let r = h .known in
+      λ i. record { version = tableOf b .version; symbols = symbols-read r e0 i; states = states-read r e1 i; internals = internals-read r e2 i; calls = calls-read r e3 i; returns = returns-read r e4 i }
+
+  pub parts-read : (w : List ℕ) → sectionsRead symbols states internals calls returns w ≡ reads (tableOf b) (started (tableOf b)) w
+  unfolding sectionsRead
+  parts-read w = version-read 0 (tableOf b .version) symbols states internals calls returns w ∙ ap (λ t. reads t (started t) w) parts-table
+
+-- neither 30 nor 31
+pub tests-fit : (symbols w : List ℕ) → firstFailed (scriptTests symbols w) ≡ 0 → Fits symbols w
+unfolding scriptTests
+tests-fit symbols w e =
+    let p = passed 30 _ _ (λ z. absurd (omega arith)) e in
+    let q = passed 31 _ _ (λ z. absurd (omega arith)) (p .1) in
+    record { known = p .0; shallow = not-true _ (q .0) }

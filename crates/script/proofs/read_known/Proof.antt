@@ -1,0 +1,65 @@
+-- `script::read_known` meets its contract. Assumes nothing.
+use borrow.Author.Needs.{needs}
+use Rattle.script.proofs.Handed.{parts-sections, parts-symbols, parts-read, tests-fit}
+use Rattle.scripts.proofs.Answers.{answered, refused}
+use Rattle.scripts.specs.Script.{scriptTests}
+use Rattle.scripts.specs.declared.Read.the-variants.{Refused}
+use Rattle.table.proofs.Parts.{symbols-read}
+use Rattle.lists.specs.Lists.{firstFailed}
+use mathlib.Core.Path.{sym, ap, _∙_}
+use Rattle.script.proofs.read_known.Statement.{statement}
+use Rattle.script.proofs.read_known.Tie as tie
+
+part-requires : tie.Need-part-requires
+part-requires c κs = search needs
+
+script-number-requires : tie.Need-script-number-requires
+script-number-requires c κs = search needs
+
+returns : tie.Need-returns
+returns c =
+    let e = c .before .script-number .ensures ∙ ap (λ x. firstFailed (scriptTests x (c .before .before .before .before .before .args .script .now))) (symbols-read (c .before .before .before .before .before .pre .known) (c .before .before .part .ensures)) in
+    ap Refused e ∙ refused _ _ _ (λ z. c .if1 .taken (e ∙ z))
+
+part-requires-2 : tie.Need-part-requires-2
+part-requires-2 c κs = search needs
+
+part-requires-3 : tie.Need-part-requires-3
+part-requires-3 c κs = search needs
+
+part-requires-4 : tie.Need-part-requires-4
+part-requires-4 c κs = search needs
+
+part-requires-5 : tie.Need-part-requires-5
+part-requires-5 c κs = search needs
+
+reads-requires : tie.Need-reads-requires
+reads-requires c κs =
+    let s = c .before .before .before .before .before .before .before .before .before in
+    let symbols = c .before .before .before .before .before .before .part .ensures in
+    let states = c .before .before .before .part2 .ensures in
+    let internals = c .before .before .part3 .ensures in
+    let calls = c .before .part4 .ensures in (
+      parts-sections _ (s .pre) symbols states internals calls (c .part5 .ensures),
+      parts-symbols _ (s .pre) symbols states internals calls (c .part5 .ensures),
+      tests-fit _ _ (sym (c .before .before .before .before .before .script-number .ensures) ∙ c .before .before .before .before .if1 .left),
+    )
+
+returns-2 : tie.Need-returns-2
+returns-2 c =
+    let e = sym (c .before .before .before .before .before .before .script-number .ensures ∙ ap (λ x. firstFailed (scriptTests x (c .before .before .before .before .before .before .before .before .before .before .args .script .now))) (symbols-read (c .before .before .before .before .before .before .before .before .before .before .pre .known) (c .before .before .before .before .before .before .before .part .ensures))) ∙ c .before .before .before .before .before .if1 .left in
+    answered _ _ _ e (c .reads .ensures ∙ parts-read _ (c .before .before .before .before .before .before .before .before .before .before .pre) (c .before .before .before .before .before .before .before .part .ensures) (c .before .before .before .before .part2 .ensures) (c .before .before .before .part3 .ensures) (c .before .before .part4 .ensures) (c .before .part5 .ensures) _)
+
+pub read-known-spec : {M : Type 1} → statement M
+read-known-spec =
+    tie.close
+    (tie.spec
+    part-requires
+    script-number-requires
+    returns
+    part-requires-2
+    part-requires-3
+    part-requires-4
+    part-requires-5
+    reads-requires
+    returns-2)

@@ -1,0 +1,71 @@
+-- What the answer to a script is worth, and that two tables with the same symbols and words give one answer to every script. Assumes nothing.
+use mathlib.Core.Path.{_≡_, refl, sym, ap, _∙_, subst}
+use mathlib.Core.Bool.{Bool, true, false}
+use mathlib.Core.List.{List}
+use Prim.Native.Nat.{ℕ}
+use native.Mathlib.Decide.{ℕ-discrete}
+use Rattle.lists.specs.Lists.{firstFailed}
+use Rattle.limits.specs.declared.Limits.{Limits}
+use Rattle.table.specs.File.{tableOf}
+use Rattle.table.specs.Reading.{readNumber, Readable}
+use Rattle.table.specs.Language.{SameWords}
+use Rattle.table.proofs.Bytes.{read-well-formed}
+use Rattle.scripts.specs.declared.Read.{Read}
+use Rattle.scripts.specs.declared.Read.the-variants.{Answer, Refused}
+use Rattle.scripts.specs.Script.{reads, started, scriptTests, scriptNumber, answerBy, scriptOf}
+use Rattle.scripts.specs.Demands.{ScriptExact, SameScripts}
+use Rattle.scripts.proofs.Answers.{answered, refused, number-read, number-unread, script-read}
+use Rattle.scripts.proofs.Meaning.{reads-exact}
+
+module _ (L : Limits) (b w : List ℕ) where
+  -- what is not refused was read
+  number-readable : scriptNumber L b w ≡ 0 → Readable L b
+  number-readable e = go (ℕ-discrete (readNumber L b) 0)
+    where
+      go : Dec (readNumber L b ≡ 0) → Readable L b
+      go (yes z) = z
+      go (no n) = sym (number-unread L b w n) ∙ e
+
+  -- .. and has its answer
+  yes-or-no : scriptNumber L b w ≡ 0 → Answer (reads (tableOf b) (started (tableOf b)) w) ≡ scriptOf L b w
+  yes-or-no e = let r = number-readable e in script-read L b w r (answered _ (tableOf b) w (sym (number-read L b w r) ∙ e) refl)
+
+  script-exact : ScriptExact L b w (scriptOf L b w)
+  script-exact e =
+      let h = reads-exact (read-well-formed L b (number-readable e)) w in
+      let a = yes-or-no e in
+      (λ y. h .0 (told (a ∙ y)), λ k. sym a ∙ ap Answer (h .1 k))
+    where
+      told : {x : Bool} → Answer x ≡ Answer true → x ≡ true
+      told y = cc
+
+  pub promised : {r : Read} → r ≡ scriptOf L b w → (r ≡ scriptOf L b w) × ScriptExact L b w r
+  promised e = (e, subst (λ r. ScriptExact L b w r) (sym e) script-exact)
+
+-- two tests that hold together are one
+one-truth : (x y : Bool) → (x ≡ true → y ≡ true) → (y ≡ true → x ≡ true) → x ≡ y
+one-truth true y f g = sym (f refl)
+one-truth false true f g = g refl
+one-truth false false f g = refl
+
+-- "Tables and reduced tables must give one answer to every script read", number included
+pub scripts-same : (L : Limits) (b c : List ℕ) → Readable L b → Readable L c → tableOf b .symbols ≡ tableOf c .symbols → SameWords b c → SameScripts L b c
+scripts-same L b c rb rc e s = record { each = one }
+  where
+    one : (w : List ℕ) → scriptOf L b w ≡ scriptOf L c w
+    one w = go (ℕ-discrete (firstFailed (scriptTests (tableOf b .symbols) w)) 0)
+      where
+        tests : firstFailed (scriptTests (tableOf b .symbols) w) ≡ firstFailed (scriptTests (tableOf c .symbols) w)
+        tests = ap (λ x. firstFailed (scriptTests x w)) e
+
+        answers : reads (tableOf b) (started (tableOf b)) w ≡ reads (tableOf c) (started (tableOf c)) w
+        answers =
+            let h = reads-exact (read-well-formed L b rb) w in
+            let k = reads-exact (read-well-formed L c rc) w in
+            one-truth _ _ (λ y. k .1 (s .each w .0 (h .0 y))) (λ y. h .1 (s .each w .1 (k .0 y)))
+
+        go : Dec (firstFailed (scriptTests (tableOf b .symbols) w) ≡ 0) → scriptOf L b w ≡ scriptOf L c w
+        go (yes z) = sym (script-read L b w rb (answered _ (tableOf b) w z refl)) ∙ script-read L c w rc (answered _ (tableOf c) w (sym tests ∙ z) answers)
+        go (no n) =
+            sym (script-read L b w rb (refused _ (tableOf b) w n))
+            ∙ script-read L c w rc (subst (λ k. Refused k ≡ answerBy (firstFailed (scriptTests (tableOf c .symbols) w)) (tableOf c) w) (sym tests) (refused _ (tableOf c) w (λ z. n (tests ∙ z))))
