@@ -57,6 +57,11 @@ uint32_t basilvault_generate(uint32_t seed, size_t states, size_t internals, siz
 uint32_t basilvault_script(const uint8_t *table, size_t table_len, const uint8_t *script, size_t script_len, uint64_t *values,
                            size_t values_len);
 
+/* Four values: the records of the table, and those of them that are kept, folded and dead under the map. One byte a record in file order: 0 kept,
+ * 1 folded, 2 dead. */
+uint32_t basilvault_records(const uint8_t *table, size_t table_len, const uint8_t *map, size_t map_len, uint8_t *out, size_t out_len,
+                            uint64_t *values, size_t values_len);
+
 /* The same at limits. */
 uint32_t basilvault_read_within(size_t states, size_t symbols, const uint8_t *table, size_t table_len, uint64_t *values, size_t values_len);
 uint32_t basilvault_tops_within(size_t states, size_t symbols, const uint8_t *table, size_t table_len, uint64_t *values, size_t values_len);
@@ -74,6 +79,8 @@ uint32_t basilvault_uses_within(size_t states, size_t symbols, const uint8_t *ta
                                 const uint8_t *lines, size_t lines_len, uint64_t *values, size_t values_len);
 uint32_t basilvault_choose_within(size_t states, size_t symbols, const uint8_t *table, size_t table_len, const uint8_t *first,
                                   size_t first_len, const uint8_t *second, size_t second_len, uint64_t *values, size_t values_len);
+uint32_t basilvault_records_within(size_t states, size_t symbols, const uint8_t *table, size_t table_len, const uint8_t *map, size_t map_len,
+                                   uint8_t *out, size_t out_len, uint64_t *values, size_t values_len);
 uint32_t basilvault_script_within(size_t states, size_t symbols, const uint8_t *table, size_t table_len, const uint8_t *script,
                                   size_t script_len, uint64_t *values, size_t values_len);
 uint32_t basilvault_generate_within(size_t state_limit, size_t symbol_limit, uint32_t seed, size_t states, size_t internals, size_t calls,

@@ -63,6 +63,8 @@ extern "C" {
     ) -> u32;
     fn basilvault_uses(table: *const u8, n: usize, map: *const u8, m: usize, lines: *const u8, l: usize, values: *mut u64, k: usize) -> u32;
     fn basilvault_uses_within(states: usize, symbols: usize, table: *const u8, n: usize, map: *const u8, m: usize, lines: *const u8, l: usize, values: *mut u64, k: usize) -> u32;
+    fn basilvault_records(table: *const u8, n: usize, map: *const u8, m: usize, out: *mut u8, o: usize, values: *mut u64, k: usize) -> u32;
+    fn basilvault_records_within(states: usize, symbols: usize, table: *const u8, n: usize, map: *const u8, m: usize, out: *mut u8, o: usize, values: *mut u64, k: usize) -> u32;
 }
 
 fn answer<const K: usize>(number: u32, values: [u64; K]) -> Result<[u64; K], u8> {
@@ -165,6 +167,13 @@ pub fn script(table: &[u8], script: &[u8]) -> Result<[u64; 1], u8> {
     answer(k, v)
 }
 
+/// Records, and those of them kept, folded and dead.
+pub fn records(table: &[u8], map: &[u8], out: &mut [u8]) -> Result<[u64; 4], u8> {
+    let mut v = [0u64; 4];
+    let k = unsafe { basilvault_records(table.as_ptr(), table.len(), map.as_ptr(), map.len(), out.as_mut_ptr(), out.len(), v.as_mut_ptr(), v.len()) };
+    answer(k, v)
+}
+
 /// The same operations at given limits.
 #[allow(dead_code)]
 pub mod within {
@@ -239,6 +248,13 @@ pub mod within {
     pub fn choose(l: Limits, table: &[u8], first: &[u8], second: &[u8]) -> Result<[u64; 1], u8> {
         let mut v = [0u64; 1];
         let k = unsafe { super::basilvault_choose_within(l.states, l.symbols, table.as_ptr(), table.len(), first.as_ptr(), first.len(), second.as_ptr(), second.len(), v.as_mut_ptr(), v.len()) };
+        answer(k, v)
+    }
+
+    /// Records, and those of them kept, folded and dead.
+    pub fn records(l: Limits, table: &[u8], map: &[u8], out: &mut [u8]) -> Result<[u64; 4], u8> {
+        let mut v = [0u64; 4];
+        let k = unsafe { super::basilvault_records_within(l.states, l.symbols, table.as_ptr(), table.len(), map.as_ptr(), map.len(), out.as_mut_ptr(), out.len(), v.as_mut_ptr(), v.len()) };
         answer(k, v)
     }
 

@@ -180,6 +180,18 @@ impl Cases {
         answer
     }
 
+    /// Records, and those of them kept, folded and dead; one byte a record.
+    pub fn records(&mut self, b: &[u8], map: &[u8], room: usize) -> Result<[usize; 4], u8> {
+        self.frame(9, &[&words(&[map.len(), room]), map, b]);
+        let mut out = vec![FILL; room];
+        let answer = reference::records(self.limits, b, map, &mut out);
+        assert!(answer.is_ok() || out.iter().all(|&x| x == FILL), "outputs keep their bytes");
+        self.line("records", answer.map(|counts| counts.map(|x| x as u64).to_vec()));
+        self.buffer(&longs(&out));
+        self.end();
+        answer
+    }
+
     /// The written bytes.
     pub fn quotient(&mut self, b: &[u8], map: &[u8], room: usize) -> Result<Vec<u8>, u8> {
         self.frame(6, &[&words(&[map.len(), room]), map, b]);

@@ -20,7 +20,7 @@ impl Counts {
 }
 
 /// The numbers that each operation can give, 0 for none: a run of many cases must have met each of them.
-const NUMBERS: [(&str, &[u8]); 21] = [
+const NUMBERS: [(&str, &[u8]); 23] = [
     ("read", &[0, 39, 1, 2, 3, 4, 5, 6, 7, 8]),
     ("tops", &[0, 39, 2, 3, 5, 7, 8]),
     ("clauses", &[0, 39, 3, 5, 7, 8, 10]),
@@ -32,6 +32,8 @@ const NUMBERS: [(&str, &[u8]); 21] = [
     ("choose", &[0, 39, 3, 7, 8, 40]),
     ("the first map chosen", &[0]),
     ("the second map chosen", &[0]),
+    ("records", &[0, 39, 3, 7, 8, 15, 16, 17, 18, 19, 20, 21]),
+    ("records, some folded and some dead", &[0]),
     ("script", &[0, 39, 3, 7, 8, 30, 31]),
     ("script: no", &[0]),
     ("script: yes", &[0]),
@@ -185,6 +187,21 @@ fn compare_script(r: &mut Random, l: Limits, t: &Table, b: &[u8], c: &mut Counts
         c.add(["script: no", "script: yes"][yes as usize], Ok(()));
         if script.len() < 9 {
             assert_eq!(yes == 1, reference::accepts(&t, &script), "by configurations: {script:?} on {b:02x?}");
+        }
+    }
+}
+
+fn compare_records(r: &mut Random, l: Limits, b: &[u8], m: &[u8], c: &mut Counts) {
+    let need = reference::parse(l, b).map_or(9, |(t, _)| t.internals.len() + t.calls.len() + t.returns.len());
+    let mut ours = vec![0x22u8; around(r, need)];
+    let mut theirs = ours.clone();
+    let a = if l == STANDARD { capi::records(b, m, &mut ours) } else { capi::within::records(l, b, m, &mut ours) };
+    let e = reference::records(l, b, m, &mut theirs).map(|x| x.map(|k| k as u64));
+    same("records", b, (a, ours), (e, theirs));
+    c.add("records", e);
+    if let Ok([_, _, folded, dead]) = e {
+        if folded > 0 && dead > 0 {
+            c.add("records, some folded and some dead", Ok(()));
         }
     }
 }
@@ -364,7 +381,7 @@ fn compare_all_maps(t: &Table, c: &mut Counts) {
     }
 }
 
-/// What the program must print for a table: document 01's three lines, or the refusal.
+/// What the program must print for a table: document 01's three lines and (vi)'s fourth, or the refusal.
 fn printed(b: &[u8]) -> String {
     let (mut list, mut map, mut out) = (vec![0u16; 32_768], vec![0u8; 40], vec![0u8; 22_644]);
     match reference::reduce(LARGEST, b, 100_000, &mut list, &mut map, &mut out) {
@@ -372,9 +389,10 @@ fn printed(b: &[u8]) -> String {
         Ok(Delivery { classes, guesses, words, length, joined, ceiling, spent }) => {
             let n = reference::parse(LARGEST, b).unwrap().0.count();
             let spent = if spent { " spent" } else { "" };
+            let [all, kept, folded, dead] = reference::records(LARGEST, b, &map[..n], &mut [0; 6144]).unwrap();
             let map: String = map[..n].iter().map(|x| format!(" {x}")).collect();
             let table: String = out[..length].iter().map(|x| format!(" {x:02x}")).collect();
-            format!("states {n} classes {classes} guesses {guesses} words {words} joined {joined} of {ceiling}{spent}\nmap{map}\ntable{table}\n")
+            format!("states {n} classes {classes} guesses {guesses} words {words} joined {joined} of {ceiling}{spent}\nmap{map}\ntable{table}\nrecords {all} kept {kept} folded {folded} dead {dead}\n")
         }
     }
 }
@@ -493,6 +511,7 @@ fn main() {
                 compare_map(&mut r, l, &b, &m, &mut c);
                 let lines = random::lines(&mut r, t.count());
                 compare_uses(&mut r, l, &b, &m, &lines, &mut c);
+                compare_records(&mut r, l, &b, &m, &mut c);
                 let other = any_map(&mut r, l, &t, &valid);
                 compare_choose(l, &b, &m, &other, &mut c);
             }

@@ -1,1 +1,4 @@
 pub mod Text
+pub mod Decimals
+pub mod Putting
+pub mod Going

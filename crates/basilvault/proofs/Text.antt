@@ -35,7 +35,7 @@ three-ahead xs n h =
     drop-cons xs n 0 (omega arith) ∙ ap (λ (zs : List ℕ). getD xs n 0 ∷ zs) (drop-cons xs (suc n) 0 (omega arith))
     ∙ ap (λ (zs : List ℕ). getD xs n 0 ∷ getD xs (suc n) 0 ∷ zs) (drop-cons xs (suc (suc n)) 0 (omega arith))
 
-hex-length : (bs : List ℕ) → length (hexText bs) ≡ 3 * length bs
+pub hex-length : (bs : List ℕ) → length (hexText bs) ≡ 3 * length bs
 unfolding hexText
 hex-length [] = refl
 hex-length (b ∷ bs) = omega (arith, hex-length bs)

@@ -1,16 +1,20 @@
-// Reduces the table on standard input, with 100,000 guesses and 32,768 clause words, and prints the counts, the class of each state and the
-// reduced table; or the refusal.
+// Reduces the table on standard input, with 100,000 guesses and 32,768 clause words, and prints the counts, the class of each state, the reduced
+// table and where the records went; or the refusal. The text is made in a buffer and written at once.
 ghost use mathlib.Core.Path.{_≡_};
-ghost use Prim.Native.Nat.{_*_, _≤_, _<_};
-ghost use lib.Dec.{leb};
-ghost use lib.ListN.{length};
+ghost use mathlib.Core.List.{_++_};
+ghost use Prim.Native.Nat.{_+_, _*_, _≤_, _<_};
+ghost use lib.ListN.{length, take};
+ghost use Rattle.io.specs.Counts.{Counts};
 ghost use Rattle.io.specs.Digits.{glyph};
 ghost use Rattle.lists.specs.Lists.{over};
 ghost use Rattle.basilvault.specs.Program.{widest};
 ghost use Rattle.table.specs.File.{tableOf};
 ghost use Rattle.table.specs.Reading.{Readable};
 ghost use Rattle.table.specs.Language.{count};
-ghost use Rattle.basilvault.specs.Text.{hexText};
+ghost use Rattle.maps.specs.Check.{checkNumber};
+ghost use Rattle.basilvault.specs.Text.{Put, decimalText, spentText, countsText, hexText, mapText, tableText, recordsText, goingText, printed};
+use fates::Recorded;
+use libc::STDERR_FILENO;
 use libc::STDIN_FILENO;
 use libc::STDOUT_FILENO;
 use limits::Limits;
@@ -18,25 +22,47 @@ use reduce::Reduction;
 use table::Reading;
 use table::Section;
 
-// Writes text to standard output. Of what is written no contract can speak, and of whether it was the library says nothing: printing has no answer.
-fn say(text: &[u8]) {
-    io::write_all(STDOUT_FILENO, text);
-}
-
-// A number behind its name.
-fn say_number(name: &[u8], number: u64) {
-    say(name);
-    io::print_decimal(STDOUT_FILENO, number);
-}
-
 fn wide(x: u8) -> u64
     ensures { λ r. ⌜ r ≡ x ⌝ }
 {
     x as u64
 }
 
+// Bytes at a place of the text; the place behind them.
+fn put(bytes: &[u8], text: &mut [u8], at: usize) -> usize
+    requires { ⌜ at + length (now bytes) ≤ length (now text) ⌝ }
+    ensures { λ r. ⌜ Put (now (bytes .entry)) at (now (text .entry)) r (now (text .exit)) ⌝ }
+{
+    bytes::copy(bytes, &mut text[at..]);
+    at + bytes.len()
+}
+
+// A number behind its name.
+fn put_number(name: &[u8], number: u64, text: &mut [u8], at: usize) -> usize
+    requires { ⌜ at + length (now name) + 20 ≤ length (now text) ⌝ }
+    ensures { λ r. ⌜ Put (now (name .entry) ++ decimalText number) at (now (text .entry)) r (now (text .exit)) ⌝ }
+    ensures few { λ r. ⌜ r ≤ at + length (now (name .entry)) + 20 ⌝ }
+{
+    let from = put(name, text, at);
+    let mut digits = [0u8; 20];
+    let k = io::decimal(number, &mut digits);
+    put(&digits[..k], text, from)
+}
+
+// Whether the budget was spent.
+fn put_spent(spent: bool, text: &mut [u8], at: usize) -> usize
+    requires { ⌜ at + 6 ≤ length (now text) ⌝ }
+    ensures { λ r. ⌜ Put (spentText spent) at (now (text .entry)) r (now (text .exit)) ⌝ }
+    ensures few { λ r. ⌜ r ≤ at + 6 ⌝ }
+{
+    if spent {
+        return put(b" spent", text, at);
+    }
+    at
+}
+
 // The first line ends in ` joined J of U`, then ` spent` where that is so.
-fn say_counts(
+fn put_counts(
     states: usize,
     classes: usize,
     guesses: u64,
@@ -44,27 +70,35 @@ fn say_counts(
     joined: usize,
     ceiling: usize,
     spent: bool,
-) {
-    say_number(b"states ", states as u64);
-    say_number(b" classes ", classes as u64);
-    say_number(b" guesses ", guesses);
-    say_number(b" words ", words as u64);
-    say_number(b" joined ", joined as u64);
-    say_number(b" of ", ceiling as u64);
-    if spent {
-        say(b" spent");
-    }
-    say(b"\n");
+    text: &mut [u8],
+) -> usize
+    requires { ⌜ 300 ≤ length (now text) ⌝ }
+    ensures { λ r. ⌜ Put (countsText states classes guesses words joined ceiling spent) 0 (now (text .entry)) r (now (text .exit)) ⌝ }
+    ensures few { λ r. ⌜ r ≤ 300 ⌝ }
+{
+    let mut at = put_number(b"states ", states as u64, text, 0);
+    at = put_number(b" classes ", classes as u64, text, at);
+    at = put_number(b" guesses ", guesses, text, at);
+    at = put_number(b" words ", words as u64, text, at);
+    at = put_number(b" joined ", joined as u64, text, at);
+    at = put_number(b" of ", ceiling as u64, text, at);
+    at = put_spent(spent, text, at);
+    put(b"\n", text, at)
 }
 
-fn say_map(map: &[u8]) {
-    say(b"map");
+// "class by state"
+fn put_map(map: &[u8], text: &mut [u8], at: usize) -> usize
+    requires { ⌜ at + 21 * length (now map) + 4 ≤ length (now text) ⌝ }
+    ensures { λ r. ⌜ Put (mapText (now (map .entry))) at (now (text .entry)) r (now (text .exit)) ⌝ }
+    ensures few { λ r. ⌜ r ≤ at + 21 * length (now (map .entry)) + 4 ⌝ }
+{
+    let mut to = put(b"map", text, at);
     let mut q: usize = 0;
     'states: while q < map.len() {
-        say_number(b" ", wide(map[q]));
+        to = put_number(b" ", wide(map[q]), text, to);
         q += 1;
     }
-    say(b"\n");
+    put(b"\n", text, to)
 }
 
 // A hexadecimal digit as text.
@@ -94,19 +128,34 @@ fn put_hex(bytes: &[u8], text: &mut [u8])
     }
 }
 
-// Answers whether the bytes are no more than a table has; more are not printed.
-fn say_table(bytes: &[u8]) -> bool
-    ensures { λ r. ⌜ r ≡ leb (length (now (bytes .entry))) 22644 ⌝ }
+// "quotient bytes"
+fn put_table(bytes: &[u8], text: &mut [u8], at: usize) -> usize
+    requires { ⌜ at + 3 * length (now bytes) + 6 ≤ length (now text) ⌝ }
+    ensures { λ r. ⌜ Put (tableText (now (bytes .entry))) at (now (text .entry)) r (now (text .exit)) ⌝ }
+    ensures few { λ r. ⌜ r ≤ at + 3 * length (now (bytes .entry)) + 6 ⌝ }
 {
-    if 22644 < bytes.len() {
-        return false;
-    }
-    let mut text = [0u8; 67932];
-    put_hex(bytes, &mut text);
-    say(b"table");
-    say(&text[..3 * bytes.len()]);
-    say(b"\n");
-    true
+    let from = put(b"table", text, at);
+    put_hex(bytes, &mut text[from..]);
+    put(b"\n", text, from + 3 * bytes.len())
+}
+
+// `records N kept K folded F dead D`
+fn put_records(
+    all: usize,
+    kept: usize,
+    folded: usize,
+    dead: usize,
+    text: &mut [u8],
+    at: usize,
+) -> usize
+    requires { ⌜ at + 120 ≤ length (now text) ⌝ }
+    ensures { λ r. ⌜ Put (recordsText all kept folded dead) at (now (text .entry)) r (now (text .exit)) ⌝ }
+{
+    let mut to = put_number(b"records ", all as u64, text, at);
+    to = put_number(b" kept ", kept as u64, text, to);
+    to = put_number(b" folded ", folded as u64, text, to);
+    to = put_number(b" dead ", dead as u64, text, to);
+    put(b"\n", text, to)
 }
 
 // "The program uses 40 and 64."
@@ -133,7 +182,30 @@ fn state_count(table: &[u8]) -> usize
     }
 }
 
-fn reduce_lent(table: &[u8]) {
+// Where the records of a table went under a map that the check accepts.
+fn put_going(table: &[u8], map: &[u8], text: &mut [u8], at: usize) -> usize
+    requires { ⌜ (checkNumber widest (now table) (now map) ≡ 0) × (at + 120 ≤ length (now text)) ⌝ }
+    ensures { λ r. ⌜ Put (goingText (now (table .entry)) (now (map .entry))) at (now (text .entry)) r (now (text .exit)) ⌝ }
+{
+    let mut marks = [0u8; 6144];
+    let recorded = records::records_within(widest(), table, map, &mut marks);
+    match recorded {
+        Recorded::Counts {
+            all,
+            kept,
+            folded,
+            dead,
+        } => put_records(all, kept, folded, dead, text, at),
+        Recorded::Refused(_) => at,
+    }
+}
+
+// Reduces a table and puts what is to be printed into the text: how many bytes that is.
+fn reduce_lent(table: &[u8], text: &mut [u8]) -> usize
+    requires { ⌜ length (now text) ≡ 70000 ⌝ }
+    ensures { λ r. ⌜ take r (now (text .exit)) ≡ printed (now (table .entry)) ⌝ }
+    ensures there { λ r. ⌜ Counts r (now (text .exit)) ⌝ }
+{
     let mut list = [0u16; 32768];
     let mut map = [0u8; 40];
     let mut out = [0u8; 22644];
@@ -149,20 +221,28 @@ fn reduce_lent(table: &[u8]) {
             spent,
         } => {
             let n = state_count(table);
-            say_counts(n, classes, guesses, words, joined, ceiling, spent);
-            say_map(&map[..n]);
-            say_table(&out[..length]);
+            let mut at = put_counts(n, classes, guesses, words, joined, ceiling, spent, text);
+            at = put_map(&map[..n], text, at);
+            at = put_table(&out[..length], text, at);
+            put_going(table, &map[..n], text, at)
         }
         Reduction::Refused(number) => {
-            say_number(b"refused ", number as u64);
-            say(b"\n");
+            let at = put_number(b"refused ", number as u64, text, 0);
+            put(b"\n", text, at)
         }
     }
 }
 
-// A file longer than any table is read one byte past the limit, and so refused by 1.
+// A file longer than any table is read one byte past the limit, and so refused by 1. Where the text cannot be written whole, the other output is told.
 fn main() {
     let mut space = [0u8; 22645];
     let length = io::read_full(STDIN_FILENO, &mut space);
-    reduce_lent(&space[..length]);
+    let mut text = [0u8; 70000];
+    let n = reduce_lent(&space[..length], &mut text);
+    if !io::write_all(STDOUT_FILENO, &text[..n]) {
+        io::write_all(
+            STDERR_FILENO,
+            b"basilvault: standard output was not written whole\n",
+        );
+    }
 }

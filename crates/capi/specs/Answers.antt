@@ -19,6 +19,7 @@ use Rattle.uses.specs.declared.Counted.{Counted}
 use Rattle.uses.specs.Uses.{countedValues}
 use Rattle.choose.specs.declared.Choice.{Choice}
 use Rattle.choose.specs.Choose.{choiceValues}
+use Rattle.fates.specs.Fates.{RecordsDone, recordedNumber, recordedValues}
 use Rattle.scripts.specs.declared.Read.{Read}
 use Rattle.scripts.specs.Script.{readNumberOf, readValues}
 
@@ -61,6 +62,9 @@ module _ (values : List ℕ) where
 
   unfoldable pub usesOut : Counted → Out
   usesOut r = out values (r .number) (countedValues r) []
+
+  unfoldable pub recordsOut : RecordsDone → Out
+  recordsOut r = out values (recordedNumber (r .answer)) (recordedValues (r .answer)) (r .out ∷ [])
 
   unfoldable pub chooseOut : Choice → Out
   chooseOut r = out values (r .number) (choiceValues r) []

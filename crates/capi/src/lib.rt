@@ -15,9 +15,11 @@ ghost use Rattle.uses.specs.Uses.{usesOf};
 ghost use Rattle.choose.specs.Choose.{choiceOf};
 ghost use Rattle.loads.specs.Loads.{loadOf, generateOf};
 ghost use Rattle.scripts.specs.Script.{yesValue, scriptOf};
-ghost use Rattle.capi.specs.Answers.{stored, readOut, topsOut, clausesOut, searchOut, checkOut, quotientOut, reduceOut, usesOut, chooseOut, scriptOut};
+ghost use Rattle.fates.specs.Fates.{recordsOf};
+ghost use Rattle.capi.specs.Answers.{stored, readOut, topsOut, clausesOut, searchOut, checkOut, quotientOut, reduceOut, usesOut, chooseOut, scriptOut, recordsOut};
 use choose::Which;
 use clauses::Listed;
+use fates::Recorded;
 use limits::Limits;
 use maps::Checked;
 use quotient::Written;
@@ -569,4 +571,50 @@ pub extern "C" fn basilvault_script(table: &[u8], script: &[u8], values: &mut [u
         ≡ scriptOut (now (values .entry)) (scriptOf standard (now (table .entry)) (now (script .entry))) ⌝ }
 {
     basilvault_script_within(limits::STATES, limits::SYMBOLS, table, script, values)
+}
+
+// Tells where the records went under a map. Four values: records, and those of them that are kept, folded and dead.
+#[no_mangle]
+pub extern "C" fn basilvault_records_within(
+    states: usize,
+    symbols: usize,
+    table: &[u8],
+    map: &[u8],
+    out: &mut [u8],
+    values: &mut [u64],
+) -> u32
+    ensures { λ r. ⌜
+        record { number = r; buffers = now (out .exit) ∷ []; values = now (values .exit) }
+        ≡ recordsOut (now (values .entry)) (recordsOf (record { states = states; symbols = symbols }) (now (table .entry)) (now (map .entry)) (now (out .entry))) ⌝ }
+{
+    let limits = Limits { states, symbols };
+    let recorded = records::records_within(limits, table, map, out);
+    match recorded {
+        Recorded::Counts {
+            all,
+            kept,
+            folded,
+            dead,
+        } => {
+            let answer = [all as u64, kept as u64, folded as u64, dead as u64];
+            store(&answer, values);
+            0
+        }
+        Recorded::Refused(number) => number as u32,
+    }
+}
+
+// The same at the limits of a caller that gives none.
+#[no_mangle]
+pub extern "C" fn basilvault_records(
+    table: &[u8],
+    map: &[u8],
+    out: &mut [u8],
+    values: &mut [u64],
+) -> u32
+    ensures { λ r. ⌜
+        record { number = r; buffers = now (out .exit) ∷ []; values = now (values .exit) }
+        ≡ recordsOut (now (values .entry)) (recordsOf standard (now (table .entry)) (now (map .entry)) (now (out .entry))) ⌝ }
+{
+    basilvault_records_within(limits::STATES, limits::SYMBOLS, table, map, out, values)
 }

@@ -10,6 +10,7 @@
 //   5 check     the map's length; the map; the table
 //   6 quotient  the map's length, the output's length; the map; the table
 //   7 reduce    the budget, the lengths of the list, of the map buffer and of the output; the table
+//   9 records   the map's length, the output's length; the map; the table
 //   8 script    the script's length; the script; the table
 //   10 uses     the map's length, the number of line bytes; the map; the lines; the table
 //   12 generate the seed, a word for its lower and one for its higher half; states, internals, calls, returns; the density, as the seed; the output's
@@ -23,6 +24,7 @@ ghost use Prim.Native.Nat.{_≤_, _<_};
 ghost use lib.ListN.{length};
 use choose::Which;
 use clauses::Listed;
+use fates::Recorded;
 use libc::STDOUT_FILENO;
 use limits::Limits;
 use maps::Checked;
@@ -471,6 +473,46 @@ fn say_script(limits: Limits, rest: &[u8]) -> bool {
     say(b"\n")
 }
 
+// Tells where the records went, in the first bytes of a buffer.
+fn say_recorded(limits: Limits, table: &[u8], map: &[u8], space: &mut [u8], length: usize) -> bool {
+    if space.len() < length {
+        return say(b" ?\n");
+    }
+    let out = &mut space[..length];
+    let recorded = records::records_within(limits, table, map, out);
+    match recorded {
+        Recorded::Counts {
+            all,
+            kept,
+            folded,
+            dead,
+        } => {
+            number(0);
+            number(all as u64);
+            number(kept as u64);
+            number(folded as u64);
+            number(dead as u64);
+        }
+        Recorded::Refused(k) => {
+            number(wide(k) as u64);
+        }
+    }
+    say_bytes(out);
+    say(b"\n")
+}
+
+// Where the records went under the map at the beginning, of the table behind it.
+fn say_records(limits: Limits, rest: &[u8]) -> bool {
+    say(b"records");
+    let end = 4 + word_at(rest, 0);
+    if rest.len() < end {
+        return say(b" ?\n");
+    }
+    let length = word_at(rest, 2);
+    let mut out = [7u8; 4096];
+    say_recorded(limits, &rest[end..], &rest[4..end], &mut out, length)
+}
+
 // One case by its operation's number.
 fn say_case(operation: u8, limits: Limits, rest: &[u8]) -> bool {
     match operation {
@@ -481,6 +523,7 @@ fn say_case(operation: u8, limits: Limits, rest: &[u8]) -> bool {
         5 => say_check(limits, rest),
         6 => say_quotient(limits, rest),
         7 => say_reduce(limits, rest),
+        9 => say_records(limits, rest),
         8 => say_script(limits, rest),
         10 => say_uses(limits, rest),
         12 => say_generate(limits, rest),

@@ -4,7 +4,8 @@ use mathlib.Core.Bool.{true, false, _&&_}
 use mathlib.Core.List.{List, [], _∷_}
 use Prim.Native.Nat.{ℕ, zero, suc, _+_, _<_, _≤_, max}
 use native.Mathlib.Omega.{arith}
-use lib.ListN.{length, getD, drop, drop-of-length-le}
+use native.Mathlib.Decide.{decLt}
+use lib.ListN.{length, getD, drop, drop-of-length-le, List·getD-eq-default}
 use lib.Dec.{leb}
 use borrow.Author.Tests.{leb-true, le-leb, lt-leb}
 use Rattle.lists.proofs.Members.{and-true, one-on}
@@ -15,6 +16,14 @@ unfolding classes
 class-below [] q h = absurd (omega arith)
 class-below (c ∷ m) zero h = omega arith
 class-below (c ∷ m) (suc q) h = omega (arith, class-below m q (omega arith))
+
+-- every class number is below a bound on the classes, past the map's end too
+pub class-under : (m : List ℕ) {k : ℕ} → classes m ≤ k → 0 < k → (q : ℕ) → classOf m q < k
+class-under m {k} h p q = go (decLt q (length m))
+  where
+    go : Dec (q < length m) → classOf m q < k
+    go (yes l) = omega (arith, class-below m q l)
+    go (no l) = omega (arith, List·getD-eq-default m 0 {n = q} (omega arith))
 
 -- a properly numbered map has no more classes than states
 classes-from : (next : ℕ) (m : List ℕ) → numberedFrom next m ≡ true → classes m ≤ next + length m

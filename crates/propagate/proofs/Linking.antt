@@ -9,7 +9,7 @@ use native.Mathlib.Omega.{arith}
 use native.Mathlib.Decide.{ℕ-discrete}
 use lib.ListN.{length, getD, set, take, drop, replicate, length-set, length-replicate, length-take, drop-of-length-le}
 use lib.Seq.{slice, slice-empty, length-slice, getD-set-same, getD-set-other, getD-take, getD-drop, take-suc, drop-append-le, length-take-le}
-use Rattle.lists.proofs.Members.{getD-mem}
+use Rattle.lists.proofs.Members.{getD-mem, zeros}
 use Rattle.cnf.specs.Clauses.{clausesIn, whole}
 use Rattle.cnf.proofs.Values.{Formed}
 use Rattle.propagate.specs.Chains.{clauseAt, OnChain, here, later, PlaceOf, Meets, Linked, LinkRoom, Unlinked, Chained}
@@ -270,11 +270,6 @@ unlinked {ws} {heads} f h e = record {
   long = ap length e ∙ length-replicate {A = ℕ} 1560 0;
   empty = λ l. ap (λ (u : List ℕ). getD u l 0) e ∙ zeros 1560 l;
 }
-  where
-    zeros : (n l : ℕ) → _≡_ {A = ℕ} (getD (replicate n 0) l 0) 0
-    zeros zero l = refl
-    zeros (suc n) zero = refl
-    zeros (suc n) (suc l) = zeros n l
 
 -- room that was cleared, for each place of the words
 pub link-room : {ws next owner : List ℕ} (k : ℕ) → k ≤ 32768 → whole ws ≡ true → length ws ≤ k → length next ≡ k → length owner ≡ k → LinkRoom ws next owner

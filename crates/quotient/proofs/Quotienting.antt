@@ -155,7 +155,7 @@ keep-same g h (r ∷ rs) e = go (h r) (e r (List·Memᴰ·head refl)) refl (keep
     go true p q ih = keep-yes g r rs (p ∙ q) ∙ ap (λ xs. r ∷ xs) ih ∙ sym (keep-yes h r rs q)
     go false p q ih = keep-no g r rs (p ∙ q) ∙ ih ∙ sym (keep-no h r rs q)
 
-keep-every : (rs : List (List ℕ)) → keep (λ r. true) rs ≡ rs
+pub keep-every : (rs : List (List ℕ)) → keep (λ r. true) rs ≡ rs
 unfolding keep
 keep-every [] = refl
 keep-every (r ∷ rs) = ap (λ xs. r ∷ xs) (keep-every rs)

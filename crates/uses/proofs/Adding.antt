@@ -9,7 +9,7 @@ use lib.Seq.{ext-getD, getD-set-same, getD-set-other}
 use lib.Dec.{eqb, ltb}
 use borrow.Author.Tests.{eqb-true, eqb-false}
 use Rattle.lists.specs.Lists.{all, keep, upto}
-use Rattle.lists.proofs.Members.{getD-map, getD-upto, length-upto}
+use Rattle.lists.proofs.Members.{getD-map, getD-upto, length-upto, zeros}
 use Rattle.limits.specs.Limits.{stateMost}
 use Rattle.table.specs.File.{records}
 use Rattle.table.specs.Maps.{classOf}
@@ -38,11 +38,6 @@ states-tests n s = go (records 5 s)
     go (r ∷ rs) = λ i. ltb (lineOf r .state) n && go rs i
 
 -- ---- the sums
-
-pub zeros : (n c : ℕ) → _≡_ {A = ℕ} (getD (replicate n 0) c 0) 0
-zeros zero c = refl
-zeros (suc n) zero = refl
-zeros (suc n) (suc c) = zeros n c
 
 pub length-sums : (m : List ℕ) (ls : List Line) → length (classSums m ls) ≡ stateMost
 unfolding classSums

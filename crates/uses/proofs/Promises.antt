@@ -9,7 +9,7 @@ use lib.ListN.{length, getD, List·getD-eq-default}
 use lib.Dec.{eqb, leb, ltb}
 use borrow.Author.Tests.{eqb-true, eqb-false, eq-eqb, ne-eqb, leb-true, le-leb, lt-leb, ltb-true}
 use Rattle.lists.specs.Lists.{upto, firstFailed}
-use Rattle.lists.proofs.Members.{and-true, all-true}
+use Rattle.lists.proofs.Members.{and-true, all-true, zeros}
 use Rattle.lists.proofs.Refusals.{passed, passes, fails, no-test}
 use Rattle.limits.specs.declared.Limits.{Limits}
 use Rattle.limits.specs.Limits.{stateMost}
@@ -20,12 +20,12 @@ use Rattle.table.proofs.Bytes.{read-well-formed}
 use Rattle.table.proofs.Facts.{most-states}
 use Rattle.maps.specs.Check.{checkNumber}
 use Rattle.maps.proofs.Accepted.{accepted}
-use Rattle.maps.proofs.Numbered.{class-below, classes-few}
+use Rattle.maps.proofs.Numbered.{class-below, classes-few, class-under}
 use Rattle.uses.specs.declared.Counted.{Counted}
 use Rattle.uses.specs.Uses.{Line, linesOf, sum, usesIn, classSum, stateSum, classSums, linesFit, statesFit, linesTests, usesNumber, counted, refusedBy, answerBy, usesOf}
 use Rattle.uses.specs.Demands.{AnyOrder, ByStates, ZeroPast, Fits}
 use Rattle.uses.proofs.Sums.{sum-no-part, by-key, by-every-key, any-order, all-any-order, total-any-order}
-use Rattle.uses.proofs.Adding.{zeros, length-sums, sum-at}
+use Rattle.uses.proofs.Adding.{length-sums, sum-at}
 
 -- ---- 32 and 33
 
@@ -92,11 +92,7 @@ module _ (L : Limits) (b m : List ℕ) (e : checkNumber L b m ≡ 0) where
       omega (arith, classes-few m (a .proper .in-order), map-long, most-states (read-well-formed L b (a .readable)))
 
   pub class-small : (q : ℕ) → classOf m q < stateMost
-  class-small q = go (decLt q (length m))
-    where
-      go : Dec (q < length m) → classOf m q < stateMost
-      go (yes l) = omega (arith, class-below m q l, few-classes)
-      go (no l) = omega (arith, List·getD-eq-default m 0 {n = q} (omega arith))
+  class-small = class-under m few-classes (omega arith)
 
 -- ---- the operation's answer
 

@@ -776,6 +776,43 @@ fn scripts(c: &mut Cases, r: &mut Random) {
     assert!(yes > 10, "{yes} scripts accepted");
 }
 
+/// Where the records went: T, dead records that fold nothing, the refusals in their order.
+fn going(c: &mut Cases, r: &mut Random) {
+    let b = t().bytes();
+    let map = [0, 1, 1, 2];
+    assert_eq!(c.records(&b, &map, 5), Ok([5, 4, 1, 0]));
+    assert_eq!(c.records(&b, &[0, 1, 2, 3], 7), Ok([5, 5, 0, 0]));
+    assert_eq!(c.records(&b, &map, 4), Err(21));
+    assert_eq!(c.records(&b, &[0, 1, 1, 1], 0), Err(17));
+    assert_eq!(c.records(&b, &[0, 1, 1], 0), Err(15));
+    // 20 before 21
+    assert_eq!(c.records(&t_with_call([0, 1, 2]).bytes(), &map, 0), Err(20));
+    // a dead return with the image of a later live one: dead, and the later one is kept
+    let mut dead_first = t();
+    dead_first.calls = vec![[0, 1, 2]];
+    dead_first.returns = vec![[1, 2, 0, 3], [2, 2, 0, 3]];
+    dead_first.internals = vec![];
+    assert_eq!(c.records(&dead_first.bytes(), &map, 9), Ok([3, 2, 0, 1]));
+    // a dead return behind a live one
+    let b = unreachable_stack().bytes();
+    assert_eq!(c.records(&b, &map, 9), Ok([6, 4, 1, 1]));
+    for (f, k) in faults().iter().zip(1..) {
+        assert_eq!(c.records(f, &map, 0), Err(k));
+    }
+    c.limits = Limits { states: 41, symbols: 64 };
+    assert_eq!(c.records(&b, &map, 0), Err(39));
+    c.limits = STANDARD;
+    for turn in 0..40 {
+        let table = small_table(r, turn);
+        let (b, n) = (table.bytes(), table.count());
+        let (mut map, mut out) = (vec![0; n], vec![0; b.len()]);
+        reference::reduce(STANDARD, &b, 2000, &mut vec![0; 1_000_000], &mut map, &mut out).unwrap();
+        let all = table.internals.len() + table.calls.len() + table.returns.len();
+        c.records(&b, &map, all + turn % 3).unwrap();
+        assert_eq!(c.records(&b, &map, all - 1), Err(21));
+    }
+}
+
 /// Writes the cases and their lines.
 fn main() {
     let root = std::env::args().nth(1).expect("the repository's folder");
@@ -802,6 +839,7 @@ fn main() {
     using(&mut c, &mut r);
     choosing(&mut c, &mut r);
     marks(&mut c, &mut r);
+    going(&mut c, &mut r);
     scripts(&mut c, &mut r);
     generating(&mut c, &mut r);
     println!("cases of the operations by number: {:?}; {} bytes", &c.counts[1..], c.input.len() + c.output.len());

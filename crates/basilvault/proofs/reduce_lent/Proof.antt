@@ -1,13 +1,23 @@
--- `basilvault::reduce_lent` is safe: what is printed of the buffers is there. Assumes nothing.
-use mathlib.Core.Path.{sym}
-use Prim.Native.Nat.{ℕ}
+-- `basilvault::reduce_lent` meets its contract: what is printed of the buffers is there, and the text is that of the answer. Assumes nothing.
+use mathlib.Core.Path.{_≡_, sym, _∙_}
+use Prim.Native.Nat.{ℕ, _≤_}
 use native.Mathlib.Omega.{arith}
-use lib.ListN.{length-replicate}
+use lib.ListN.{length, take, length-take, length-replicate}
 use lib.Seq.{length-take-le}
+use Rattle.table.specs.File.{tableOf}
+use Rattle.table.specs.Language.{count}
+use Rattle.maps.specs.Check.{checkNumber}
 use Rattle.reduce.proofs.Theorems.{delivered-fits}
+use Rattle.basilvault.specs.Program.{widest}
+use Rattle.basilvault.specs.Text.{refusedText}
+use Rattle.basilvault.proofs.Putting.{put-on, put-whole}
+use Rattle.basilvault.proofs.Going.{delivered-checked, map-checked, delivered-text, refused-text}
 use borrow.Author.Needs.{needs}
 use Rattle.basilvault.proofs.reduce_lent.Statement.{statement}
 use Rattle.basilvault.proofs.reduce_lent.Tie as tie
+
+widest-requires : tie.Need-widest-requires
+widest-requires c κs = search needs
 
 slice-aggregate-reduce-within : tie.Need-slice-aggregate-reduce-within
 slice-aggregate-reduce-within c = search needs
@@ -18,9 +28,6 @@ slice-aggregate-reduce-within-2 c = search needs
 slice-aggregate-reduce-within-3 : tie.Need-slice-aggregate-reduce-within-3
 slice-aggregate-reduce-within-3 c = search needs
 
-widest-requires : tie.Need-widest-requires
-widest-requires c κs = search needs
-
 reduce-within-requires : tie.Need-reduce-within-requires
 reduce-within-requires c κs = search needs
 
@@ -30,50 +37,84 @@ enum-known-answer c = search needs
 state-count-requires : tie.Need-state-count-requires
 state-count-requires c κs = search needs
 
-say-counts-requires : tie.Need-say-counts-requires
-say-counts-requires c κs = search needs
+-- what is delivered, behind the count of states: the map buffer and the output have room for it, and the check accepts the map
+few-states : (c : tie.After-state-count) → c .state-count .result ≤ 40
+few-states c = c .state-count .ensures .0
+
+map-room : (c : tie.After-state-count) → c .state-count .result ≤ length (c .before .before .before .before .before .before .before .reduce-within .last .1 .1 .1 .1 .0)
+map-room c = omega (arith, c .state-count .ensures .0, c .before .before .before .before .before .before .before .reduce-within .kept .1 .1 .1 .1 .0, length-replicate {A = ℕ} 40 0)
+
+checked : (c : tie.After-state-count) → (c .state-count .result ≡ count (tableOf (c .before .before .before .before .before .before .before .before .before .before .before .before .before .before .args .table .now))) × (checkNumber widest (c .before .before .before .before .before .before .before .before .before .before .before .before .before .before .args .table .now) (take (c .state-count .result) (c .before .before .before .before .before .before .before .reduce-within .last .1 .1 .1 .1 .0)) ≡ 0)
+checked c =
+    let b = c .before .before .before .before .before .before .before .before .before .before .before .before .before .before .args .table .now in
+    map-checked widest b _ (c .state-count .ensures .1) (delivered-checked widest b _ (c .before .before .answer .given .1) (rw (c .before .before .before .before .before .before .before .before .before .before .before .widest .ensures) at (c .before .before .before .before .before .before .before .reduce-within .ensures .1 .1 .1 .0)))
+
+put-counts-requires : tie.Need-put-counts-requires
+put-counts-requires c κs = search needs
 
 array-share-prefix-map : tie.Need-array-share-prefix-map
 array-share-prefix-map c = search needs
 
-slice-aggregate-say-map : tie.Need-slice-aggregate-say-map
-slice-aggregate-say-map c = sym (length-take-le _ _ (omega (arith, c .before .before .state-count .ensures .0, c .before .before .before .before .before .before .before .before .before .reduce-within .kept .1 .1 .1 .1 .0, length-replicate {A = ℕ} 40 0)))
+slice-aggregate-put-map : tie.Need-slice-aggregate-put-map
+slice-aggregate-put-map c = sym (length-take-le _ _ (map-room (c .before .before .before .before .before)))
 
-say-map-requires : tie.Need-say-map-requires
-say-map-requires c κs = search needs
+put-map-requires : tie.Need-put-map-requires
+put-map-requires c κs = simp length-take (omega (arith, c .before .before .before .before .before .before .before .before .before .before .before .before .before .before .before .before .before .before .before .before .pre, c .before .before .before .before .put-counts .ensures .1, c .before .before .before .before .put-counts .ensures .0 .long, c .before .before .before .before .before .before .before .before .before .before .before .before .before .reduce-within .kept .1 .1 .1 .1 .0, length-replicate {A = ℕ} 40 0))
 
 array-share-prefix-out : tie.Need-array-share-prefix-out
-array-share-prefix-out c = omega (arith, delivered-fits _ _ 100000 _ _ _ (c .before .before .before .before .before .before .before .before .before .before .reduce-within .ensures .0) (c .before .before .before .before .before .answer .given .1), length-replicate {A = ℕ} 22644 0, c .before .before .before .before .before .before .before .before .before .before .reduce-within .kept .1 .1 .1 .1 .1 .0)
+array-share-prefix-out c = omega (arith, delivered-fits _ _ 100000 _ _ _ (c .before .before .before .before .before .before .before .before .before .before .before .before .before .before .before .before .reduce-within .ensures .0) (c .before .before .before .before .before .before .before .before .before .before .before .answer .given .1), c .before .before .before .before .before .before .before .before .before .before .before .before .before .before .before .before .reduce-within .kept .1 .1 .1 .1 .1 .0, length-replicate {A = ℕ} 22644 0)
 
-slice-aggregate-say-table : tie.Need-slice-aggregate-say-table
-slice-aggregate-say-table c = sym (length-take-le _ _ (omega (arith, delivered-fits _ _ 100000 _ _ _ (c .before .before .before .before .before .before .before .before .before .before .before .reduce-within .ensures .0) (c .before .before .before .before .before .before .answer .given .1), length-replicate {A = ℕ} 22644 0, c .before .before .before .before .before .before .before .before .before .before .before .reduce-within .kept .1 .1 .1 .1 .1 .0)))
+slice-aggregate-put-table : tie.Need-slice-aggregate-put-table
+slice-aggregate-put-table c = sym (length-take-le _ _ (omega (arith, delivered-fits _ _ 100000 _ _ _ (c .before .before .before .before .before .before .before .before .before .before .before .before .before .before .before .before .before .reduce-within .ensures .0) (c .before .before .before .before .before .before .before .before .before .before .before .before .answer .given .1), c .before .before .before .before .before .before .before .before .before .before .before .before .before .before .before .before .before .reduce-within .kept .1 .1 .1 .1 .1 .0, length-replicate {A = ℕ} 22644 0)))
 
-say-table-requires : tie.Need-say-table-requires
-say-table-requires c κs = search needs
+put-table-requires : tie.Need-put-table-requires
+put-table-requires c κs = simp length-take (omega (arith, c .before .before .before .before .before .before .before .before .before .before .before .before .before .before .before .before .before .before .before .before .before .before .before .before .before .pre, c .before .before .before .before .before .before .before .before .before .put-counts .ensures .1, c .before .before .before .before .before .before .before .before .before .put-counts .ensures .0 .long, simp length-take at (c .before .before .before .before .put-map .ensures .1), c .before .before .before .before .put-map .ensures .0 .long, c .before .before .before .before .before .before .before .before .before .before .before .before .before .before .before .before .before .before .reduce-within .kept .1 .1 .1 .1 .0, length-replicate {A = ℕ} 40 0, c .before .before .before .before .before .before .before .before .before .before .before .before .before .before .before .before .before .before .reduce-within .kept .1 .1 .1 .1 .1 .0, length-replicate {A = ℕ} 22644 0))
+
+array-share-prefix-map-2 : tie.Need-array-share-prefix-map-2
+array-share-prefix-map-2 c = search needs
+
+slice-aggregate-put-going : tie.Need-slice-aggregate-put-going
+slice-aggregate-put-going c = sym (length-take-le _ _ (map-room (c .before .before .before .before .before .before .before .before .before .before .before .before .before .before .before)))
+
+put-going-requires : tie.Need-put-going-requires
+put-going-requires c κs = (checked (c .before .before .before .before .before .before .before .before .before .before .before .before .before .before .before .before) .1, omega (arith, c .before .before .before .before .before .before .before .before .before .before .before .before .before .before .before .before .before .before .before .before .before .before .before .before .before .before .before .before .before .before .pre, c .before .before .before .before .before .before .before .before .before .before .before .before .before .before .put-counts .ensures .1, c .before .before .before .before .before .before .before .before .before .before .before .before .before .before .put-counts .ensures .0 .long, simp length-take at (c .before .before .before .before .before .before .before .before .before .put-map .ensures .1), c .before .before .before .before .before .before .before .before .before .put-map .ensures .0 .long, simp length-take at (c .before .before .before .before .put-table .ensures .1), c .before .before .before .before .put-table .ensures .0 .long, c .before .before .before .before .before .before .before .before .before .before .before .before .before .before .before .before .before .before .before .before .before .before .before .reduce-within .kept .1 .1 .1 .1 .0, length-replicate {A = ℕ} 40 0, c .before .before .before .before .before .before .before .before .before .before .before .before .before .before .before .before .before .before .before .before .before .before .before .reduce-within .kept .1 .1 .1 .1 .1 .0, length-replicate {A = ℕ} 22644 0))
 
 enum-known-answer-2 : tie.Need-enum-known-answer-2
 enum-known-answer-2 c = search needs
 
-slice-aggregate-say-number : tie.Need-slice-aggregate-say-number
-slice-aggregate-say-number c = search needs
+slice-aggregate-put-number : tie.Need-slice-aggregate-put-number
+slice-aggregate-put-number c = search needs
 
-cast-say-number : tie.Need-cast-say-number
-cast-say-number c = search needs
+cast-put-number : tie.Need-cast-put-number
+cast-put-number c = search needs
 
-say-number-requires : tie.Need-say-number-requires
-say-number-requires c κs = search needs
+put-number-requires : tie.Need-put-number-requires
+put-number-requires c κs = search needs
 
-slice-aggregate-say : tie.Need-slice-aggregate-say
-slice-aggregate-say c = search needs
+slice-aggregate-put : tie.Need-slice-aggregate-put
+slice-aggregate-put c = search needs
 
-say-requires : tie.Need-say-requires
-say-requires c κs = search needs
+put-requires : tie.Need-put-requires
+put-requires c κs = search needs
+
+same-length : tie.Need-same-length
+same-length c = c .before .before .put-going .ensures .long ∙ c .before .before .before .before .before .before .before .put-table .ensures .0 .long ∙ c .before .before .before .before .before .before .before .before .before .before .before .before .put-map .ensures .0 .long ∙ c .before .before .before .before .before .before .before .before .before .before .before .before .before .before .before .before .before .put-counts .ensures .0 .long
 
 returns : tie.Need-returns
-returns c = search needs
+returns c =
+    let b = c .before .before .before .before .before .before .before .before .before .before .before .before .before .before .before .before .before .before .before .before .before .before .before .before .before .before .before .before .before .before .before .before .before .args .table .now in
+    let e = rw (c .before .before .before .before .before .before .before .before .before .before .before .before .before .before .before .before .before .before .before .before .before .before .before .before .before .before .before .before .before .before .widest .ensures) at (c .before .before .before .before .before .before .before .before .before .before .before .before .before .before .before .before .before .before .before .before .before .before .before .before .before .before .reduce-within .ensures .0) in
+    put-whole (delivered-text b e (c .before .before .before .before .before .before .before .before .before .before .before .before .before .before .before .before .before .before .before .before .before .answer .given .1) (checked (c .before .before .before .before .before .before .before .before .before .before .before .before .before .before .before .before .before .before .before) .0)) (put-on (put-on (put-on (c .before .before .before .before .before .before .before .before .before .before .before .before .before .before .before .before .before .put-counts .ensures .0) (c .before .before .before .before .before .before .before .before .before .before .before .before .put-map .ensures .0)) (c .before .before .before .before .before .before .before .put-table .ensures .0)) (c .before .before .put-going .ensures))
+
+same-length-2 : tie.Need-same-length-2
+same-length-2 c = c .before .before .put .ensures .long ∙ c .before .before .before .before .before .before .before .put-number .ensures .0 .long
 
 returns-2 : tie.Need-returns-2
-returns-2 c = search needs
+unfolding refusedText
+returns-2 c =
+    let b = c .before .before .before .before .before .before .before .before .before .before .before .before .before .before .before .before .before .before .before .before .before .before .before .args .table .now in
+    let e = rw (c .before .before .before .before .before .before .before .before .before .before .before .before .before .before .before .before .before .before .before .before .widest .ensures) at (c .before .before .before .before .before .before .before .before .before .before .before .before .before .before .before .before .reduce-within .ensures .0) in
+    put-whole (refused-text b e (c .before .before .before .before .before .before .before .before .before .before .before .answer2 .given .1)) (put-on (c .before .before .before .before .before .before .before .put-number .ensures .0) (c .before .before .put .ensures))
 
 pub reduce-lent-spec : {M : Type 1} → statement M
 reduce-lent-spec =
@@ -86,18 +127,23 @@ reduce-lent-spec =
     reduce-within-requires
     enum-known-answer
     state-count-requires
-    say-counts-requires
+    put-counts-requires
     array-share-prefix-map
-    slice-aggregate-say-map
-    say-map-requires
+    slice-aggregate-put-map
+    put-map-requires
     array-share-prefix-out
-    slice-aggregate-say-table
-    say-table-requires
+    slice-aggregate-put-table
+    put-table-requires
+    array-share-prefix-map-2
+    slice-aggregate-put-going
+    put-going-requires
     enum-known-answer-2
-    slice-aggregate-say-number
-    cast-say-number
-    say-number-requires
-    slice-aggregate-say
-    say-requires
+    slice-aggregate-put-number
+    cast-put-number
+    put-number-requires
+    slice-aggregate-put
+    put-requires
+    same-length
     returns
+    same-length-2
     returns-2)

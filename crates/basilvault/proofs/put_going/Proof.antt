@@ -1,0 +1,57 @@
+-- `basilvault::put_going` meets its contract: nothing is refused. Assumes nothing.
+use native.Mathlib.Omega.{arith}
+use mathlib.Core.Path.{sym, ap, _∙_}
+use Rattle.basilvault.specs.Program.{widest}
+use Rattle.basilvault.specs.Text.{recordedText}
+use Rattle.basilvault.proofs.Putting.{put-none, put-same}
+use Rattle.basilvault.proofs.Going.{going-told}
+use borrow.Author.Needs.{needs}
+use Rattle.basilvault.proofs.put_going.Statement.{statement}
+use Rattle.basilvault.proofs.put_going.Tie as tie
+
+widest-requires : tie.Need-widest-requires
+widest-requires c κs = search needs
+
+slice-aggregate-records-within : tie.Need-slice-aggregate-records-within
+slice-aggregate-records-within c = search needs
+
+records-within-requires : tie.Need-records-within-requires
+records-within-requires c κs = search needs
+
+enum-known-recorded : tie.Need-enum-known-recorded
+enum-known-recorded c = search needs
+
+put-records-requires : tie.Need-put-records-requires
+put-records-requires c κs = search needs
+
+enum-told : tie.Need-enum-told
+enum-told c = search needs
+
+same-length : tie.Need-same-length
+same-length c = search needs
+
+returns : tie.Need-returns
+returns c =
+    let a = c .before .before .before .before .before .before .before .before .before .before .before .before .before .before in
+    let e = rw (c .before .before .before .before .before .before .before .before .before .before .widest .ensures) at (c .before .before .before .before .before .before .before .before .records-within .ensures .0) in
+    put-same (ap recordedText (sym (c .before .before .before .before .before .recorded .given .1) ∙ going-told widest (a .args .table .now) (a .args .map .now) (a .pre .0) e)) (c .before .before .put-records .ensures)
+
+returns-2 : tie.Need-returns-2
+returns-2 c =
+    let a = c .before .before .before .before .before .before .before .before .before in
+    let e = rw (c .before .before .before .before .before .widest .ensures) at (c .before .before .before .records-within .ensures .0) in
+    put-same (ap recordedText (sym (c .enum-told .given .1) ∙ going-told widest (a .args .table .now) (a .args .map .now) (a .pre .0) e)) (put-none (a .args .at) (a .args .text .now) (omega (arith, a .pre .1)))
+
+pub put-going-spec : {M : Type 1} → statement M
+put-going-spec =
+    tie.close
+    (tie.spec
+    widest-requires
+    slice-aggregate-records-within
+    records-within-requires
+    enum-known-recorded
+    put-records-requires
+    enum-told
+    same-length
+    returns
+    returns-2)

@@ -1,0 +1,4 @@
+pub mod Counts
+pub mod Sections
+pub mod Answers
+pub mod Examples

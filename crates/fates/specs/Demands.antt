@@ -1,0 +1,27 @@
+-- What the counts of records promise (document 02, request (vi)): "K equals the quotient's record count, N the input's, and N = K + F + D is proved
+-- with each defined from the records." Assumes nothing.
+use mathlib.Core.Path.{_≡_}
+use mathlib.Core.List.{List}
+use Prim.Native.Nat.{ℕ, _+_}
+use Rattle.table.specs.File.{tableOf}
+use Rattle.quotient.specs.Quotient.{quotientTable, quotientBytes}
+use Rattle.fates.specs.declared.Recorded.{Recorded}
+use Rattle.fates.specs.declared.Recorded.the-variants.{Counts, Refused}
+use Rattle.fates.specs.Fates.{recordCount}
+
+-- where nothing is refused, of N, K, F and D
+abbrev pub OnCounts : Recorded → (ℕ → ℕ → ℕ → ℕ → Type 0) → Type 0
+OnCounts (Counts n k f d) P = P n k f d
+OnCounts (Refused k) P = Unit {0}
+
+-- "N = K + F + D"
+abbrev pub AddUp : Recorded → Type 0
+AddUp r = OnCounts r (λ n k f d. n ≡ k + f + d)
+
+-- "K equals the quotient's record count": that of the quotient's table, and of the table that the written quotient's bytes hold
+abbrev pub KeptAreQuotients : List ℕ → List ℕ → Recorded → Type 0
+KeptAreQuotients b m r = OnCounts r (λ n k f d. (k ≡ recordCount (quotientTable (tableOf b) m)) × (k ≡ recordCount (tableOf (quotientBytes b m))))
+
+-- "N the input's"
+abbrev pub AllAreInputs : List ℕ → Recorded → Type 0
+AllAreInputs b r = OnCounts r (λ n k f d. n ≡ recordCount (tableOf b))

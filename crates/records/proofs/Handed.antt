@@ -1,0 +1,100 @@
+-- The parts of a table that was read, under a map that the check accepts: they fit, and their marks are the table's. Assumes nothing.
+use mathlib.Core.Path.{_≡_, refl, sym, ap, _∙_, subst}
+use mathlib.Core.Logic.{_≢_}
+use mathlib.Core.Bool.{Bool, true, false}
+use mathlib.Core.List.{List, [], _++_, List·Memᴰ}
+use Prim.Native.Nat.{ℕ, _≤_, _<_}
+use native.Mathlib.Omega.{arith}
+use lib.ListN.{length, getD}
+use lib.Dec.{leb}
+use borrow.Author.Tests.{leb-true, leb-false}
+use Rattle.lists.specs.Lists.{over, firstFailed}
+use Rattle.limits.specs.declared.Limits.{Limits}
+use Rattle.limits.specs.Limits.{symbolMost}
+use Rattle.limits.proofs.Within.{limits-within}
+use Rattle.table.specs.File.{Table, records, tableOf}
+use Rattle.table.specs.Reading.{ascend, WellFormed}
+use Rattle.table.specs.Language.{count}
+use Rattle.table.specs.Maps.{Proper}
+use Rattle.table.specs.Sections.{partOf}
+use Rattle.table.specs.declared.Starts.{Starts}
+use Rattle.table.specs.declared.view.Section.the-variants.{Internals, Calls, Returns}
+use Rattle.table.proofs.Bytes.{records-wide, read-well-formed}
+use Rattle.table.proofs.Parts.{internals-read, calls-read, returns-read}
+use Rattle.table.proofs.Passed.{formed-tested}
+use Rattle.table.proofs.Facts.{Fit, internals-fit, calls-fit, returns-fit, most-states}
+use Rattle.tops.specs.Tops.{live}
+use Rattle.maps.specs.Check.{mapTests, checkNumber}
+use Rattle.maps.specs.Sections.{kept, Known}
+use Rattle.maps.proofs.Accepted.{accepted}
+use Rattle.maps.proofs.Checking.{tested}
+use Rattle.maps.proofs.Matched.{move-kept, return-kept}
+use Rattle.maps.proofs.Numbered.{classes-few}
+use Rattle.fates.specs.declared.Recorded.the-variants.{Counts, Refused}
+use Rattle.fates.specs.Fates.{keptMark, foldedMark, deadMark, sectionFates, having, fatesOf, countsOf, recordsOf}
+use Rattle.fates.proofs.Counts.{one-each}
+use Rattle.fates.proofs.Sections.{fates-same}
+use Rattle.fates.proofs.Answers.{records-short, records-told}
+use Rattle.records.specs.Marks.{Fitting, FittingParts, partedFates, toldFor}
+
+-- ---- the marks of a section of moves, and of returns
+
+moves-marked : (s f m : List ℕ) → sectionFates (kept f) m (records 3 s) ≡ sectionFates (λ r. true) m (records 3 s)
+moves-marked s f m = fates-same (kept f) (λ r. true) m (records 3 s) (λ r d. sym (move-kept f r (omega (arith, records-wide 3 s r d))))
+
+returns-marked : (s f m : List ℕ) → sectionFates (kept f) m (records 4 s) ≡ sectionFates (live f) m (records 4 s)
+unfolding live
+returns-marked s f m = fates-same (kept f) (live f) m (records 4 s) (λ r d. sym (return-kept f r (omega (arith, records-wide 4 s r d)) refl refl))
+
+-- ---- a section of a well-formed table
+
+fitting : {L : Limits} {t : Table} (wf : WellFormed L t) (kind w : ℕ) (s m : List ℕ) {rs : List (List ℕ)} → 3 ≤ w → w ≤ 4 → Proper t m → records w s ≡ rs → Fit t kind w rs → ascend rs ≡ true → Fitting w s m
+fitting {L} {t} wf kind w s m {rs} a b p e f o = record {
+  moves = a;
+  returns = b;
+  in-order = ap ascend e ∙ o;
+  symbols = λ r d. omega (arith, f .symbol r (here r d) .0, formed-tested wf .symbols-few, limits-within (wf .limits) .symbols);
+  states = λ r d. omega (arith, f .states r (here r d) 0 (λ z. omega arith) (omega arith), p .long);
+  few-states = omega (arith, p .long, most-states wf);
+  few-classes = omega (arith, p .long, most-states wf, classes-few m (p .in-order));
+}
+  where
+    here : (r : List ℕ) → List·Memᴰ r (records w s) → List·Memᴰ r rs
+    here r d = subst (List·Memᴰ r) e d
+
+-- ---- the parts
+
+module _ {b f : List ℕ} {s : Starts} (k : Known b s f) (m : List ℕ) (n : firstFailed (mapTests (tableOf b) m) ≡ 0) {internals calls returns : List ℕ}
+    (e2 : internals ≡ partOf b s Internals) (e3 : calls ≡ partOf b s Calls) (e4 : returns ≡ partOf b s Returns) where
+  pub parts-fit : FittingParts internals calls returns m
+  parts-fit =
+      let L = k .limits in
+      let wf = read-well-formed L b (k .read .readable) in
+      let t = formed-tested wf in
+      let p = accepted L b m (tested L b m (k .read .readable) (sym n)) .proper in
+      record {
+        of-internals = fitting wf 0 3 internals m (omega arith) (omega arith) p (internals-read (k .read) e2) (internals-fit wf) (t .internals-ascend);
+        of-calls = fitting wf 1 3 calls m (omega arith) (omega arith) p (calls-read (k .read) e3) (calls-fit wf) (t .calls-ascend);
+        of-returns = fitting wf 2 4 returns m (omega arith) (omega arith) p (returns-read (k .read) e4) (returns-fit wf) (t .returns-ascend);
+      }
+
+  pub parts-marked : partedFates internals calls returns f m ≡ fatesOf (tableOf b) m
+  unfolding fatesOf
+  parts-marked =
+      λ j. (moves-marked internals f m ∙ ap (sectionFates (λ r. true) m) (internals-read (k .read) e2)) j
+      ++ ((moves-marked calls f m ∙ ap (sectionFates (λ r. true) m) (calls-read (k .read) e3)) j
+      ++ (returns-marked returns f m ∙ (λ i. sectionFates (live (k .words i)) m (returns-read (k .read) e4 i))) j)
+
+-- ---- the answer
+
+pub told-known : (L : Limits) (b m out : List ℕ) → checkNumber L b m ≡ 0 → toldFor (fatesOf (tableOf b) m) out ≡ recordsOf L b m out
+unfolding toldFor countsOf
+told-known L b m out e = go (leb (length (fatesOf (tableOf b) m)) (length out)) refl
+  where
+    go : (t : Bool) → leb (length (fatesOf (tableOf b) m)) (length out) ≡ t → toldFor (fatesOf (tableOf b) m) out ≡ recordsOf L b m out
+    go true p =
+        let h = leb-true (length (fatesOf (tableOf b) m)) (length out) p in
+        rw (p, toldFor) (records-told L b m out e (omega (arith, one-each (tableOf b) m)) (λ j. Counts (one-each (tableOf b) m j) (having keptMark (fatesOf (tableOf b) m)) (having foldedMark (fatesOf (tableOf b) m)) (having deadMark (fatesOf (tableOf b) m))) refl)
+    go false p =
+        let h = leb-false (length (fatesOf (tableOf b) m)) (length out) p in
+        rw (p, toldFor) (records-short L b m out e (omega (arith, one-each (tableOf b) m)))
