@@ -62,6 +62,9 @@ uint32_t basilvault_script(const uint8_t *table, size_t table_len, const uint8_t
 uint32_t basilvault_records(const uint8_t *table, size_t table_len, const uint8_t *map, size_t map_len, uint8_t *out, size_t out_len,
                             uint64_t *values, size_t values_len);
 
+/* One value: 1 where the second table accepts every word of the first, 0 where it does not. Both are read at 24 states and 32 symbols. */
+uint32_t basilvault_fit(const uint8_t *first, size_t first_len, const uint8_t *second, size_t second_len, uint64_t *values, size_t values_len);
+
 /* The same at limits. */
 uint32_t basilvault_read_within(size_t states, size_t symbols, const uint8_t *table, size_t table_len, uint64_t *values, size_t values_len);
 uint32_t basilvault_tops_within(size_t states, size_t symbols, const uint8_t *table, size_t table_len, uint64_t *values, size_t values_len);

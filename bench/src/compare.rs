@@ -2,6 +2,7 @@
 
 use crate::random::{self, Random};
 use crate::reference::{Limits, Table, LARGEST, STANDARD};
+use crate::capi::fit;
 use crate::{capi::within as capi, plain};
 
 /// A length around what is needed: shorter, equal, or longer.
@@ -73,6 +74,17 @@ fn compare_generate(r: &mut Random, l: Limits) {
     assert!(ours == theirs, "{load:?}");
 }
 
+/// Two tables, one of them damaged now and then.
+fn compare_pair(r: &mut Random) {
+    let (first, second) = random::two_tables(r, 7);
+    let mut bytes = [first.bytes(), second.bytes()];
+    if r.chance(8) {
+        let i = r.below(2);
+        bytes[i] = random::damaged(r, &bytes[i]);
+    }
+    assert_eq!(fit(&bytes[0], &bytes[1]), plain::fit(&bytes[0], &bytes[1]), "{bytes:02x?}");
+}
+
 /// So many cases; stops the program at the first difference.
 pub fn compare(cases: usize) {
     let mut r = Random::new(1);
@@ -91,6 +103,9 @@ pub fn compare(cases: usize) {
         let map = map.unwrap_or_else(|| random::map(&mut r, states));
         compare_map(&mut r, l, &table, &map);
         compare_search(&mut r, l);
+        if i % 4 == 0 {
+            compare_pair(&mut r);
+        }
     }
-    println!("library and plain Rust agree on {cases} random tables, scripts, maps and lists\n");
+    println!("library and plain Rust agree on {cases} random tables, scripts, maps and lists, and pairs of tables\n");
 }

@@ -4,6 +4,8 @@
 //!   basilvault-bench instructions FOLDER    instructions by callgrind, whose files go to the folder
 //!   basilvault-bench one STAGE SIDE         a stage once over all its inputs, by the `library` or in `plain` Rust
 //!   basilvault-bench processes FOLDER       the search as a process against minisat, on files in the folder
+//!   basilvault-bench fit FOLDER             the comparison of two tables on its own inputs; callgrind's files go to the folder
+//!   basilvault-bench fit-one SIDE           all of these once, by the `library` or in `plain` Rust
 //!   basilvault-bench load                   tables a second of a load from the library's generator
 //!   basilvault-bench seeds                  how the inputs' seeds were found
 
@@ -13,6 +15,7 @@ mod capi;
 mod compare;
 mod dimacs;
 mod inputs;
+mod pairs;
 mod instructions;
 mod load;
 mod plain;
@@ -35,6 +38,8 @@ fn main() {
         [] => times::print(),
         ["compare", cases] => compare::compare(cases.parse().expect("a number of cases")),
         ["instructions", folder] => instructions::print(folder),
+        ["fit", folder] => pairs::print(folder),
+        ["fit-one", side] => pairs::one(side),
         ["one", stage, side] => instructions::one(stage, side),
         ["processes", folder] => processes::print(folder),
         ["load"] => load::print(),

@@ -1,6 +1,7 @@
 //! Operations in plain Rust, by the same algorithms as the proved ones and with the same answers on every input.
 
 mod clauses;
+mod fit;
 mod generate;
 mod quotient;
 mod reduce;
@@ -8,6 +9,7 @@ mod script;
 mod search;
 mod table;
 mod tops;
+pub use fit::fit;
 
 pub use clauses::clauses;
 pub use generate::generate;

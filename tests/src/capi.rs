@@ -42,6 +42,7 @@ extern "C" {
         values: *mut u64,
         k: usize,
     ) -> u32;
+    fn basilvault_fit(first: *const u8, n: usize, second: *const u8, m: usize, values: *mut u64, k: usize) -> u32;
     fn basilvault_script(table: *const u8, n: usize, script: *const u8, s: usize, values: *mut u64, k: usize) -> u32;
     fn basilvault_script_within(states: usize, symbols: usize, table: *const u8, n: usize, script: *const u8, s: usize, values: *mut u64, k: usize) -> u32;
     fn basilvault_choose(table: *const u8, n: usize, first: *const u8, f: usize, second: *const u8, s: usize, values: *mut u64, k: usize) -> u32;
@@ -171,6 +172,13 @@ pub fn script(table: &[u8], script: &[u8]) -> Result<[u64; 1], u8> {
 pub fn records(table: &[u8], map: &[u8], out: &mut [u8]) -> Result<[u64; 4], u8> {
     let mut v = [0u64; 4];
     let k = unsafe { basilvault_records(table.as_ptr(), table.len(), map.as_ptr(), map.len(), out.as_mut_ptr(), out.len(), v.as_mut_ptr(), v.len()) };
+    answer(k, v)
+}
+
+/// Whether the second table accepts every word of the first.
+pub fn fit(first: &[u8], second: &[u8]) -> Result<[u64; 1], u8> {
+    let mut v = [0u64; 1];
+    let k = unsafe { basilvault_fit(first.as_ptr(), first.len(), second.as_ptr(), second.len(), v.as_mut_ptr(), v.len()) };
     answer(k, v)
 }
 

@@ -192,6 +192,15 @@ impl Cases {
         answer
     }
 
+    /// Whether the second table accepts every word of the first.
+    pub fn fit(&mut self, first: &[u8], second: &[u8]) -> Result<bool, u8> {
+        self.frame(13, &[&words(&[first.len()]), first, second]);
+        let answer = reference::fit(first, second);
+        self.line("fit", answer.map(|yes| vec![u64::from(yes)]));
+        self.end();
+        answer
+    }
+
     /// The written bytes.
     pub fn quotient(&mut self, b: &[u8], map: &[u8], room: usize) -> Result<Vec<u8>, u8> {
         self.frame(6, &[&words(&[map.len(), room]), map, b]);

@@ -20,7 +20,7 @@ impl Counts {
 }
 
 /// The numbers that each operation can give, 0 for none: a run of many cases must have met each of them.
-const NUMBERS: [(&str, &[u8]); 23] = [
+const NUMBERS: [(&str, &[u8]); 26] = [
     ("read", &[0, 39, 1, 2, 3, 4, 5, 6, 7, 8]),
     ("tops", &[0, 39, 2, 3, 5, 7, 8]),
     ("clauses", &[0, 39, 3, 5, 7, 8, 10]),
@@ -30,6 +30,9 @@ const NUMBERS: [(&str, &[u8]); 23] = [
     ("reduce", &[0, 39, 3, 7, 8, 10, 21, 22]),
     ("uses", &[0, 39, 3, 7, 8, 15, 16, 17, 18, 19, 20, 32, 33]),
     ("choose", &[0, 39, 3, 7, 8, 40]),
+    ("fit", &[0, 3, 7, 8, 37, 38]),
+    ("fit: no", &[0]),
+    ("fit: yes", &[0]),
     ("the first map chosen", &[0]),
     ("the second map chosen", &[0]),
     ("records", &[0, 39, 3, 7, 8, 15, 16, 17, 18, 19, 20, 21]),
@@ -202,6 +205,28 @@ fn compare_records(r: &mut Random, l: Limits, b: &[u8], m: &[u8], c: &mut Counts
     if let Ok([_, _, folded, dead]) = e {
         if folded > 0 && dead > 0 {
             c.add("records, some folded and some dead", Ok(()));
+        }
+    }
+}
+
+/// Two tables; where the answer is yes, every random short word of the first is one of the second.
+fn compare_fit(r: &mut Random, c: &mut Counts) {
+    let (first, second) = random::two_tables(r, 6);
+    let mut bytes = [first.bytes(), second.bytes()];
+    if r.chance(8) {
+        let i = r.below(2);
+        bytes[i] = random::damaged(r, &bytes[i]);
+    }
+    let e = reference::fit(&bytes[0], &bytes[1]).map(|yes| [u64::from(yes)]);
+    same("fit", &bytes.concat(), capi::fit(&bytes[0], &bytes[1]), e);
+    c.add("fit", e);
+    if let Ok([yes]) = e {
+        c.add(["fit: no", "fit: yes"][yes as usize], Ok(()));
+        let [s, t] = [0, 1].map(|i| reference::parse(STANDARD, &bytes[i]).unwrap().0);
+        for _ in 0..20 {
+            let n = r.below(8);
+            let word: Vec<u8> = (0..n).filter(|_| !s.symbols.is_empty()).map(|_| r.below(s.symbols.len()) as u8).collect();
+            assert!(yes == 0 || !reference::accepts(&s, &word) || reference::accepts(&t, &word), "{word:?} of {s:?} is none of {t:?}");
         }
     }
 }
@@ -517,6 +542,7 @@ fn main() {
             }
             4 => compare_reduce(&mut r, l, &b, &mut c),
             _ => {
+                compare_fit(&mut r, &mut c);
                 let n = 1 + r.below(6);
                 let small = match r.below(3) {
                     0 => random::table(&mut r, n, false),

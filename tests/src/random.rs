@@ -233,6 +233,42 @@ pub fn lines(r: &mut Random, n: usize) -> Vec<u8> {
     lines
 }
 
+/// Two tables with mostly the same symbols: the second another one, or the first with records more or less; mostly without a choice.
+pub fn two_tables(r: &mut Random, most: usize) -> (Table, Table) {
+    let first = any_table(r, most);
+    let mut second = match r.below(3) {
+        0 => any_table(r, most),
+        _ => first.clone(),
+    };
+    if r.chance(95) {
+        let symbols = first.symbols.clone();
+        let kind = |a: u8, k: u8| symbols.get(a as usize) == Some(&k);
+        second.internals.retain(|x| kind(x[1], 0));
+        second.calls.retain(|x| kind(x[1], 1));
+        second.returns.retain(|x| kind(x[1], 2));
+        second.symbols = symbols;
+    }
+    if r.chance(95) {
+        let first = second.states.iter().position(|x| x % 2 == 1).unwrap();
+        second.states.iter_mut().enumerate().for_each(|(q, x)| *x = *x & !1 | (q == first) as u8);
+        second.internals.dedup_by_key(|x| [x[0], x[1]]);
+        second.calls.dedup_by_key(|x| [x[0], x[1]]);
+        second.returns.dedup_by_key(|x| [x[0], x[1], x[2]]);
+    }
+    for _ in 0..r.below(3) {
+        match r.below(4) {
+            0 if !second.internals.is_empty() => drop(second.internals.remove(r.below(second.internals.len()))),
+            1 if !second.calls.is_empty() => drop(second.calls.remove(r.below(second.calls.len()))),
+            2 if !second.returns.is_empty() => drop(second.returns.remove(r.below(second.returns.len()))),
+            _ => {
+                let q = r.below(second.count());
+                second.states[q] ^= 2;
+            }
+        }
+    }
+    (first, second)
+}
+
 /// A script: any symbols, a walk of the table, or many calls and returns around the most that may be open; now and then a symbol past the count.
 pub fn script(r: &mut Random, t: &Table) -> Vec<u8> {
     let k = t.symbols.len();

@@ -893,6 +893,67 @@ pub fn script(l: Limits, b: &[u8], script: &[u8]) -> Result<bool, u8> {
     Ok(accepts_long(&t, script))
 }
 
+/// The one target of a move or return by its key, if there is one.
+fn target<const N: usize>(records: &[[u8; N]], key: &[u8]) -> Option<u8> {
+    records.iter().find(|r| r[..N - 1] == *key).map(|r| r[N - 1])
+}
+
+/// A state of the first table and one of the second, or none where the second is stuck.
+type Both = (u8, Option<u8>);
+
+/// The pairs that balanced words reach from each pair that is entered, by rounds until nothing is new.
+fn reached(s: &Table, t: &Table, starts: &BTreeSet<Both>) -> BTreeMap<Both, BTreeSet<Both>> {
+    let mut reach: BTreeMap<Both, BTreeSet<Both>> = starts.iter().map(|&x| (x, BTreeSet::from([x]))).collect();
+    loop {
+        let mut new: Vec<(Both, Both)> = Vec::new();
+        for (&x, pairs) in &reach {
+            for &(p, b) in pairs {
+                for r in s.internals.iter().filter(|r| r[0] == p) {
+                    new.push((x, (r[2], b.and_then(|b| target(&t.internals, &[b, r[1]])))));
+                }
+                for c in s.calls.iter().filter(|c| c[0] == p) {
+                    let entered = (c[2], b.and_then(|b| target(&t.calls, &[b, c[1]])));
+                    new.push((entered, entered));
+                    for &(q, d) in reach.get(&entered).into_iter().flatten() {
+                        for r in s.returns.iter().filter(|r| r[0] == q && r[2] == p) {
+                            let after = d.zip(b).and_then(|(d, b)| target(&t.returns, &[d, r[1], b]));
+                            new.push((x, (r[3], after)));
+                        }
+                    }
+                }
+            }
+        }
+        let mut changed = false;
+        for (x, y) in new {
+            changed |= reach.entry(x).or_default().insert(y);
+        }
+        if !changed {
+            return reach;
+        }
+    }
+}
+
+/// The operation fit: whether the second table accepts every word of the first.
+pub fn fit(first: &[u8], second: &[u8]) -> Result<bool, u8> {
+    let s = parse(STANDARD, first)?.0;
+    let t = parse(STANDARD, second)?.0;
+    if s.symbols != t.symbols {
+        return Err(37);
+    }
+    let initial = |t: &Table| (0..t.count()).filter(|&q| t.initial(q)).map(|q| q as u8).collect::<Vec<u8>>();
+    let choice = initial(&t).len() > 1
+        || t.internals.windows(2).any(|w| w[0][..2] == w[1][..2])
+        || t.calls.windows(2).any(|w| w[0][..2] == w[1][..2])
+        || t.returns.windows(2).any(|w| w[0][..3] == w[1][..3]);
+    if choice {
+        return Err(38);
+    }
+    let starts: BTreeSet<Both> = initial(&s).iter().map(|&p| (p, Some(initial(&t)[0]))).collect();
+    let reach = reached(&s, &t, &starts);
+    let fits = |&(p, b): &Both| !s.accepting(p as usize) || b.is_some_and(|b| t.accepting(b as usize));
+    Ok(starts.iter().all(|x| reach[x].iter().all(fits)))
+}
+
 /// Every run over the whole word, configuration by configuration, accepted or not.
 pub fn runs(t: &Table, word: &[u8]) -> BTreeSet<Vec<Configuration>> {
     let first = starts(t).into_iter().map(|c| vec![c]).collect();

@@ -19,6 +19,8 @@ use Rattle.uses.specs.declared.Counted.{Counted}
 use Rattle.uses.specs.Uses.{countedValues}
 use Rattle.choose.specs.declared.Choice.{Choice}
 use Rattle.choose.specs.Choose.{choiceValues}
+use Rattle.fitting.specs.declared.Fitting.{Fitting}
+use Rattle.fitting.specs.Fit.{fittingNumber, fittingValues}
 use Rattle.fates.specs.Fates.{RecordsDone, recordedNumber, recordedValues}
 use Rattle.scripts.specs.declared.Read.{Read}
 use Rattle.scripts.specs.Script.{readNumberOf, readValues}
@@ -71,3 +73,6 @@ module _ (values : List ℕ) where
 
   unfoldable pub scriptOut : Read → Out
   scriptOut r = out values (readNumberOf r) (readValues r) []
+
+  unfoldable pub fitOut : Fitting → Out
+  fitOut r = out values (fittingNumber r) (fittingValues r) []

@@ -16,10 +16,12 @@ ghost use Rattle.choose.specs.Choose.{choiceOf};
 ghost use Rattle.loads.specs.Loads.{loadOf, generateOf};
 ghost use Rattle.scripts.specs.Script.{yesValue, scriptOf};
 ghost use Rattle.fates.specs.Fates.{recordsOf};
-ghost use Rattle.capi.specs.Answers.{stored, readOut, topsOut, clausesOut, searchOut, checkOut, quotientOut, reduceOut, usesOut, chooseOut, scriptOut, recordsOut};
+ghost use Rattle.fitting.specs.Fit.{fitOf};
+ghost use Rattle.capi.specs.Answers.{stored, readOut, topsOut, clausesOut, searchOut, checkOut, quotientOut, reduceOut, usesOut, chooseOut, scriptOut, recordsOut, fitOut};
 use choose::Which;
 use clauses::Listed;
 use fates::Recorded;
+use fitting::Fitting;
 use limits::Limits;
 use maps::Checked;
 use quotient::Written;
@@ -617,4 +619,25 @@ pub extern "C" fn basilvault_records(
         ≡ recordsOut (now (values .entry)) (recordsOf standard (now (table .entry)) (now (map .entry)) (now (out .entry))) ⌝ }
 {
     basilvault_records_within(limits::STATES, limits::SYMBOLS, table, map, out, values)
+}
+
+// Says whether the second table accepts every word of the first. One value: 1 yes, 0 no.
+#[no_mangle]
+pub extern "C" fn basilvault_fit(first: &[u8], second: &[u8], values: &mut [u64]) -> u32
+    ensures { λ r. ⌜
+        record { number = r; buffers = []; values = now (values .exit) }
+        ≡ fitOut (now (values .entry)) (fitOf (now (first .entry)) (now (second .entry))) ⌝ }
+{
+    let fitting = fit::fit(first, second);
+    match fitting {
+        Fitting::Yes => {
+            store(&[1u64], values);
+            0
+        }
+        Fitting::No => {
+            store(&[0u64], values);
+            0
+        }
+        Fitting::Refused(number) => number as u32,
+    }
 }

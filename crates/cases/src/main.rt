@@ -11,6 +11,7 @@
 //   6 quotient  the map's length, the output's length; the map; the table
 //   7 reduce    the budget, the lengths of the list, of the map buffer and of the output; the table
 //   9 records   the map's length, the output's length; the map; the table
+//   13 fit      the length of the first table; the first; the second
 //   8 script    the script's length; the script; the table
 //   10 uses     the map's length, the number of line bytes; the map; the lines; the table
 //   12 generate the seed, a word for its lower and one for its higher half; states, internals, calls, returns; the density, as the seed; the output's
@@ -20,6 +21,7 @@
 // A line is the operation's name, the refusal's number or 0, the answer's values and, each behind a bar, the buffers at exit, which are filled
 // with 7 beforehand. Choose prints which map it is, 1 or 2, or 0 with a refusal, and behind the bar the map that is handed back.
 ghost use mathlib.Core.Path.{_≡_};
+use fitting::Fitting;
 ghost use Prim.Native.Nat.{_≤_, _<_};
 ghost use lib.ListN.{length};
 use choose::Which;
@@ -513,6 +515,35 @@ fn say_records(limits: Limits, rest: &[u8]) -> bool {
     say_recorded(limits, &rest[end..], &rest[4..end], &mut out, length)
 }
 
+// Whether the second table accepts every word of the first.
+fn say_fitting(first: &[u8], second: &[u8]) -> bool {
+    let fitting = fit::fit(first, second);
+    match fitting {
+        Fitting::Yes => {
+            number(0);
+            number(1);
+        }
+        Fitting::No => {
+            number(0);
+            number(0);
+        }
+        Fitting::Refused(k) => {
+            number(k as u64);
+        }
+    }
+    say(b"\n")
+}
+
+// Compares the table at the beginning with the one behind it.
+fn say_fit(rest: &[u8]) -> bool {
+    say(b"fit");
+    let middle = 2 + word_at(rest, 0);
+    if rest.len() < middle {
+        return say(b" ?\n");
+    }
+    say_fitting(&rest[2..middle], &rest[middle..])
+}
+
 // One case by its operation's number.
 fn say_case(operation: u8, limits: Limits, rest: &[u8]) -> bool {
     match operation {
@@ -524,6 +555,7 @@ fn say_case(operation: u8, limits: Limits, rest: &[u8]) -> bool {
         6 => say_quotient(limits, rest),
         7 => say_reduce(limits, rest),
         9 => say_records(limits, rest),
+        13 => say_fit(rest),
         8 => say_script(limits, rest),
         10 => say_uses(limits, rest),
         12 => say_generate(limits, rest),

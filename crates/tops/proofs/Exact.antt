@@ -9,6 +9,7 @@ use native.Mathlib.Omega.{arith}
 use native.Mathlib.Nat.{le-refl}
 use native.Mathlib.Decide.{decLt}
 use lib.ListN.{length, getD, replicate, length-map, List·getD-map, length-replicate, length-append}
+use lib.Seq.{ext-getD}
 use lib.Dec.{eqb}
 use borrow.Author.Tests.{eqb-true, eqb-false, eq-eqb, ne-eqb}
 use Rattle.lists.specs.Lists.{keep, upto, same}
@@ -16,7 +17,7 @@ use Rattle.lists.specs.Bits.{Bit, has}
 use Rattle.lists.proofs.Bits.{some-bit, no-bit, bit-own, bit-pow, has-true, has-of}
 use Rattle.lists.proofs.Members.{upto-of, length-upto, same-true}
 use Rattle.lists.proofs.Counts.{keep-le, keep-less, grid, length-grid, grid-of}
-use Rattle.lists.proofs.Words.{new-bit, has-no, same-false, getD-padded, word-lt}
+use Rattle.lists.proofs.Words.{new-bit, has-no, same-false, getD-padded, bits-equal, word-lt}
 use Rattle.vpa.specs.Automata.{Tops, Top, bottom, along, pushed, popped}
 use Rattle.vpa.proofs.Tops.{tops-of, top-of, top-state, top-named}
 use Rattle.table.specs.File.{Table}
@@ -107,7 +108,7 @@ module _ {most : ℕ} {t : Table} (bounded : Bounded most t) where
   unfolding startWords isInitial
   start-at q = List·getD-map {B = ℕ} (λ byte. elim (isInitial byte) [ true ↦ 2 ^ most | false ↦ 0 ]) (t .states) q 0
 
-  start-sound : Sound (startWords most t)
+  pub start-sound : Sound (startWords most t)
   unfolding startWords isInitial
   start-sound = record { top = λ q x b. go q x (isInitial (byteOf t q)) refl (rw (start-at q) at b); wide = length-map (t .states) _ }
     where
@@ -230,6 +231,18 @@ module _ {most : ℕ} {t : Table} (bounded : Bounded most t) where
   rested =
       let e : length cells ≡ count t * suc (count t) = length-grid (upto (count t)) (most ∷ upto (count t)) ∙ ap (λ n. n * suc n) (length-upto (count t)) in
       settled _ _ start-sound (omega arith)
+
+  -- from any words that hold tops only, and those at the start, the rounds come to the same rest
+  pub rounds-alike : (f : List ℕ) → Sound f → Below (startWords most t) f → rounds (suc (count t * suc (count t))) t f ≡ rounded
+  unfolding cells
+  rounds-alike f s b =
+      let e : length cells ≡ count t * suc (count t) = length-grid (upto (count t)) (most ∷ upto (count t)) ∙ ap (λ n. n * suc n) (length-upto (count t)) in
+      let k = settled (suc (count t * suc (count t))) f s (omega arith) in
+      let g = rounds (suc (count t * suc (count t))) t f in
+      ext-getD 0 g rounded (k .sound .wide ∙ sym (rested .sound .wide))
+      (λ q l. bits-equal (getD g q 0) (getD rounded q 0)
+      (λ x h. rw (number-named most x) at (complete rounded (rested .sound) (rested .fixed) (rested .longer) (k .sound .top q x h)))
+      (λ x h. rw (number-named most x) at (complete g (k .sound) (k .fixed) (below-trans b (k .longer)) (rested .sound .top q x h))))
 
   words-at : (q : ℕ) → getD (topWordsAt most t) q 0 ≡ getD rounded q 0
   unfolding topWordsAt

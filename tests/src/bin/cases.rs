@@ -813,6 +813,63 @@ fn going(c: &mut Cases, r: &mut Random) {
     }
 }
 
+/// Comparisons: a table with itself and with its quotient, the sink that no return leaves, the refusals in their order, pseudo-random ones.
+fn fitting(c: &mut Cases, r: &mut Random) {
+    let b = t().bytes();
+    assert_eq!(c.fit(&b, &b), Ok(true));
+    assert_eq!(c.fit(&b, &named::T_REDUCED), Ok(true));
+    assert_eq!(c.fit(&named::T_REDUCED, &b), Ok(true));
+    // every word of T is one of the table that accepts everything balanced, and not the other way round
+    let all = Table { version: 1, symbols: vec![0, 1, 2], states: vec![3], internals: vec![[0, 0, 0]], calls: vec![[0, 1, 0]], returns: vec![[0, 2, 0, 0]] }.bytes();
+    assert_eq!(c.fit(&b, &all), Ok(true));
+    assert_eq!(c.fit(&all, &b), Ok(false));
+    // stuck inside a call, the second does not come back with the return
+    let mut stuck = reference::parse(STANDARD, &all).unwrap().0;
+    stuck.internals.clear();
+    assert_eq!(c.fit(&all, &stuck.bytes()), Ok(false));
+    assert_eq!(c.fit(&stuck.bytes(), &all), Ok(true));
+    let inside = Table { version: 1, symbols: vec![0, 1, 2], states: vec![3, 0], internals: vec![[1, 0, 1]], calls: vec![[0, 1, 1]], returns: vec![[1, 2, 0, 0]] };
+    let mut none = inside.clone();
+    none.internals.clear();
+    assert_eq!(c.fit(&inside.bytes(), &none.bytes()), Ok(false));
+    assert_eq!(c.fit(&none.bytes(), &inside.bytes()), Ok(true));
+    // an open call is no word
+    let mut open = t();
+    open.states[1] = 2;
+    assert_eq!(c.fit(&open.bytes(), &b), Ok(true));
+    // 37, 38: two initial states, two targets, a dead record among them
+    let mut other = t();
+    other.symbols.push(0);
+    assert_eq!(c.fit(&b, &other.bytes()), Err(37));
+    let mut swapped = t();
+    swapped.symbols = vec![0, 0, 2];
+    swapped.calls.clear();
+    assert_eq!(c.fit(&b, &swapped.bytes()), Err(37));
+    let mut two = t();
+    two.states[1] = 1;
+    assert_eq!(c.fit(&b, &two.bytes()), Err(38));
+    assert_eq!(c.fit(&two.bytes(), &b), Ok(true));
+    assert_eq!(c.fit(&b, &t_with_call([0, 1, 2]).bytes()), Err(38));
+    assert_eq!(c.fit(&t_with_call([0, 1, 2]).bytes(), &b), Ok(true));
+    let mut dead = t_with_return([2, 2, 0, 0]);
+    dead.returns.push([2, 2, 0, 1]);
+    assert_eq!(c.fit(&b, &dead.bytes()), Err(38));
+    for (f, k) in faults().iter().zip(1..) {
+        assert_eq!(c.fit(f, &dead.bytes()), Err(k));
+        assert_eq!(c.fit(f, &faults()[0]), Err(k));
+        assert_eq!(c.fit(&b, f), Err(k));
+    }
+    // always at 24 and 32
+    c.limits = LARGEST;
+    assert_eq!(c.fit(&bare(25, 1), &b), Err(4));
+    assert_eq!(c.fit(&b, &bare(3, 33)), Err(4));
+    c.limits = STANDARD;
+    for _ in 0..80 {
+        let (first, second) = random::two_tables(r, 4);
+        c.fit(&first.bytes(), &second.bytes()).ok();
+    }
+}
+
 /// Writes the cases and their lines.
 fn main() {
     let root = std::env::args().nth(1).expect("the repository's folder");
@@ -839,6 +896,7 @@ fn main() {
     using(&mut c, &mut r);
     choosing(&mut c, &mut r);
     marks(&mut c, &mut r);
+    fitting(&mut c, &mut r);
     going(&mut c, &mut r);
     scripts(&mut c, &mut r);
     generating(&mut c, &mut r);

@@ -1,0 +1,38 @@
+-- `fit::fit_second` meets its contract: the second table's refusal, or the answer for both. Assumes nothing.
+use borrow.Author.Needs.{needs}
+use mathlib.Core.Path.{sym, _∙_}
+use Rattle.table.proofs.Handed.{read-as, read-refused}
+use Rattle.fit.proofs.Answers.{second-refused}
+use Rattle.fit.proofs.fit_second.Statement.{statement}
+use Rattle.fit.proofs.fit_second.Tie as tie
+
+read-requires : tie.Need-read-requires
+read-requires c κs = search needs
+
+enum-known-reading : tie.Need-enum-known-reading
+enum-known-reading c = search needs
+
+fit-both-requires : tie.Need-fit-both-requires
+fit-both-requires c κs = record { first = c .before .before .before .before .before .before .pre; second = read-as _ _ _ (sym (c .before .before .before .read .ensures) ∙ c .before .reading .given .1) }
+
+enum-known-reading-2 : tie.Need-enum-known-reading-2
+enum-known-reading-2 c = search needs
+
+returns : tie.Need-returns
+returns c = search needs
+
+returns-2 : tie.Need-returns-2
+returns-2 c =
+    let n = read-refused _ _ _ (sym (c .before .before .before .read .ensures) ∙ c .before .reading2 .given .1) in
+    second-refused _ _ (c .before .before .before .before .before .before .pre .readable) (n .0) (n .1)
+
+pub fit-second-spec : {M : Type 1} → statement M
+fit-second-spec =
+    tie.close
+    (tie.spec
+    read-requires
+    enum-known-reading
+    fit-both-requires
+    enum-known-reading-2
+    returns
+    returns-2)

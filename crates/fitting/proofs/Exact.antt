@@ -1,0 +1,224 @@
+-- The answer is yes exactly when no word that ends on the empty stack is accepted by the first table and not by the second (request (xi)).
+-- Assumes nothing.
+use mathlib.Core.Path.{_≡_, refl, sym, ap, _∙_, subst}
+use mathlib.Core.Logic.{_↔_, _≢_}
+use mathlib.Core.Bool.{Bool, true, false, _&&_, not, true≢false}
+use mathlib.Core.List.{List, _∷_}
+use mathlib.Core.Option.{none}
+use Prim.Native.Nat.{ℕ, _/_, _%_, _<_}
+use native.Mathlib.Omega.{arith}
+use native.Mathlib.Decide.{ℕ-discrete}
+use lib.ListN.{getD}
+use lib.Dec.{eqb}
+use borrow.Author.Tests.{eqb-true, eqb-false, eq-eqb}
+use Rattle.lists.specs.Lists.{upto, firstFailed}
+use Rattle.lists.specs.Bits.{has}
+use Rattle.lists.proofs.Members.{and-true, and-of, any-true, any-false, upto-of, same-true, same-of}
+use Rattle.lists.proofs.Refusals.{passed, passes, no-test}
+use Rattle.vpa.specs.Automata.{Tops, Accepts}
+use Rattle.limits.specs.declared.Limits.{Limits}
+use Rattle.limits.specs.Limits.{standard}
+use Rattle.table.specs.File.{Table, tableOf}
+use Rattle.table.specs.Reading.{isAccepting, Readable, WellFormed}
+use Rattle.table.specs.Language.{count, byteOf, automaton, AcceptsWord}
+use Rattle.table.proofs.Facts.{internals-fit, calls-fit, returns-fit}
+use Rattle.table.proofs.Bytes.{read-well-formed}
+use Rattle.tops.specs.Tops.{topWordsAt}
+use Rattle.tops.proofs.Bounded.{lawful}
+use Rattle.tops.proofs.Formed.{bounded}
+use Rattle.tops.proofs.Exact.{bottom-has}
+use Rattle.fitting.specs.Fit.{firstOf, secondOf, pairCount, pairTable, ends, fits, noChoice, sameSymbols, fitNumber, fitOf, fittingNumber}
+use Rattle.fitting.specs.Demands.{WithoutChoice, Apart, YesExactly, NoApart}
+use Rattle.fitting.specs.declared.Fitting.{Fitting}
+use Rattle.fitting.specs.declared.Fitting.the-variants.{Yes, No, Refused}
+use Rattle.fitting.proofs.Pairing.{Within, Visibly, Paired, reached, within-exact}
+use Rattle.fitting.proofs.Tables.{pairs-bounded, sink-dead, pairs-accepting, pairs-paired}
+use Rattle.fitting.proofs.Choices.{choice-exact, deterministic}
+
+-- ---- what it says that nothing is refused
+
+pub record Permitted (b c : List ℕ) : Type 0 where
+  pub first : Readable standard b
+  pub second : Readable standard c
+  pub symbols : tableOf b .symbols ≡ tableOf c .symbols
+  pub single : noChoice (tableOf c) ≡ true
+
+number-passed : (k : ℕ) (ts : List (ℕ × Bool)) → firstFailed ((k, eqb k 0) ∷ ts) ≡ 0 → (k ≡ 0) × (firstFailed ts ≡ 0)
+unfolding firstFailed
+number-passed k ts e = go (eqb k 0) refl e
+  where
+    go : (t : Bool) → eqb k 0 ≡ t → _≡_ {A = ℕ} (elim t [ true ↦ firstFailed ts | false ↦ k ]) 0 → (k ≡ 0) × (firstFailed ts ≡ 0)
+    go true f g = (eqb-true _ _ f, g)
+    go false f g = absurd (eqb-false _ _ f g)
+
+module _ (b c : List ℕ) where
+  pub permitted : fitNumber b c ≡ 0 → Permitted b c
+  unfolding fitNumber sameSymbols
+  permitted e =
+      let p1 = number-passed _ _ e in
+      let p2 = number-passed _ _ (p1 .1) in
+      let p3 = passed 37 _ _ (λ z. absurd (omega arith)) (p2 .1) in
+      let p4 = passed 38 _ _ (λ z. absurd (omega arith)) (p3 .1) in
+      record { first = p1 .0; second = p2 .0; symbols = same-true _ _ (p3 .0); single = p4 .0 }
+
+  pub permits : Permitted b c → fitNumber b c ≡ 0
+  unfolding fitNumber sameSymbols
+  permits p = passes _ _ (eq-eqb _ _ (p .first)) ∙ passes _ _ (eq-eqb _ _ (p .second)) ∙ passes 37 _ (same-of (p .symbols)) ∙ passes 38 _ (p .single) ∙ no-test
+
+-- ---- two tables
+
+-- the kind of a symbol
+visibly : {L : Limits} {t : Table} → WellFormed L t → (symbols : List ℕ) → t .symbols ≡ symbols → Visibly (λ a. getD symbols a 0) (automaton t)
+visibly wf symbols e = record {
+  internals = λ {q} {q'} {a} m. subst (λ (y : List ℕ). getD y a 0 ≡ 0) e (internals-fit wf .symbol _ m .1);
+  calls = λ {q} {q'} {a} m. subst (λ (y : List ℕ). getD y a 0 ≡ 1) e (calls-fit wf .symbol _ m .1);
+  returns = λ {q} {s} {q'} {a} m. subst (λ (y : List ℕ). getD y a 0 ≡ 2) e (returns-fit wf .symbol _ m .1);
+}
+
+module _ {L : Limits} {s t : Table} (ws : WellFormed L s) (wt : WellFormed L t) (symbols : s .symbols ≡ t .symbols) (single : WithoutChoice t) where
+  abbrev pairs : Table
+  pairs = pairTable s t
+
+  abbrev n : ℕ
+  n = count t
+
+  paired : Paired (automaton s) (automaton t) (automaton pairs) (firstOf n) (secondOf n) n
+  paired = pairs-paired s t (bounded ws) (bounded wt) (single .initial) (single .initially)
+
+  -- every pair on the empty stack whose first accepts has a second that accepts
+  abbrev AllSafe : Type 0
+  AllSafe = (u : ℕ) → Tops (automaton pairs) u none → automaton s .accepting (firstOf n u) → automaton t .accepting (secondOf n u)
+
+  pub within-safe : Within (automaton s) (automaton t) ↔ AllSafe
+  within-safe = within-exact paired (visibly ws (t .symbols) symbols) (visibly wt (t .symbols) refl) (deterministic single) (sink-dead s t (bounded ws) (bounded wt))
+
+  -- bottom among the tops that are worked out
+  bottom-found : (u : ℕ) → (has (topWordsAt (pairCount s t) pairs) u (pairCount s t) ≡ true) ↔ Tops (automaton pairs) u none
+  bottom-found u = bottom-has (pairs-bounded s t (bounded ws) (bounded wt)) u
+
+  -- a word of the first that is none of the second
+  pub record Between : Type 0 where
+    pub word : List ℕ
+    pub accepted : Accepts (automaton s) word
+    pub missed : ¬ Accepts (automaton t) word
+
+  accepts-of : (u : ℕ) → isAccepting (byteOf pairs u) ≡ true → automaton s .accepting (firstOf n u) × ¬ automaton t .accepting (secondOf n u)
+  unfolding isAccepting
+  accepts-of u e = pairs-accepting s t (bounded ws) (bounded wt) u .0 (eqb-true _ _ e)
+
+  accepts-is : (u : ℕ) → automaton s .accepting (firstOf n u) → ¬ automaton t .accepting (secondOf n u) → (u < count pairs) × (isAccepting (byteOf pairs u) ≡ true)
+  unfolding isAccepting
+  accepts-is u h k =
+      let e = pairs-accepting s t (bounded ws) (bounded wt) u .1 (h, k) in
+      (lawful (pairs-bounded s t (bounded ws) (bounded wt)) .finally {q = u} e, eq-eqb _ _ e)
+
+  -- the bottom's number is not looked into
+  module _ (bottom : ℕ) (f : List ℕ) (exact : (u : ℕ) → (has f u bottom ≡ true) ↔ Tops (automaton pairs) u none) where
+    between : ends bottom pairs f ≡ true → Between
+    unfolding ends
+    between e =
+        let r = any-true (λ u. isAccepting (byteOf pairs u) && has f u bottom) (upto (count pairs)) e in
+        let k = and-true _ _ (r .2) in
+        let a = accepts-of (r .0) (k .0) in
+        let w = reached paired (visibly ws (t .symbols) symbols) (visibly wt (t .symbols) refl) (deterministic single) (r .0) (exact (r .0) .0 (k .1)) (a .0) in
+        record { word = w .0; accepted = w .1; missed = λ b. a .1 (w .2 b) }
+
+    safe : ends bottom pairs f ≡ false → AllSafe
+    unfolding ends
+    safe e u h k = go (ℕ-discrete (byteOf t (secondOf n u) / 2 % 2) 1)
+      where
+        go : Dec (byteOf t (secondOf n u) / 2 % 2 ≡ 1) → automaton t .accepting (secondOf n u)
+        go (yes a) = a
+        go (no a) =
+            let i = accepts-is u k a in
+            let x = any-false (λ u. isAccepting (byteOf pairs u) && has f u bottom) (upto (count pairs)) e u (upto-of (count pairs) u (i .0)) in
+            absurd (true≢false (sym (and-of (i .1) (exact u .1 h)) ∙ x))
+
+  pub fits-within : fits s t ≡ true → Within (automaton s) (automaton t)
+  unfolding fits
+  fits-within e = go (ends (pairCount s t) pairs (topWordsAt (pairCount s t) pairs)) refl e
+    where
+      go : (x : Bool) → ends (pairCount s t) pairs (topWordsAt (pairCount s t) pairs) ≡ x → not x ≡ true → Within (automaton s) (automaton t)
+      go true f g = absurd (true≢false (sym g))
+      go false f g = within-safe .1 (safe (pairCount s t) (topWordsAt (pairCount s t) pairs) bottom-found f)
+
+  pub differs-between : fits s t ≡ false → Between
+  unfolding fits
+  differs-between e = go (ends (pairCount s t) pairs (topWordsAt (pairCount s t) pairs)) refl e
+    where
+      go : (x : Bool) → ends (pairCount s t) pairs (topWordsAt (pairCount s t) pairs) ≡ x → not x ≡ false → Between
+      go true f g = between (pairCount s t) (topWordsAt (pairCount s t) pairs) bottom-found f
+      go false f g = absurd (true≢false g)
+
+  pub within-fits : Within (automaton s) (automaton t) → fits s t ≡ true
+  within-fits h = go (fits s t) refl
+    where
+      go : (x : Bool) → fits s t ≡ x → x ≡ true
+      go true e = refl
+      go false e = let k = differs-between e in absurd (k .missed (h (k .word) (k .accepted)))
+
+-- ---- the operation
+
+module _ (b c : List ℕ) where
+  -- both answers, of tables that are permitted
+  module _ (p : Permitted b c) where
+    single-of : WithoutChoice (tableOf c)
+    single-of = choice-exact (read-well-formed standard c (p .second)) .0 (p .single)
+
+    yes-within : fits (tableOf b) (tableOf c) ≡ true → (w : List ℕ) → AcceptsWord b w → AcceptsWord c w
+    yes-within = fits-within (read-well-formed standard b (p .first)) (read-well-formed standard c (p .second)) (p .symbols) single-of
+
+    no-apart : fits (tableOf b) (tableOf c) ≡ false → Apart b c
+    no-apart e =
+        let k = differs-between (read-well-formed standard b (p .first)) (read-well-formed standard c (p .second)) (p .symbols) single-of e in
+        record { word = k .word; accepted = k .accepted; missed = k .missed }
+
+  -- the answer by its test, and the number of an answer
+  abbrev told : Bool → Fitting
+  told x = elim x [ true ↦ Yes | false ↦ No ]
+
+  -- what an answer is worth
+  abbrev Worth : Fitting → Type 0
+  Worth r = YesExactly b c r × NoApart b c r
+
+  worth : Permitted b c → (x : Bool) → fits (tableOf b) (tableOf c) ≡ x → Worth (told x)
+  worth p true e = (
+    record { exactly = λ z. (λ y a. a .missed (yes-within p e (a .word) (a .accepted)), λ n. refl); every = λ y. yes-within p e },
+    λ y. let z : _≡_ {A = ℕ} 0 1 = cc in absurd (omega arith),
+  )
+  worth p false e = (
+    record { exactly = λ z. (λ y. let z : _≡_ {A = ℕ} 0 1 = cc in absurd (omega arith), λ n. absurd (n (no-apart p e))); every = λ y. let z : _≡_ {A = ℕ} 0 1 = cc in absurd (omega arith) },
+    λ y. no-apart p e,
+  )
+
+  pub fit-worth : Worth (fitOf b c)
+  unfolding fitOf fittingNumber
+  fit-worth = go (eqb (fitNumber b c) 0) refl
+    where
+      go : (x : Bool) → eqb (fitNumber b c) 0 ≡ x → Worth (elim x as (λ _. Fitting) [ true ↦ told (fits (tableOf b) (tableOf c)) | false ↦ Refused (fitNumber b c) ])
+      go true e = worth (permitted b c (eqb-true _ _ e)) (fits (tableOf b) (tableOf c)) refl
+      go false e = (
+        record { exactly = λ z. absurd (eqb-false _ _ e z); every = λ y. let z : _≡_ {A = ℕ} 0 1 = cc in absurd (omega arith) },
+        λ y. let z : _≡_ {A = ℕ} 0 1 = cc in absurd (omega arith),
+      )
+
+  -- an answer that is no refusal is given to tables that are permitted, and only to them
+  pub number-of : fittingNumber (fitOf b c) ≡ fitNumber b c
+  unfolding fitOf fittingNumber
+  number-of = go (eqb (fitNumber b c) 0) refl
+    where
+      asked : (x : Bool) → fittingNumber (told x) ≡ 0
+      asked true = refl
+      asked false = refl
+
+      go : (x : Bool) → eqb (fitNumber b c) 0 ≡ x → fittingNumber (elim x as (λ _. Fitting) [ true ↦ told (fits (tableOf b) (tableOf c)) | false ↦ Refused (fitNumber b c) ]) ≡ fitNumber b c
+      go true e = asked (fits (tableOf b) (tableOf c)) ∙ sym (eqb-true _ _ e)
+      go false e = refl
+
+  -- "does the second accept every word of the first?"
+  pub fit-yes : fittingNumber (fitOf b c) ≡ 0 → ((w : List ℕ) → AcceptsWord b w → AcceptsWord c w) → fitOf b c ≡ Yes
+  fit-yes z h = fit-worth .0 .exactly z .1 (λ a. a .missed (h (a .word) (a .accepted)))
+
+  pub yes-permitted : fitOf b c ≡ Yes → Permitted b c
+  unfolding fittingNumber
+  yes-permitted e = permitted b c (sym number-of ∙ ap fittingNumber e)
