@@ -65,6 +65,12 @@ uint32_t basilvault_records(const uint8_t *table, size_t table_len, const uint8_
 /* One value: 1 where the second table accepts every word of the first, 0 where it does not. Both are read at 24 states and 32 symbols. */
 uint32_t basilvault_fit(const uint8_t *first, size_t first_len, const uint8_t *second, size_t second_len, uint64_t *values, size_t values_len);
 
+/* 64 values: for each of 8 tables its refusal's number or 0, classes, guesses, clause words, quotient length, joined pairs, their ceiling, and 1 where
+ * its guesses were spent, else 0; zeros past the count. The tables stand back to back and `lengths` has `count` lengths, 1 to 8, that add up to
+ * `tables_len`. Maps and reduced tables are written back to back; a refused table writes none, and the rest go on. */
+uint32_t basilvault_season(const uint8_t *tables, size_t tables_len, const uint64_t *lengths, size_t count, uint64_t guesses, uint16_t *list,
+                           size_t list_len, uint8_t *maps, size_t maps_len, uint8_t *out, size_t out_len, uint64_t *values, size_t values_len);
+
 /* The same at limits. */
 uint32_t basilvault_read_within(size_t states, size_t symbols, const uint8_t *table, size_t table_len, uint64_t *values, size_t values_len);
 uint32_t basilvault_tops_within(size_t states, size_t symbols, const uint8_t *table, size_t table_len, uint64_t *values, size_t values_len);
@@ -88,6 +94,9 @@ uint32_t basilvault_script_within(size_t states, size_t symbols, const uint8_t *
                                   size_t script_len, uint64_t *values, size_t values_len);
 uint32_t basilvault_generate_within(size_t state_limit, size_t symbol_limit, uint32_t seed, size_t states, size_t internals, size_t calls,
                                     size_t returns, uint32_t density, uint8_t *out, size_t out_len, uint64_t *values, size_t values_len);
+uint32_t basilvault_season_within(size_t states, size_t symbols, const uint8_t *tables, size_t tables_len, const uint64_t *lengths,
+                                  size_t count, uint64_t guesses, uint16_t *list, size_t list_len, uint8_t *maps, size_t maps_len, uint8_t *out,
+                                  size_t out_len, uint64_t *values, size_t values_len);
 
 #ifdef __cplusplus
 }

@@ -62,6 +62,38 @@ extern "C" {
         values: *mut u64,
         k: usize,
     ) -> u32;
+    fn basilvault_season(
+        tables: *const u8,
+        n: usize,
+        lengths: *const u64,
+        c: usize,
+        guesses: u64,
+        list: *mut u16,
+        l: usize,
+        maps: *mut u8,
+        m: usize,
+        out: *mut u8,
+        o: usize,
+        values: *mut u64,
+        k: usize,
+    ) -> u32;
+    fn basilvault_season_within(
+        states: usize,
+        symbols: usize,
+        tables: *const u8,
+        n: usize,
+        lengths: *const u64,
+        c: usize,
+        guesses: u64,
+        list: *mut u16,
+        l: usize,
+        maps: *mut u8,
+        m: usize,
+        out: *mut u8,
+        o: usize,
+        values: *mut u64,
+        k: usize,
+    ) -> u32;
     fn basilvault_uses(table: *const u8, n: usize, map: *const u8, m: usize, lines: *const u8, l: usize, values: *mut u64, k: usize) -> u32;
     fn basilvault_uses_within(states: usize, symbols: usize, table: *const u8, n: usize, map: *const u8, m: usize, lines: *const u8, l: usize, values: *mut u64, k: usize) -> u32;
     fn basilvault_records(table: *const u8, n: usize, map: *const u8, m: usize, out: *mut u8, o: usize, values: *mut u64, k: usize) -> u32;
@@ -182,6 +214,29 @@ pub fn fit(first: &[u8], second: &[u8]) -> Result<[u64; 1], u8> {
     answer(k, v)
 }
 
+/// For each of eight tables: number, classes, guesses, words, length, joined, ceiling, spent.
+pub fn season(tables: &[u8], lengths: &[u64], guesses: u64, list: &mut [u16], maps: &mut [u8], out: &mut [u8]) -> Result<[u64; 64], u8> {
+    let mut v = [0u64; 64];
+    let k = unsafe {
+        basilvault_season(
+            tables.as_ptr(),
+            tables.len(),
+            lengths.as_ptr(),
+            lengths.len(),
+            guesses,
+            list.as_mut_ptr(),
+            list.len(),
+            maps.as_mut_ptr(),
+            maps.len(),
+            out.as_mut_ptr(),
+            out.len(),
+            v.as_mut_ptr(),
+            v.len(),
+        )
+    };
+    answer(k, v)
+}
+
 /// The same operations at given limits.
 #[allow(dead_code)]
 pub mod within {
@@ -281,4 +336,28 @@ pub mod within {
         answer(k, v)
     }
 
+    /// For each of eight tables: number, classes, guesses, words, length, joined, ceiling, spent.
+    pub fn season(l: Limits, tables: &[u8], lengths: &[u64], guesses: u64, list: &mut [u16], maps: &mut [u8], out: &mut [u8]) -> Result<[u64; 64], u8> {
+        let mut v = [0u64; 64];
+        let k = unsafe {
+            super::basilvault_season_within(
+                l.states,
+                l.symbols,
+                tables.as_ptr(),
+                tables.len(),
+                lengths.as_ptr(),
+                lengths.len(),
+                guesses,
+                list.as_mut_ptr(),
+                list.len(),
+                maps.as_mut_ptr(),
+                maps.len(),
+                out.as_mut_ptr(),
+                out.len(),
+                v.as_mut_ptr(),
+                v.len(),
+            )
+        };
+        answer(k, v)
+    }
 }

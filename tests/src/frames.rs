@@ -201,6 +201,21 @@ impl Cases {
         answer
     }
 
+    /// The answers of the tables, and every buffer.
+    pub fn season(&mut self, tables: &[u8], lengths: &[u64], guesses: u64, room: Room) -> Result<reference::Season, u8> {
+        let long: Vec<u8> = lengths.iter().flat_map(|x| x.to_le_bytes()).collect();
+        self.frame(11, &[&words(&[guesses as usize, lengths.len()]), &long, &words(&[room.list, room.map, room.out]), tables]);
+        let (mut list, mut maps, mut out) = (vec![FILL as u16; room.list], vec![FILL; room.map], vec![FILL; room.out]);
+        let answer = reference::season(self.limits, tables, lengths, guesses, &mut list, &mut maps, &mut out);
+        assert!(answer.is_ok() || maps.iter().chain(&out).all(|&x| x == FILL) && list.iter().all(|&x| x == FILL as u16), "buffers keep their content");
+        self.line("season", answer.map(|x| x.concat()));
+        self.buffer(&longs(&list));
+        self.buffer(&longs(&maps));
+        self.buffer(&longs(&out));
+        self.end();
+        answer
+    }
+
     /// The written bytes.
     pub fn quotient(&mut self, b: &[u8], map: &[u8], room: usize) -> Result<Vec<u8>, u8> {
         self.frame(6, &[&words(&[map.len(), room]), map, b]);

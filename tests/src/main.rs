@@ -20,7 +20,7 @@ impl Counts {
 }
 
 /// The numbers that each operation can give, 0 for none: a run of many cases must have met each of them.
-const NUMBERS: [(&str, &[u8]); 26] = [
+const NUMBERS: [(&str, &[u8]); 29] = [
     ("read", &[0, 39, 1, 2, 3, 4, 5, 6, 7, 8]),
     ("tops", &[0, 39, 2, 3, 5, 7, 8]),
     ("clauses", &[0, 39, 3, 5, 7, 8, 10]),
@@ -42,6 +42,9 @@ const NUMBERS: [(&str, &[u8]); 26] = [
     ("script: yes", &[0]),
     ("script, on table and reduced table", &[0, 30, 31]),
     ("generate", &[0, 39, 35, 36, 21]),
+    ("season", &[0, 39, 34]),
+    ("season, a table", &[0, 3, 7, 8, 10, 21, 22]),
+    ("season, a table spent", &[0]),
     ("reduce, spent", &[0]),
     ("reduce, spent with pairs joined", &[0]),
     ("words of input and quotient", &[0]),
@@ -228,6 +231,23 @@ fn compare_fit(r: &mut Random, c: &mut Counts) {
             let word: Vec<u8> = (0..n).filter(|_| !s.symbols.is_empty()).map(|_| r.below(s.symbols.len()) as u8).collect();
             assert!(yes == 0 || !reference::accepts(&s, &word) || reference::accepts(&t, &word), "{word:?} of {s:?} is none of {t:?}");
         }
+    }
+}
+
+fn compare_season(r: &mut Random, l: Limits, c: &mut Counts) {
+    let (tables, lengths) = random::season(r, 6);
+    let guesses = if r.chance(70) { r.below(20) as u64 } else { u64::MAX };
+    let mut list = vec![0xabcdu16; around(r, 400)];
+    let mut maps = vec![0x66u8; around(r, 25)];
+    let mut out = vec![0x44u8; around(r, tables.len())];
+    let (mut list2, mut maps2, mut out2) = (list.clone(), maps.clone(), out.clone());
+    let a = if l == STANDARD { capi::season(&tables, &lengths, guesses, &mut list, &mut maps, &mut out) } else { capi::within::season(l, &tables, &lengths, guesses, &mut list, &mut maps, &mut out) };
+    let e = reference::season(l, &tables, &lengths, guesses, &mut list2, &mut maps2, &mut out2);
+    let flat = e.map(|x| x.concat());
+    same("season", &tables, (a.map(|x| x.to_vec()), list, maps, out), (flat, list2, maps2, out2));
+    c.add("season", e);
+    for answer in e.into_iter().flatten().take(lengths.len()) {
+        c.add(if answer[7] == 1 { "season, a table spent" } else { "season, a table" }, if answer[0] == 0 { Ok(()) } else { Err(answer[0] as u8) });
     }
 }
 
@@ -533,6 +553,7 @@ fn main() {
             }
             3 => {
                 let m = any_map(&mut r, l, &t, &valid);
+                compare_season(&mut r, l, &mut c);
                 compare_map(&mut r, l, &b, &m, &mut c);
                 let lines = random::lines(&mut r, t.count());
                 compare_uses(&mut r, l, &b, &m, &lines, &mut c);

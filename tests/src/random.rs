@@ -343,3 +343,19 @@ pub fn load(r: &mut Random, l: Limits) -> Load {
     Load { seed: r.next() as u32, states, internals: counts[0], calls: counts[1], returns: counts[2], density }
 }
 
+/// Up to eight tables back to back with their lengths, some damaged; now and then lengths that do not add up.
+pub fn season(r: &mut Random, most: usize) -> (Vec<u8>, Vec<u64>) {
+    let (mut tables, mut lengths) = (Vec::new(), Vec::new());
+    let most_tables = if r.chance(95) { 8 } else { 9 };
+    for _ in 0..1 + r.below(most_tables) {
+        let valid = any_table(r, most).bytes();
+        let b = if r.chance(20) { damaged(r, &valid) } else { valid };
+        lengths.push(b.len() as u64);
+        tables.extend(b);
+    }
+    if r.chance(5) {
+        let i = r.below(lengths.len());
+        lengths[i] = [lengths[i] + 1, lengths[i].wrapping_sub(1), u64::MAX, u64::MAX / 2][r.below(4)];
+    }
+    (tables, lengths)
+}

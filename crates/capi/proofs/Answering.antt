@@ -15,6 +15,8 @@ use Rattle.choose.specs.declared.Which.the-variants.{Neither, First, Second}
 use Rattle.choose.specs.declared.Choice.{Choice}
 use Rattle.choose.specs.Choose.{choiceValues}
 use Rattle.choose.specs.Demands.{NumberTells}
+use Rattle.seasons.specs.declared.Season.{Season}
+use Rattle.seasons.specs.Seasons.{seasonValues}
 use Rattle.lists.proofs.Copying.{Writing, write-all}
 use Rattle.capi.specs.Answers.{stored, out}
 
@@ -79,3 +81,11 @@ module _ (r : Choice) (t : NumberTells r) where
   pub second-chosen : r .which ≡ Second → (r .number ≡ 0) × (choiceValues r ≡ 2 ∷ [])
   unfolding choiceValues
   second-chosen e = (t .1 (λ f. let z : _≡_ {A = ℕ} 0 1 = cc in omega arith), rw (e, choiceValues))
+
+pub season-reduced : (r : Season) → r .number ≡ 0 → seasonValues r ≡ r .values
+unfolding seasonValues
+season-reduced r e = rw (e, seasonValues)
+
+pub season-refused : (r : Season) → r .number ≢ 0 → seasonValues r ≡ []
+unfolding seasonValues
+season-refused r h = rw (ne-eqb (r .number) 0 h, seasonValues)

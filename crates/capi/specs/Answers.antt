@@ -19,6 +19,7 @@ use Rattle.uses.specs.declared.Counted.{Counted}
 use Rattle.uses.specs.Uses.{countedValues}
 use Rattle.choose.specs.declared.Choice.{Choice}
 use Rattle.choose.specs.Choose.{choiceValues}
+use Rattle.seasons.specs.Seasons.{SeasonDone, seasonValues}
 use Rattle.fitting.specs.declared.Fitting.{Fitting}
 use Rattle.fitting.specs.Fit.{fittingNumber, fittingValues}
 use Rattle.fates.specs.Fates.{RecordsDone, recordedNumber, recordedValues}
@@ -61,6 +62,9 @@ module _ (values : List ℕ) where
 
   unfoldable pub reduceOut : Reduced → Out
   reduceOut r = out values (reductionNumber (r .answer)) (reductionValues (r .answer)) (r .list ∷ r .map ∷ r .out ∷ [])
+
+  unfoldable pub seasonOut : SeasonDone → Out
+  seasonOut r = out values (r .answer .number) (seasonValues (r .answer)) (r .list ∷ r .maps ∷ r .out ∷ [])
 
   unfoldable pub usesOut : Counted → Out
   usesOut r = out values (r .number) (countedValues r) []

@@ -17,7 +17,8 @@ ghost use Rattle.loads.specs.Loads.{loadOf, generateOf};
 ghost use Rattle.scripts.specs.Script.{yesValue, scriptOf};
 ghost use Rattle.fates.specs.Fates.{recordsOf};
 ghost use Rattle.fitting.specs.Fit.{fitOf};
-ghost use Rattle.capi.specs.Answers.{stored, readOut, topsOut, clausesOut, searchOut, checkOut, quotientOut, reduceOut, usesOut, chooseOut, scriptOut, recordsOut, fitOut};
+ghost use Rattle.seasons.specs.Seasons.{seasonOf};
+ghost use Rattle.capi.specs.Answers.{stored, readOut, topsOut, clausesOut, searchOut, checkOut, quotientOut, reduceOut, usesOut, chooseOut, scriptOut, recordsOut, fitOut, seasonOut};
 use choose::Which;
 use clauses::Listed;
 use fates::Recorded;
@@ -640,4 +641,63 @@ pub extern "C" fn basilvault_fit(first: &[u8], second: &[u8], values: &mut [u64]
         }
         Fitting::Refused(number) => number as u32,
     }
+}
+
+// Reduces up to 8 tables back to back with shared guesses. 64 values: for each of 8 tables its refusal's number or 0, classes, guesses, words,
+// length, joined pairs, their ceiling, and 1 where its guesses were spent.
+#[no_mangle]
+pub extern "C" fn basilvault_season_within(
+    states: usize,
+    symbols: usize,
+    tables: &[u8],
+    lengths: &[u64],
+    guesses: u64,
+    list: &mut [u16],
+    maps: &mut [u8],
+    out: &mut [u8],
+    values: &mut [u64],
+) -> u32
+    ensures { λ r. ⌜
+        record { number = r; buffers = now (list .exit) ∷ now (maps .exit) ∷ now (out .exit) ∷ []; values = now (values .exit) }
+        ≡ seasonOut (now (values .entry))
+        (seasonOf (record { states = states; symbols = symbols }) (now (tables .entry)) (now (lengths .entry)) guesses (now (list .entry)) (now (maps .entry)) (now (out .entry))) ⌝ }
+{
+    let limits = Limits { states, symbols };
+    let answer = season::season_within(limits, tables, lengths, guesses, list, maps, out);
+    let number = answer.number;
+    if number != 0 {
+        return number as u32;
+    }
+    let rows = answer.values;
+    store(&rows, values);
+    0
+}
+
+// The same at the limits of a caller that gives none.
+#[no_mangle]
+pub extern "C" fn basilvault_season(
+    tables: &[u8],
+    lengths: &[u64],
+    guesses: u64,
+    list: &mut [u16],
+    maps: &mut [u8],
+    out: &mut [u8],
+    values: &mut [u64],
+) -> u32
+    ensures { λ r. ⌜
+        record { number = r; buffers = now (list .exit) ∷ now (maps .exit) ∷ now (out .exit) ∷ []; values = now (values .exit) }
+        ≡ seasonOut (now (values .entry))
+        (seasonOf standard (now (tables .entry)) (now (lengths .entry)) guesses (now (list .entry)) (now (maps .entry)) (now (out .entry))) ⌝ }
+{
+    basilvault_season_within(
+        limits::STATES,
+        limits::SYMBOLS,
+        tables,
+        lengths,
+        guesses,
+        list,
+        maps,
+        out,
+        values,
+    )
 }

@@ -14,6 +14,8 @@
 //   13 fit      the length of the first table; the first; the second
 //   8 script    the script's length; the script; the table
 //   10 uses     the map's length, the number of line bytes; the map; the lines; the table
+//   11 season   the guesses, the number of tables; the tables' lengths, 64 bits each; the lengths of the list, of the maps and of the output; the
+//               tables
 //   12 generate the seed, a word for its lower and one for its higher half; states, internals, calls, returns; the density, as the seed; the output's
 //               length
 //   14 choose   the lengths of the first and of the second map; the first; the second; the table
@@ -389,6 +391,118 @@ fn say_uses(limits: Limits, rest: &[u8]) -> bool {
     say_counted(limits, &rest[end..], &rest[4..middle], &rest[middle..end])
 }
 
+// The 64-bit number at a place.
+fn long_at(bytes: &[u8], at: usize) -> u64
+    requires { ⌜ at < 256 ⌝ }
+{
+    let low = word_at(bytes, at) as u64 + 65536 * word_at(bytes, at + 2) as u64;
+    let high = word_at(bytes, at + 4) as u64 + 65536 * word_at(bytes, at + 6) as u64;
+    low + 4294967296 * high
+}
+
+// The lengths of 16 tables, behind two words.
+fn lengths_from(bytes: &[u8]) -> [u64; 16] {
+    let mut lengths = [0u64; 16];
+    let mut i: usize = 0;
+    'lengths: while i < 16 {
+        lengths[i] = long_at(bytes, 4 + 8 * i);
+        i += 1;
+    }
+    lengths
+}
+
+// The numbers of eight tables.
+fn say_rows(values: [u64; 64]) {
+    let mut i: usize = 0;
+    'numbers: while i < 64 {
+        number(values[i]);
+        i += 1;
+    }
+}
+
+// Reduces the tables of a season with buffers that exist, and prints the clause list, the maps and the output.
+fn say_seasoned(
+    limits: Limits,
+    tables: &[u8],
+    lengths: &[u64],
+    guesses: u64,
+    list: &mut [u16],
+    maps: &mut [u8],
+    out: &mut [u8],
+) -> bool {
+    let answer = season::season_within(limits, tables, lengths, guesses, list, maps, out);
+    number(answer.number as u64);
+    if answer.number == 0 {
+        let values = answer.values;
+        say_rows(values);
+    }
+    say_words(list);
+    say_bytes(maps);
+    say_bytes(out);
+    say(b"\n")
+}
+
+// Reduces the tables behind three lengths at a place, with the first parts of the buffers, of these lengths.
+fn say_parts(
+    limits: Limits,
+    rest: &[u8],
+    at: usize,
+    lengths: &[u64],
+    list: &mut [u16],
+    maps: &mut [u8],
+    out: &mut [u8],
+) -> bool
+    requires { ⌜ at < 256 ⌝ }
+{
+    let words = word_at(rest, at);
+    let states = word_at(rest, at + 2);
+    let length = word_at(rest, at + 4);
+    let end = at + 6;
+    if rest.len() < end {
+        return say(b" ?\n");
+    }
+    if list.len() < words {
+        return say(b" ?\n");
+    }
+    if maps.len() < states {
+        return say(b" ?\n");
+    }
+    if out.len() < length {
+        return say(b" ?\n");
+    }
+    say_seasoned(
+        limits,
+        &rest[end..],
+        lengths,
+        word_at(rest, 0) as u64,
+        &mut list[..words],
+        &mut maps[..states],
+        &mut out[..length],
+    )
+}
+
+// A season, with buffers for it.
+fn say_season(limits: Limits, rest: &[u8]) -> bool {
+    say(b"season");
+    let count = word_at(rest, 2);
+    if 16 < count {
+        return say(b" ?\n");
+    }
+    let lengths = lengths_from(rest);
+    let mut list = [7u16; 4096];
+    let mut maps = [7u8; 256];
+    let mut out = [7u8; 4096];
+    say_parts(
+        limits,
+        rest,
+        4 + 8 * count,
+        &lengths[..count],
+        &mut list,
+        &mut maps,
+        &mut out,
+    )
+}
+
 // Writes the table of a load into the first bytes of a buffer; its numbers stand behind each other, 16 bits each.
 fn say_generated(limits: Limits, rest: &[u8], space: &mut [u8], length: usize) -> bool {
     if space.len() < length {
@@ -558,6 +672,7 @@ fn say_case(operation: u8, limits: Limits, rest: &[u8]) -> bool {
         13 => say_fit(rest),
         8 => say_script(limits, rest),
         10 => say_uses(limits, rest),
+        11 => say_season(limits, rest),
         12 => say_generate(limits, rest),
         14 => say_choose(limits, rest),
         _ => say(b"?\n"),

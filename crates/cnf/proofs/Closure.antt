@@ -107,7 +107,7 @@ module _ (cs : List (List ℕ)) (n b : ℕ) (formed : Formed cs n) where
       go v u gs m z s (forcing l) f g h ih = ih v (set u (l / 2) (1 - l % 2)) gs m z (more l s f) g h
       go v u gs m z s quiet f g h ih = turn (rests u) z (units-rest cs n v u z s f) (after-turn k ih (decide b (stateOf u gs m) (lowestUnset u 0)) g h)
 
-  leads-search : LeadsTo cs n b (atStart n) (searchFrom cs n b)
+  pub leads-search : LeadsTo cs n b (atStart n) (searchFrom cs n b)
   unfolding searchFrom Leads
   leads-search =
       let z = start-sound cs n b formed in

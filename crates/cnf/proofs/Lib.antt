@@ -11,3 +11,4 @@ pub mod Theorems
 pub mod Trying
 pub mod Trials
 pub mod Queue
+pub mod Budgets

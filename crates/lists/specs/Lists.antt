@@ -1,7 +1,7 @@
 -- Walks over lists that the definitions of the other crates are written with, and how a call is refused. Assumes nothing.
 use mathlib.Core.Bool.{Bool, true, false, _&&_, _||_}
 use mathlib.Core.List.{List, [], _∷_, _++_}
-use Prim.Native.Nat.{ℕ, zero, suc}
+use Prim.Native.Nat.{ℕ, zero, suc, _+_}
 use lib.ListN.{length, take, drop}
 use lib.Dec.{eqb}
 
@@ -51,6 +51,11 @@ parts (suc k) w xs = take w xs ∷ parts k w (drop w xs)
 unfoldable pub flat : List (List ℕ) → List ℕ
 flat [] = []
 flat (x ∷ xs) = x ++ flat xs
+
+-- numbers added up
+unfoldable pub sum : List ℕ → ℕ
+sum [] = 0
+sum (x ∷ xs) = x + sum xs
 
 -- a buffer whose first elements are xs and whose later elements are as they were
 unfoldable pub over : List ℕ → List ℕ → List ℕ

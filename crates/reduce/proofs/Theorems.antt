@@ -29,7 +29,7 @@ use Rattle.scripts.specs.Demands.{SameScripts}
 use Rattle.quotient.specs.Demands.{IsQuotient, ShowsSteps}
 use Rattle.quotient.proofs.Theorems.{is-quotient, keeps-words, keeps-marks, open-neither, keeps-steps, keeps-scripts}
 use Rattle.reduce.specs.Reduce.{Reduced, searchOfTable, joinedPairs, reduceOf, reductionNumber}
-use Rattle.reduce.specs.Demands.{OnDelivery, KeepsWords, DeliversQuotient, DeliversChecked, DeliversMaximal, FewGuesses, DeliversCeiling, SameSearch, SpentSaid, DeliversNoneOpen, DeliversSteps, KeepsMarks, KeepsScripts, mapWritten}
+use Rattle.reduce.specs.Demands.{OnDelivery, KeepsWords, DeliversQuotient, DeliversChecked, DeliversMaximal, FewGuesses, DeliversCeiling, SameSearch, SpentSaid, DeliversNoneOpen, DeliversSteps, KeepsMarks, KeepsScripts, Promises, mapWritten}
 use Rattle.reduce.specs.declared.Reduction.{Reduction}
 use Rattle.reduce.specs.declared.Reduction.the-variants.{Delivered}
 use Rattle.reduce.proofs.Ways.{FirstNumber, of-limits, of-reading, map-short, list-long, first-number, list-formed, Held, Ways, refused-first, refused-short, delivers, reduce-ways}
@@ -171,6 +171,23 @@ module _ (L : Limits) (b : List ℕ) (budget : ℕ) (list map out : List ℕ) wh
   -- request (i): one answer to every script, number included
   pub delivers-scripts : KeepsScripts L (reduceOf L b budget list map out .answer) b (reduceOf L b budget list map out .out)
   delivers-scripts = delivered-ways (λ m c. SameScripts L b c) (keeps-scripts L b) (reduce-ways L b budget list map out)
+
+  -- all that is promised
+  pub promises : Promises L b budget (reduceOf L b budget list map out .answer) (reduceOf L b budget list map out .map) (reduceOf L b budget list map out .out)
+  promises = record {
+    words = delivers-words;
+    exact = delivers-quotient;
+    checked = delivers-checked;
+    maximal = delivers-maximal;
+    few = few-guesses;
+    ceiling = delivers-ceiling;
+    same = same-search;
+    spent = spent-said;
+    none-open = delivers-none-open;
+    steps = delivers-steps;
+    marks = delivers-marks;
+    scripts = delivers-scripts;
+  }
 
   -- the numbers that reduce refuses by: 39, "1 to 8; 22 ..; 10; .. 21". None other comes out, 12, 13 and those of the check among them
   pub data Number (k : ℕ) : Type 0 where

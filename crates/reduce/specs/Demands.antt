@@ -82,3 +82,18 @@ SameSearch r b budget = OnBest r (λ g j u s. (g ≡ madeOf (searchOfTable b bud
 -- "A spent delivery says so": it made all guesses of the budget, and that search ends by (d), with a variable unset
 abbrev pub SpentSaid : Reduction → List ℕ → ℕ → Type 0
 SpentSaid r b budget = OnBest r (λ g j u s. s ≡ true → (g ≡ budget) × (searchOfTable b budget ≡ spent budget))
+
+-- all of it, of one reduction
+pub record Promises (L : Limits) (b : List ℕ) (budget : ℕ) (r : Reduction) (map out : List ℕ) : Type 0 where
+  pub words : KeepsWords r b out
+  pub exact : DeliversQuotient L r b map out
+  pub checked : DeliversChecked L r b map
+  pub maximal : DeliversMaximal r b map
+  pub few : FewGuesses r b
+  pub ceiling : DeliversCeiling r b map
+  pub same : SameSearch r b budget
+  pub spent : SpentSaid r b budget
+  pub none-open : DeliversNoneOpen r b out
+  pub steps : DeliversSteps r b map out
+  pub marks : KeepsMarks r b out
+  pub scripts : KeepsScripts L r b out

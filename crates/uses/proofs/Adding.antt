@@ -8,13 +8,13 @@ use lib.ListN.{length, getD, set, take, drop, replicate, length-set, length-map}
 use lib.Seq.{ext-getD, getD-set-same, getD-set-other}
 use lib.Dec.{eqb, ltb}
 use borrow.Author.Tests.{eqb-true, eqb-false}
-use Rattle.lists.specs.Lists.{all, keep, upto}
+use Rattle.lists.specs.Lists.{all, keep, upto, sum}
 use Rattle.lists.proofs.Members.{getD-map, getD-upto, length-upto, zeros}
 use Rattle.limits.specs.Limits.{stateMost}
 use Rattle.table.specs.File.{records}
 use Rattle.table.specs.Maps.{classOf}
 use Rattle.table.proofs.Walks.{record-on, records-end}
-use Rattle.uses.specs.Uses.{Line, lineOf, linesOf, sum, usesIn, classSum, classSums, statesFit, counted}
+use Rattle.uses.specs.Uses.{Line, lineOf, linesOf, usesIn, classSum, classSums, statesFit, counted}
 use Rattle.uses.specs.Demands.{Fits}
 use Rattle.uses.proofs.Sums.{weigh, sum-first}
 

@@ -8,7 +8,7 @@ use native.Mathlib.Decide.{decLt}
 use lib.ListN.{length, getD, List·getD-eq-default}
 use lib.Dec.{eqb, leb, ltb}
 use borrow.Author.Tests.{eqb-true, eqb-false, eq-eqb, ne-eqb, leb-true, le-leb, lt-leb, ltb-true}
-use Rattle.lists.specs.Lists.{upto, firstFailed}
+use Rattle.lists.specs.Lists.{upto, firstFailed, sum}
 use Rattle.lists.proofs.Members.{and-true, all-true, zeros}
 use Rattle.lists.proofs.Refusals.{passed, passes, fails, no-test}
 use Rattle.limits.specs.declared.Limits.{Limits}
@@ -22,7 +22,7 @@ use Rattle.maps.specs.Check.{checkNumber}
 use Rattle.maps.proofs.Accepted.{accepted}
 use Rattle.maps.proofs.Numbered.{class-below, classes-few, class-under}
 use Rattle.uses.specs.declared.Counted.{Counted}
-use Rattle.uses.specs.Uses.{Line, linesOf, sum, usesIn, classSum, stateSum, classSums, linesFit, statesFit, linesTests, usesNumber, counted, refusedBy, answerBy, usesOf}
+use Rattle.uses.specs.Uses.{Line, linesOf, usesIn, classSum, stateSum, classSums, linesFit, statesFit, linesTests, usesNumber, counted, refusedBy, answerBy, usesOf}
 use Rattle.uses.specs.Demands.{AnyOrder, ByStates, ZeroPast, Fits}
 use Rattle.uses.proofs.Sums.{sum-no-part, by-key, by-every-key, any-order, all-any-order, total-any-order}
 use Rattle.uses.proofs.Adding.{length-sums, sum-at}

@@ -6,8 +6,8 @@ use Prim.Native.Nat.{ℕ, zero, suc, _+_, _≤_, _<_}
 use native.Mathlib.Omega.{arith}
 use lib.Dec.{eqb}
 use borrow.Author.Tests.{eqb-true, eqb-false, ne-eqb}
-use Rattle.lists.specs.Lists.{all, keep, upto}
-use Rattle.uses.specs.Uses.{Line, sum, usesIn}
+use Rattle.lists.specs.Lists.{all, keep, upto, sum}
+use Rattle.uses.specs.Uses.{Line, usesIn}
 
 -- a number that counts where a test passes
 unfoldable pub weigh : Bool → ℕ → ℕ

@@ -5,14 +5,14 @@ use mathlib.Core.List.{List, map, List·Permᴰ}
 use Prim.Native.Nat.{ℕ, _*_, _<_, _≤_}
 use lib.ListN.{length, getD}
 use lib.Dec.{eqb}
-use Rattle.lists.specs.Lists.{keep, upto}
+use Rattle.lists.specs.Lists.{keep, upto, sum}
 use Rattle.limits.specs.declared.Limits.{Limits}
 use Rattle.limits.specs.Limits.{stateMost}
 use Rattle.table.specs.File.{tableOf}
 use Rattle.table.specs.Language.{count}
 use Rattle.table.specs.Maps.{classOf, classes}
 use Rattle.uses.specs.declared.Counted.{Counted}
-use Rattle.uses.specs.Uses.{linesOf, sum, stateSum, usesOf}
+use Rattle.uses.specs.Uses.{linesOf, stateSum, usesOf}
 
 -- "over the lines in another order": bytes with the same lines in any order have this answer, refused or not
 abbrev pub AnyOrder : Limits → List ℕ → List ℕ → List ℕ → Counted → Type 0

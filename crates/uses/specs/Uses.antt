@@ -4,7 +4,7 @@ use mathlib.Core.List.{List, [], _∷_, _++_, map}
 use Prim.Native.Nat.{ℕ, _+_, _*_, _/_, _%_}
 use lib.ListN.{length, getD, replicate}
 use lib.Dec.{eqb, leb, ltb}
-use Rattle.lists.specs.Lists.{all, keep, upto, firstFailed}
+use Rattle.lists.specs.Lists.{all, keep, upto, sum, firstFailed}
 use Rattle.limits.specs.declared.Limits.{Limits}
 use Rattle.limits.specs.Limits.{stateMost}
 use Rattle.table.specs.File.{records, tableOf}
@@ -24,11 +24,6 @@ lineOf r = record { state = getD r 0 0; uses = getD r 1 0 + 256 * getD r 2 0 + 6
 -- the lines that bytes hold, 5 bytes each
 unfoldable pub linesOf : List ℕ → List Line
 linesOf s = map lineOf (records 5 s)
-
--- numbers added up
-unfoldable pub sum : List ℕ → ℕ
-sum [] = 0
-sum (x ∷ xs) = x + sum xs
 
 -- the use counts of lines, added up
 unfoldable pub usesIn : List Line → ℕ

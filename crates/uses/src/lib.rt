@@ -2,10 +2,10 @@
 ghost use mathlib.Core.Path.{_≡_};
 ghost use Prim.Native.Nat.{ℕ, _*_, _<_, _≤_};
 ghost use lib.ListN.{length};
-ghost use Rattle.lists.specs.Lists.{firstFailed};
+ghost use Rattle.lists.specs.Lists.{sum, firstFailed};
 ghost use Rattle.limits.specs.Limits.{standard};
 ghost use Rattle.table.specs.Maps.{classOf};
-ghost use Rattle.uses.specs.Uses.{lineOf, sum, statesFit, linesTests, counted, refusedBy, answerBy, usesOf};
+ghost use Rattle.uses.specs.Uses.{lineOf, statesFit, linesTests, counted, refusedBy, answerBy, usesOf};
 ghost use Rattle.uses.specs.Demands.{AnyOrder, ByStates, ZeroPast, Fits};
 use limits::Limits;
 use maps::Checked;

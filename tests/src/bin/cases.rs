@@ -870,6 +870,64 @@ fn fitting(c: &mut Cases, r: &mut Random) {
     }
 }
 
+/// Seasons: shared guesses, refused tables in every place, short buffers, lengths that do not add up.
+fn seasons(c: &mut Cases, r: &mut Random) {
+    let b = t().bytes();
+    let three = [&b[..], &b, &b].concat();
+    let ample = Room { list: 30, map: 14, out: 110 };
+    let answer = c.season(&three, &[35, 35, 35], 3, ample).unwrap();
+    assert_eq!(answer[2], [0, 3, 1, 24, 31, 1, 1, 0]);
+    assert_eq!(answer[3], [0; 8]);
+    // the remainder of the division is nobody's: two guesses among three tables are none each
+    let answer = c.season(&three, &[35, 35, 35], 2, ample).unwrap();
+    assert_eq!(answer[0], [0, 4, 0, 24, 35, 0, 1, 1]);
+    // what the first leaves, the second may use
+    let mut plain = silent(&[1, 2]).bytes();
+    let two = [&plain[..], &two_undone().bytes()].concat();
+    let lengths = [plain.len() as u64, (two.len() - plain.len()) as u64];
+    let room = Room { list: short_words(&two_undone()), map: 10, out: 120 };
+    for (guesses, spent) in [(6, 0), (5, 1), (7, 0)] {
+        assert_eq!(c.season(&two, &lengths, guesses, room).unwrap()[1][7], spent);
+    }
+    // a refused table writes nothing, counts as no guesses, and the rest go on at its place
+    plain[0] = 9;
+    let refused = [&plain[..], &b, &b[..20], &b].concat();
+    let answer = c.season(&refused, &[plain.len() as u64, 35, 20, 35], 4, ample).unwrap();
+    assert_eq!([0, 1, 2, 3].map(|i| answer[i][0]), [5, 0, 2, 0]);
+    // buffers that the first uses up: 22, 21, 10
+    assert_eq!(c.season(&three, &[35, 35, 35], 9, Room { map: 7, ..ample }).unwrap().map(|x| x[0])[..3], [0, 22, 22]);
+    assert_eq!(c.season(&three, &[35, 35, 35], 9, Room { out: 61, ..ample }).unwrap().map(|x| x[0])[..3], [0, 21, 21]);
+    assert_eq!(c.season(&three, &[35, 35, 35], 9, Room { list: 23, ..ample }).unwrap().map(|x| x[0])[..3], [10, 10, 10]);
+    // a table that is refused by 21 after its search passes its guesses on
+    let hard = [&two_undone().bytes()[..], &two_undone().bytes()].concat();
+    let half = hard.len() as u64 / 2;
+    let answer = c.season(&hard, &[half, half], 6, Room { list: room.list, map: 16, out: 10 }).unwrap();
+    assert_eq!((answer[0][0], answer[1][0]), (21, 21));
+    for (lengths, number) in [
+        (&[][..], 34),
+        (&[35, 35][..], 34),
+        (&[35, 35, 36][..], 34),
+        (&[35, 35, 35, 1][..], 34),
+        (&[105, u64::MAX, 1][..], 34),
+        (&[u64::MAX, 106][..], 34),
+        (&[35, 35, 35, 0, 0, 0, 0, 0, 0][..], 34),
+    ] {
+        assert_eq!(c.season(&three, lengths, 3, ample), Err(number));
+    }
+    // a length of 0 adds up and gets 1; eight tables
+    let answer = c.season(&three, &[0, 35, 0, 35, 0, 35, 0, 0], 8, ample).unwrap();
+    assert_eq!(answer.map(|x| x[0]), [1, 0, 1, 0, 1, 0, 1, 1]);
+    assert_eq!(c.season(&[], &[], 3, ample), Err(34));
+    assert_eq!(c.season(&[], &[0], 3, ample).unwrap()[0], [1, 0, 0, 0, 0, 0, 0, 0]);
+    c.limits = Limits { states: 0, symbols: 1 };
+    assert_eq!(c.season(&[], &[], 3, ample), Err(39));
+    c.limits = STANDARD;
+    for turn in 0..12 {
+        let (tables, lengths) = random::season(r, 5);
+        c.season(&tables, &lengths, r.below(12) as u64, Room { list: 300, map: 20 + turn, out: 200 }).ok();
+    }
+}
+
 /// Writes the cases and their lines.
 fn main() {
     let root = std::env::args().nth(1).expect("the repository's folder");
@@ -900,6 +958,7 @@ fn main() {
     going(&mut c, &mut r);
     scripts(&mut c, &mut r);
     generating(&mut c, &mut r);
+    seasons(&mut c, &mut r);
     println!("cases of the operations by number: {:?}; {} bytes", &c.counts[1..], c.input.len() + c.output.len());
     std::fs::write(format!("{root}/crates/cases/stdin"), &c.input).unwrap();
     std::fs::write(format!("{root}/crates/cases/stdout"), &c.output).unwrap();

@@ -1,0 +1,77 @@
+-- `season::season_within` meets its contract: 39, 34, or every table in turn; and what is promised of it. Assumes nothing.
+use mathlib.Core.Path.{_≡_, sym, _∙_}
+use mathlib.Core.Bool.{true}
+use native.Mathlib.Omega.{arith}
+use lib.ListN.{length}
+use borrow.Author.Tests.{not-true, not-false}
+use Rattle.seasons.specs.Seasons.{lengthsFit}
+use Rattle.seasons.proofs.Theorems.{promised}
+use Rattle.season.proofs.Lengths.{fitting}
+use Rattle.season.proofs.Seasons.{shares-within, refused-limits, refused-lengths, reduced}
+use borrow.Author.Needs.{needs}
+use Rattle.season.proofs.season_within.Statement.{statement}
+use Rattle.season.proofs.season_within.Tie as tie
+
+fits : (c : tie.Else2) → lengthsFit (length (c .before .before .before .before .before .before .before .before .before .args .tables .now)) (c .before .before .before .before .before .before .before .before .before .args .lengths .now) ≡ true
+fits c = sym (c .before .lengths-fit .ensures) ∙ not-false _ (c .if2 .left)
+
+limits-fit-requires : tie.Need-limits-fit-requires
+limits-fit-requires c κs = search needs
+
+refused-requires : tie.Need-refused-requires
+refused-requires c κs = search needs
+
+returns : tie.Need-returns
+returns c =
+    let s = c .before .before .before .before .before .before .before .before in
+    promised (s .args .limits) (s .args .tables .now) (s .args .lengths .now) (s .args .guesses) (s .args .list .now) (s .args .maps .now) (s .args .out .now) (refused-limits (s .args .limits) (s .args .tables .now) (s .args .lengths .now) (s .args .guesses) (s .args .list .now) (s .args .maps .now) (s .args .out .now) (sym (c .before .before .limits-fit .ensures) ∙ not-true _ (c .before .if1 .taken)) (c .refused .ensures))
+
+lengths-fit-requires : tie.Need-lengths-fit-requires
+lengths-fit-requires c κs = search needs
+
+refused-requires-2 : tie.Need-refused-requires-2
+refused-requires-2 c κs = search needs
+
+returns-2 : tie.Need-returns-2
+returns-2 c =
+    let s = c .before .before .before .before .before .before .before .before .before .before in
+    promised (s .args .limits) (s .args .tables .now) (s .args .lengths .now) (s .args .guesses) (s .args .list .now) (s .args .maps .now) (s .args .out .now) (refused-lengths (s .args .limits) (s .args .tables .now) (s .args .lengths .now) (s .args .guesses) (s .args .list .now) (s .args .maps .now) (s .args .out .now) (sym (c .before .before .before .before .limits-fit .ensures) ∙ not-false _ (c .before .before .before .if1 .left)) (sym (c .before .before .lengths-fit .ensures) ∙ not-true _ (c .before .if2 .taken)) (c .refused2 .ensures))
+
+div-run : tie.Need-div-run
+div-run c = let f = fitting _ _ (fits c) in omega (arith, f .some)
+
+run-requires : tie.Need-run-requires
+run-requires c κs =
+    let s = c .before .before .before .before .before .before .before .before .before .before .before .before in
+    (fits (c .before .before .before), omega (arith, shares-within (s .args .guesses) (length (s .args .lengths .now)), s .fits .guesses))
+
+same-length : tie.Need-same-length
+same-length c = search needs
+
+same-length-2 : tie.Need-same-length-2
+same-length-2 c = search needs
+
+same-length-3 : tie.Need-same-length-3
+same-length-3 c = search needs
+
+returns-3 : tie.Need-returns-3
+returns-3 c =
+    let s = c .before .before .before .before .before .before .before .before .before .before .before .before .before .before .before .before .before .before .before in
+    promised (s .args .limits) (s .args .tables .now) (s .args .lengths .now) (s .args .guesses) (s .args .list .now) (s .args .maps .now) (s .args .out .now) (reduced (s .args .limits) (s .args .tables .now) (s .args .lengths .now) (s .args .guesses) (s .args .list .now) (s .args .maps .now) (s .args .out .now) (sym (c .before .before .before .before .before .before .before .before .before .before .before .before .before .limits-fit .ensures) ∙ not-false _ (c .before .before .before .before .before .before .before .before .before .before .before .before .if1 .left)) (fits (c .before .before .before .before .before .before .before .before .before .before)) (c .before .before .before .before .before .before .run .ensures))
+
+pub season-within-spec : {M : Type 1} → statement M
+season-within-spec =
+    tie.close
+    (tie.spec
+    limits-fit-requires
+    refused-requires
+    returns
+    lengths-fit-requires
+    refused-requires-2
+    returns-2
+    div-run
+    run-requires
+    same-length
+    same-length-2
+    same-length-3
+    returns-3)

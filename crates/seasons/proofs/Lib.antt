@@ -1,0 +1,4 @@
+pub mod Lone
+pub mod Each
+pub mod Theorems
+pub mod Examples

@@ -1,0 +1,185 @@
+-- What a season promises holds of the definition, and of whatever answers as it does. Assumes nothing.
+use mathlib.Core.Path.{_≡_, refl, sym, ap, _∙_, subst}
+use mathlib.Core.Logic.{_≢_}
+use mathlib.Core.Bool.{Bool, true, false}
+use mathlib.Core.List.{List, [], _∷_, _++_, map}
+use Prim.Native.Nat.{ℕ, zero, suc, _+_, _*_, _≤_, _<_}
+use native.Mathlib.Nat.{suc-mul, mul-comm, div-add-mod'}
+use native.Mathlib.Omega.{arith}
+use lib.ListN.{length, getD, take, drop, replicate}
+use lib.Seq.{getD-take, getD-drop, take-length}
+use lib.Dec.{eqb}
+use borrow.Author.Tests.{leb-true, eqb-true, eqb-false}
+use Rattle.lists.specs.Lists.{gather, parts, sum, over}
+use Rattle.lists.proofs.Members.{and-true}
+use Rattle.lists.proofs.Refusals.{passed}
+use Rattle.cnf.specs.Search.{madeOf, isSpent}
+use Rattle.cnf.proofs.Budgets.{enough}
+use Rattle.limits.specs.declared.Limits.{Limits}
+use Rattle.pairs.specs.Pairs.{pairs}
+use Rattle.table.specs.File.{tableOf}
+use Rattle.table.specs.Language.{count, SameWords, SameMarks, OpenByNeither}
+use Rattle.table.specs.Maps.{NoneCoarser}
+use Rattle.table.proofs.Bytes.{read-well-formed}
+use Rattle.maps.specs.Check.{checkOf}
+use Rattle.scripts.specs.Demands.{SameScripts}
+use Rattle.maps.specs.declared.Checked.the-variants.{Accepted}
+use Rattle.clauses.specs.Clauses.{clauseList}
+use Rattle.quotient.specs.Demands.{IsQuotient, ShowsSteps}
+use Rattle.reduce.specs.Reduce.{Reduced, searchOfTable, joinedPairs, reduceOf}
+use Rattle.reduce.specs.Demands.{OnBest, Promises}
+use Rattle.reduce.specs.declared.Reduction.{Reduction}
+use Rattle.reduce.specs.declared.Reduction.the-variants.{Delivered, Refused}
+use Rattle.reduce.proofs.Ways.{list-formed, Ways, refused-first, refused-short, delivers, reduce-ways}
+use Rattle.reduce.proofs.Theorems.{promises}
+use Rattle.seasons.specs.declared.Season.{Season}
+use Rattle.seasons.specs.Seasons.{row, guessesIn, mapTaken, outTaken, Reductions, reductionsFrom, shareOf, lengthsFit, seasonNumber, SeasonDone, refusedBy, seasonOf}
+use Rattle.seasons.specs.Demands.{tableAt, answerAt, allowedTo, mapsBefore, outBefore, IsLone, answersOf, Alone, SolvedWithin, EachPromised, guessesReported, WithinAll}
+use Rattle.seasons.proofs.Each.{allowed, moved, used, counted, alone-in}
+
+-- ---- the guesses reported
+
+-- nothing but zeros
+abbrev Zeros : List ℕ → Type 0
+Zeros zs = (j : ℕ) → getD zs j 0 ≡ 0
+
+zeros : (n : ℕ) → Zeros (replicate n 0)
+zeros zero j = refl
+zeros (suc n) zero = refl
+zeros (suc n) (suc j) = zeros n j
+
+later-zeros : (i : ℕ) (zs : List ℕ) → Zeros zs → Zeros (drop i zs)
+later-zeros i zs h j = getD-drop i zs j 0 ∙ h (i + j)
+
+abbrev reportedIn : List (List ℕ) → ℕ
+reportedIn rows = sum (map (λ x. getD x 2 0) rows)
+
+none-reported : (k : ℕ) (zs : List ℕ) → Zeros zs → reportedIn (parts k 8 zs) ≡ 0
+unfolding parts sum
+none-reported zero zs h = refl
+none-reported (suc k) zs h = omega (arith, getD-take 8 zs 2 0 (omega arith), h 2, none-reported k (drop 8 zs) (later-zeros 8 zs h))
+
+rows-reported : (rs : List Reduction) (n : ℕ) (zs : List ℕ) → length rs ≤ n → Zeros zs → reportedIn (parts n 8 (gather row rs ++ zs)) ≡ sum (map guessesIn rs)
+unfolding parts sum gather row guessesIn
+rows-reported [] n zs l h = none-reported n zs h
+rows-reported (r ∷ rs) zero zs l h = absurd (omega arith)
+rows-reported (Delivered c g w k j u s ∷ rs) (suc n) zs l h = ap (λ (m : ℕ). g + m) (rows-reported rs n zs (omega arith) h)
+rows-reported (Refused k ∷ rs) (suc n) zs l h = ap (λ (m : ℕ). 0 + m) (rows-reported rs n zs (omega arith) h)
+
+-- ---- of the definition
+
+-- what is promised of a reduction is promised of what stands at its place
+carried : (L : Limits) (b : List ℕ) (a : ℕ) (r : Reduction) (map map' out out' : List ℕ) → take (mapTaken b r) map' ≡ take (mapTaken b r) map → take (outTaken r) out' ≡ take (outTaken r) out
+    → Promises L b a r map out → Promises L b a r map' out'
+unfolding mapTaken outTaken
+carried L b a (Delivered c g w l j u s) map map' out out' e f p =
+    let n = count (tableOf b) in
+    record {
+      words = subst (λ (x : List ℕ). SameWords b x) (sym f) (p .words);
+      exact = subst (λ x. x) (λ i. IsQuotient L b (sym e i) (sym f i)) (p .exact);
+      checked = subst (λ (m : List ℕ). checkOf L b m ≡ Accepted c) (sym e) (p .checked);
+      maximal = λ z. subst (λ (m : List ℕ). NoneCoarser (tableOf b) m) (sym e) (p .maximal z);
+      few = p .few;
+      ceiling = record { joined = subst (λ (m : List ℕ). j ≡ joinedPairs n m) (sym e) (p .ceiling .joined); most = p .ceiling .most };
+      same = p .same;
+      spent = p .spent;
+      none-open = subst (λ (x : List ℕ). OpenByNeither b x) (sym f) (p .none-open);
+      steps = subst (λ x. x) (λ i. ShowsSteps b (sym e i) (sym f i)) (p .steps);
+      marks = subst (λ (x : List ℕ). SameMarks b x) (sym f) (p .marks);
+      scripts = subst (λ (x : List ℕ). SameScripts L b x) (sym f) (p .scripts);
+    }
+carried L b a (Refused k) map map' out out' e f p = record { words = tt; exact = tt; checked = tt; maximal = tt; few = tt; ceiling = tt; same = tt; spent = tt; none-open = tt; steps = tt; marks = tt; scripts = tt }
+
+-- a search that needs at most so many guesses is not spent under a budget that has them
+solved-ways : (L : Limits) (b : List ℕ) (a budget : ℕ) (list map out : List ℕ) → isSpent (searchOfTable b budget) ≡ false → madeOf (searchOfTable b budget) ≤ a
+    → {r : Reduced} → Ways L b a list map out r → OnBest (r .answer) (λ g j u s. s ≡ false)
+unfolding searchOfTable
+solved-ways L b a budget list map out e h (refused-first k q n) = tt
+solved-ways L b a budget list map out e h (refused-short v g u z s l) = tt
+solved-ways L b a budget list map out e h (delivers v g u z s l) =
+    s .ended ∙ ap isSpent (sym (enough (clauseList (tableOf b)) (pairs (count (tableOf b))) a budget (list-formed (read-well-formed L b (s .begun .readable))) e h)) ∙ e
+
+module _ (L : Limits) (tables lengths : List ℕ) (guesses : ℕ) (list maps out : List ℕ) where
+  abbrev share : ℕ
+  share = shareOf guesses lengths
+
+  abbrev run : Reductions
+  run = reductionsFrom L share 0 lengths tables list maps out
+
+  -- "Each answer equals a lone reduction with the guesses and buffers it was allowed."
+  pub each-lone : (i : ℕ) → i < length lengths
+      → IsLone L (tableAt tables lengths i) (allowedTo share (run .answers) i) list (drop (mapsBefore tables lengths (run .answers) i) maps) (drop (outBefore (run .answers) i) out) (answerAt (run .answers) i) (drop (mapsBefore tables lengths (run .answers) i) (run .maps)) (drop (outBefore (run .answers) i) (run .out))
+  unfolding allowedTo allowed
+  each-lone i h = moved L list refl (omega arith) refl refl refl refl (alone-in L share 0 lengths tables list maps out i h)
+
+  -- its share is among the guesses that a table is allowed
+  share-allowed : (i : ℕ) → share ≤ allowedTo share (run .answers) i
+  unfolding allowedTo
+  share-allowed i = omega (arith, used L share 0 lengths tables list maps out i, suc-mul i share)
+
+  -- "The guesses of all tables together are at most G"
+  all-within : 1 ≤ length lengths → sum (map guessesIn (run .answers)) ≤ guesses
+  unfolding shareOf
+  all-within h =
+      let k = length lengths in
+      let u : sum (map guessesIn (run .answers)) ≤ k * share = omega (arith, ap (λ (rs : List Reduction). sum (map guessesIn rs)) (sym (ap (λ (n : ℕ). take n (run .answers)) (sym (counted L share 0 lengths tables list maps out)) ∙ take-length (run .answers))), used L share 0 lengths tables list maps out k) in
+      omega (arith, u, div-add-mod' guesses k, mul-comm k share)
+
+  -- the two ways in which a season ends
+  data Ends : SeasonDone → Type 0 where
+    refused : (k : ℕ) → k ≢ 0 → Ends (record { answer = record { number = k; values = replicate 64 0 }; list = list; maps = maps; out = out })
+    reduced : 1 ≤ length lengths → length lengths ≤ 8 → Ends (record { answer = record { number = 0; values = over (gather row (run .answers)) (replicate 64 0) }; list = run .list; maps = run .maps; out = run .out })
+
+  lengths-few : seasonNumber L tables lengths ≡ 0 → (1 ≤ length lengths) × (length lengths ≤ 8)
+  unfolding seasonNumber lengthsFit
+  lengths-few e =
+      let a = passed 39 _ _ (λ z. omega (arith, z)) e in
+      let b = passed 34 _ _ (λ z. omega (arith, z)) (a .1) in
+      let c = and-true _ _ (b .0) in
+      let d = and-true _ _ (c .0) in
+      (leb-true _ _ (d .0), leb-true _ _ (d .1))
+
+  season-ends : Ends (seasonOf L tables lengths guesses list maps out)
+  unfolding seasonOf refusedBy
+  season-ends = go (eqb (seasonNumber L tables lengths) 0) refl
+    where
+      go : (t : Bool) → eqb (seasonNumber L tables lengths) 0 ≡ t → Ends (seasonOf L tables lengths guesses list maps out)
+      go true e = let f = lengths-few (eqb-true _ _ e) in rw (e, seasonOf) (reduced (f .0) (f .1))
+      go false e = rw (e, seasonOf) (refused (seasonNumber L tables lengths) (eqb-false _ _ e))
+
+  alone-ends : {d : SeasonDone} → Ends d → Alone L tables lengths guesses list maps out (d .answer) (d .maps) (d .out)
+  unfolding answersOf
+  alone-ends (refused k n) = λ e. absurd (n e)
+  alone-ends (reduced h k) = λ e. record { count = counted L share 0 lengths tables list maps out; rows = refl; each = each-lone }
+
+  promised-ends : {d : SeasonDone} → Ends d → EachPromised L tables lengths guesses list maps out (d .answer) (d .maps) (d .out)
+  unfolding answersOf
+  promised-ends (refused k n) = λ e. absurd (n e)
+  promised-ends (reduced h k) = λ e i l.
+      let b = tableAt tables lengths i in
+      let a = allowedTo share (run .answers) i in
+      let m = drop (mapsBefore tables lengths (run .answers) i) maps in
+      let o = drop (outBefore (run .answers) i) out in
+      let r = reduceOf L b a list m o in
+      let w = each-lone i l in
+      carried L b a (r .answer) (r .map) _ (r .out) _ (w .same-map) (w .same-out) (promises L b a list m o)
+
+  solved-ends : {d : SeasonDone} → Ends d → SolvedWithin L tables lengths guesses list maps out (d .answer)
+  unfolding answersOf
+  solved-ends (refused k n) = λ e. absurd (n e)
+  solved-ends (reduced h k) = λ e i l z.
+      solved-ways L (tableAt tables lengths i) (allowedTo share (run .answers) i) (z .budget) list _ _ (z .unspent) (omega (arith, z .few, share-allowed i)) (reduce-ways L (tableAt tables lengths i) (allowedTo share (run .answers) i) list _ _)
+
+  within-ends : {d : SeasonDone} → Ends d → WithinAll guesses (d .answer)
+  unfolding guessesReported over
+  within-ends (refused k n) = omega (arith, none-reported 8 (replicate 64 0) (zeros 64))
+  within-ends (reduced h k) =
+      omega (arith, rows-reported (run .answers) 8 (drop (length (gather row (run .answers))) (replicate 64 0)) (omega (arith, counted L share 0 lengths tables list maps out)) (later-zeros (length (gather row (run .answers))) (replicate 64 0) (zeros 64)), all-within h)
+
+-- what the contract of a season says, of the answer and the buffers that the definition gives
+pub promised : (L : Limits) (tables lengths : List ℕ) (guesses : ℕ) (list maps out : List ℕ) {r : Season} {list' maps' out' : List ℕ}
+    → record { answer = r; list = list'; maps = maps'; out = out' } ≡ seasonOf L tables lengths guesses list maps out
+    → (_≡_ {A = SeasonDone} (record { answer = r; list = list'; maps = maps'; out = out' }) (seasonOf L tables lengths guesses list maps out)) × (Alone L tables lengths guesses list maps out r maps' out' × (WithinAll guesses r × (SolvedWithin L tables lengths guesses list maps out r × EachPromised L tables lengths guesses list maps out r maps' out')))
+promised L tables lengths guesses list maps out {r} {list'} {maps'} {out'} e =
+    let d : Ends L tables lengths guesses list maps out (record { answer = r; list = list'; maps = maps'; out = out' }) = subst (λ (x : SeasonDone). Ends L tables lengths guesses list maps out x) (sym e) (season-ends L tables lengths guesses list maps out) in
+    (e, (alone-ends L tables lengths guesses list maps out d, (within-ends L tables lengths guesses list maps out d, (solved-ends L tables lengths guesses list maps out d, promised-ends L tables lengths guesses list maps out d))))
