@@ -1,4 +1,4 @@
-/* The reducer's C interface: the operations of the proved library `capi` (rt staticlib capi),
+/* The reducer's C interface: the operations of the proved library, which `./library` writes to target/lib/libbasilvault.a,
  * each at the limits of 24 states and 32 symbols and, as NAME_within, at given limits of 1 to 40 states and 1 to 64 symbols; others are refused by 39.
  *
  * Each function returns the refusal's number, or 0. Where it is 0 and `values` has room for all the answer's values, they are its first

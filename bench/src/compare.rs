@@ -1,9 +1,9 @@
 //! Library and plain Rust on random tables, damaged ones, lists and maps, with buffers of any length: the same answers and the same bytes.
 
-use crate::random::{self, Random};
-use crate::reference::{Limits, Table, LARGEST, STANDARD};
-use crate::capi::fit;
-use crate::{capi::within as capi, plain};
+use crate::plain;
+use basilvault_tests::flat;
+use basilvault_tests::random::{self, Random};
+use basilvault_tests::reference::{LARGEST, Limits, STANDARD, Table};
 
 /// A length around what is needed: shorter, equal, or longer.
 fn around(r: &mut Random, need: usize) -> usize {
@@ -16,19 +16,19 @@ fn around(r: &mut Random, need: usize) -> usize {
 
 /// The operations on a table alone.
 fn compare_table(r: &mut Random, l: Limits, table: &[u8]) {
-    assert_eq!(capi::read(l, table), plain::read(l, table), "{table:02x?}");
-    assert_eq!(capi::tops(l, table), plain::tops(l, table), "{table:02x?}");
-    let need = capi::clauses(l, table, &mut vec![0; 400_000]).map_or(9, |v| v[1]) as usize;
+    assert_eq!(flat(basilvault::read_within(l, table)), plain::read(l, table), "{table:02x?}");
+    assert_eq!(flat(basilvault::tops_within(l, table)), plain::tops(l, table), "{table:02x?}");
+    let need = basilvault::clauses_within(l, table, &mut vec![0; 400_000]).map_or(9, |listed| listed.words);
     let mut ours = vec![7; around(r, need)];
     let mut theirs = ours.clone();
-    assert_eq!(capi::clauses(l, table, &mut ours), plain::clauses(l, table, &mut theirs), "{table:02x?}");
+    assert_eq!(flat(basilvault::clauses_within(l, table, &mut ours)), plain::clauses(l, table, &mut theirs), "{table:02x?}");
     assert!(ours == theirs, "{table:02x?}");
 }
 
 /// Scripts on a table.
 fn compare_script(r: &mut Random, l: Limits, valid: &Table, table: &[u8]) {
     let script = random::script(r, valid);
-    assert_eq!(capi::script(l, table, &script), plain::script(l, table, &script), "{table:02x?} {script:?}");
+    assert_eq!(flat(basilvault::script_within(l, table, &script)), plain::script(l, table, &script), "{table:02x?} {script:?}");
 }
 
 /// Reduce; the map that it delivers, or none, as where a damaged table has fewer states.
@@ -37,7 +37,7 @@ fn compare_reduce(r: &mut Random, l: Limits, table: &[u8], states: usize) -> Opt
     let length = [32_768, 32_768, 300][r.below(3)];
     let mut ours = (vec![7; length], vec![7; around(r, states)], vec![7; around(r, table.len())]);
     let mut theirs = ours.clone();
-    let a = capi::reduce(l, table, budget, &mut ours.0, &mut ours.1, &mut ours.2);
+    let a = flat(basilvault::reduce_within(l, table, budget, &mut ours.0, &mut ours.1, &mut ours.2));
     let b = plain::reduce(l, table, budget, &mut theirs.0, &mut theirs.1, &mut theirs.2);
     assert_eq!(a, b, "{table:02x?}");
     assert!(ours == theirs, "{table:02x?}");
@@ -46,10 +46,10 @@ fn compare_reduce(r: &mut Random, l: Limits, table: &[u8], states: usize) -> Opt
 
 /// Check and quotient under a map.
 fn compare_map(r: &mut Random, l: Limits, table: &[u8], map: &[u8]) {
-    assert_eq!(capi::check(l, table, map), plain::check(l, table, map), "{table:02x?} {map:?}");
+    assert_eq!(flat(basilvault::check_within(l, table, map)), plain::check(l, table, map), "{table:02x?} {map:?}");
     let mut ours = vec![7; around(r, table.len())];
     let mut theirs = ours.clone();
-    assert_eq!(capi::quotient(l, table, map, &mut ours), plain::quotient(l, table, map, &mut theirs), "{table:02x?} {map:?}");
+    assert_eq!(flat(basilvault::quotient_within(l, table, map, &mut ours)), plain::quotient(l, table, map, &mut theirs), "{table:02x?} {map:?}");
     assert!(ours == theirs, "{table:02x?} {map:?}");
 }
 
@@ -60,17 +60,17 @@ fn compare_search(r: &mut Random, l: Limits) {
     let budget = if r.chance(30) { r.below(5) as u64 } else { 10_000 };
     let mut ours = vec![7; around(r, variables)];
     let mut theirs = ours.clone();
-    assert_eq!(capi::search(l, &list, variables, budget, &mut ours), plain::search(l, &list, variables, budget, &mut theirs), "{list:?}");
+    assert_eq!(flat(basilvault::search_within(l, &list, variables, budget, &mut ours)), plain::search(l, &list, variables, budget, &mut theirs), "{list:?}");
     assert!(ours == theirs, "{list:?}");
 }
 
 /// A random table from a seed.
 fn compare_generate(r: &mut Random, l: Limits) {
     let load = random::load(r, l);
-    let need = capi::generate(l, load, &mut vec![0; 22_644]).map_or(9, |v| v[0]) as usize;
+    let need = basilvault::generate_within(l, load, &mut vec![0; 22_644]).unwrap_or(9);
     let mut ours = vec![7; around(r, need)];
     let mut theirs = ours.clone();
-    assert_eq!(capi::generate(l, load, &mut ours), plain::generate(l, load, &mut theirs), "{load:?}");
+    assert_eq!(flat(basilvault::generate_within(l, load, &mut ours)), plain::generate(l, load, &mut theirs), "{load:?}");
     assert!(ours == theirs, "{load:?}");
 }
 
@@ -82,7 +82,7 @@ fn compare_pair(r: &mut Random) {
         let i = r.below(2);
         bytes[i] = random::damaged(r, &bytes[i]);
     }
-    assert_eq!(fit(&bytes[0], &bytes[1]), plain::fit(&bytes[0], &bytes[1]), "{bytes:02x?}");
+    assert_eq!(flat(basilvault::fit(&bytes[0], &bytes[1])), plain::fit(&bytes[0], &bytes[1]), "{bytes:02x?}");
 }
 
 /// So many cases; stops the program at the first difference.

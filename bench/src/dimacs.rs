@@ -1,7 +1,6 @@
 //! Clause words as DIMACS text and back: variable v is number v + 1.
 
 /// The text of clause words. With `turned`, true and false change places in every literal.
-#[allow(dead_code)]
 pub fn write(list: &[u16], variables: usize, turned: bool) -> String {
     let mut count = 0;
     let mut text = String::new();
@@ -20,7 +19,6 @@ pub fn write(list: &[u16], variables: usize, turned: bool) -> String {
 }
 
 /// The clause words of a text, and the number of variables.
-#[allow(dead_code)]
 pub fn read(text: &str) -> (Vec<u16>, usize) {
     let (head, body) = text.split_once('\n').expect("a first line");
     let variables = head.split_whitespace().nth(2).expect("a number of variables").parse().expect("a number");

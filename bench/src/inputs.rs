@@ -1,9 +1,9 @@
 //! What is measured: tables of 4 to 24 states, with at most one target a move and with any number, some of them copies of a smaller one; three that
 //! take thousands of guesses; for the search a list with tens of thousands; and scripts on two tables with as many records as there may be.
 
-use crate::capi;
-use crate::random::{self, Random};
-use crate::reference::Table;
+use basilvault::{Listed, Reduced};
+use basilvault_tests::random::{self, Random};
+use basilvault_tests::reference::Table;
 
 /// The clause words and the guesses that the program allows.
 pub const WORDS: usize = 32_768;
@@ -56,12 +56,12 @@ impl Input {
     /// The input of a table.
     fn of(table: Vec<u8>, states: usize, one: bool) -> Option<Input> {
         let (mut list, mut map, mut out) = (vec![0; WORDS], vec![0; states], vec![0; table.len()]);
-        let [classes, guesses, ..] = capi::reduce(&table, BUDGET, &mut list, &mut map, &mut out).ok()?;
-        let [_, words] = capi::clauses(&table, &mut list).ok()?;
-        list.truncate(words as usize);
+        let Reduced { classes, guesses, .. } = basilvault::reduce(&table, BUDGET, &mut list, &mut map, &mut out).ok()?;
+        let Listed { words, .. } = basilvault::clauses(&table, &mut list).ok()?;
+        list.truncate(words);
         let targets = if one { "one" } else { "any" };
         let label = format!("{states:6} {targets:>7} {classes:7} {:5} {words:5} {guesses:7}", table.len());
-        Some(Input { label, table, list, variables: states * (states - 1) / 2, map, script: Vec::new(), classes: classes as usize })
+        Some(Input { label, table, list, variables: states * (states - 1) / 2, map, script: Vec::new(), classes })
     }
 }
 
@@ -115,7 +115,7 @@ pub fn pigeons(holes: usize) -> Input {
         }
     }
     let variables = 1 + holes * (holes + 1);
-    let [guesses] = capi::search(&list, variables, BUDGET, &mut vec![0; variables]).expect("the search ends");
+    let guesses = basilvault::search(&list, variables, BUDGET, &mut vec![0; variables]).expect("the search ends");
     alone(list, variables, guesses)
 }
 

@@ -1,9 +1,9 @@
 //! A load that can be made again: a thousand tables from the library's generator, made and reduced by the library and in plain Rust.
 
 use crate::inputs::BUDGET;
-use crate::reference::{Load, LARGEST};
+use crate::plain;
 use crate::stages::Buffers;
-use crate::{capi::within as capi, plain};
+use basilvault_tests::reference::{LARGEST, Load};
 use std::hint::black_box;
 use std::time::Instant;
 
@@ -43,8 +43,8 @@ fn seconds(make: Make, reduce: Reduce, buffers: &mut Buffers) -> ([f64; 2], Vec<
 pub fn print() {
     let sides: [(Make, Reduce); 2] = [
         (
-            |load, out| capi::generate(LARGEST, load, out).expect("the load fits")[0] as usize,
-            |table, b| assert!(capi::reduce(LARGEST, table, BUDGET, &mut b.list, &mut b.map, &mut b.out).is_ok()),
+            |load, out| basilvault::generate_within(LARGEST, load, out).expect("the load fits"),
+            |table, b| assert!(basilvault::reduce_within(LARGEST, table, BUDGET, &mut b.list, &mut b.map, &mut b.out).is_ok()),
         ),
         (
             |load, out| plain::generate(LARGEST, load, out).expect("the load fits")[0] as usize,

@@ -9,23 +9,13 @@
 //!   basilvault-bench load                   tables a second of a load from the library's generator
 //!   basilvault-bench seeds                  how the inputs' seeds were found
 
-#[path = "../../tests/src/capi.rs"]
-#[allow(dead_code)]
-mod capi;
 mod compare;
-mod dimacs;
 mod inputs;
-mod pairs;
 mod instructions;
 mod load;
+mod pairs;
 mod plain;
 mod processes;
-#[path = "../../tests/src/random.rs"]
-#[allow(dead_code)]
-mod random;
-#[path = "../../tests/src/reference.rs"]
-#[allow(dead_code)]
-mod reference;
 mod report;
 mod stages;
 mod times;

@@ -1,8 +1,9 @@
 //! The comparison of two tables, on its own inputs: small ones, and such as make it slow within 24 states and 32 symbols.
 
-use crate::random::{self, Random};
-use crate::reference::Table;
-use crate::{capi, plain};
+use crate::plain;
+use basilvault_tests::flat;
+use basilvault_tests::random::{self, Random};
+use basilvault_tests::reference::Table;
 use std::hint::black_box;
 use std::process::Command;
 use std::time::Instant;
@@ -135,7 +136,7 @@ fn pairs() -> Vec<Pair> {
 #[inline(never)]
 fn counted(side: &str, pair: &Pair) -> Result<[u64; 1], u8> {
     match side {
-        "library" => capi::fit(black_box(&pair.first), black_box(&pair.second)),
+        "library" => flat(basilvault::fit(black_box(&pair.first), black_box(&pair.second))),
         _ => plain::fit(black_box(&pair.first), black_box(&pair.second)),
     }
 }

@@ -2,7 +2,8 @@
 
 use crate::inputs::{nothing, Input, BUDGET, LABELS};
 use crate::stages::STAGES;
-use crate::{capi, dimacs};
+use basilvault::Refusal;
+use basilvault_bench::dimacs;
 use std::path::{Path, PathBuf};
 use std::process::{Command, Stdio};
 use std::time::Instant;
@@ -46,7 +47,7 @@ fn units(literals: impl Iterator<Item = u16>) -> Vec<u16> {
 fn satisfies(input: &Input, values: &[bool]) -> bool {
     let literals = values.iter().enumerate().map(|(v, &x)| 2 * v as u16 + !x as u16);
     let list = [&input.list[..], &units(literals)].concat();
-    capi::search(&list, input.variables, BUDGET, &mut vec![0; input.variables]).is_ok()
+    basilvault::search(&list, input.variables, BUDGET, &mut vec![0; input.variables]).is_ok()
 }
 
 /// Whether no model has all that the values have true and one more: the list with those and one more has none.
@@ -54,7 +55,7 @@ fn maximal(input: &Input, values: &[bool]) -> bool {
     let kept = units((0..values.len()).filter(|&v| values[v]).map(|v| 2 * v as u16));
     (0..values.len()).filter(|&v| !values[v]).all(|v| {
         let list = [&input.list[..], &kept, &[1, 2 * v as u16]].concat();
-        capi::search(&list, input.variables, BUDGET, &mut vec![0; input.variables]) == Err(12)
+        basilvault::search(&list, input.variables, BUDGET, &mut vec![0; input.variables]) == Err(Refusal::NoAssignment)
     })
 }
 

@@ -1,8 +1,9 @@
 //! The operations at the program's limits, each by the library and in plain Rust, on an input.
 
-use crate::inputs::{inputs, pigeons, scripts, Input, BUDGET, WORDS};
-use crate::reference::LARGEST;
-use crate::{capi, plain};
+use crate::inputs::{BUDGET, Input, WORDS, inputs, pigeons, scripts};
+use crate::plain;
+use basilvault_tests::flat;
+use basilvault_tests::reference::LARGEST;
 
 /// What an operation writes to, and the values of its answer.
 #[derive(Clone, PartialEq, Debug)]
@@ -42,13 +43,13 @@ pub struct Stage {
     pub plain: Call,
 }
 
-/// A stage whose two calls differ in the module only.
+/// A stage whose two calls differ in the function only.
 macro_rules! stage {
-    ($name:ident, |$i:ident, $b:ident| $($argument:expr),+) => {
+    ($name:ident, $within:ident, |$i:ident, $b:ident| $($argument:expr),+) => {
         Stage {
             name: stringify!($name),
             library: |$i, $b| {
-                let answer = capi::within::$name(LARGEST, $($argument),+);
+                let answer = flat(basilvault::$within(LARGEST, $($argument),+));
                 $b.keep(answer)
             },
             plain: |$i, $b| {
@@ -61,14 +62,14 @@ macro_rules! stage {
 
 /// All of them.
 pub static STAGES: [Stage; 8] = [
-    stage!(read, |i, b| &i.table),
-    stage!(tops, |i, b| &i.table),
-    stage!(clauses, |i, b| &i.table, &mut b.list),
-    stage!(search, |i, b| &i.list, i.variables, BUDGET, &mut b.answer),
-    stage!(check, |i, b| &i.table, &i.map),
-    stage!(quotient, |i, b| &i.table, &i.map, &mut b.out),
-    stage!(reduce, |i, b| &i.table, BUDGET, &mut b.list, &mut b.map, &mut b.out),
-    stage!(script, |i, b| &i.table, &i.script),
+    stage!(read, read_within, |i, b| &i.table),
+    stage!(tops, tops_within, |i, b| &i.table),
+    stage!(clauses, clauses_within, |i, b| &i.table, &mut b.list),
+    stage!(search, search_within, |i, b| &i.list, i.variables, BUDGET, &mut b.answer),
+    stage!(check, check_within, |i, b| &i.table, &i.map),
+    stage!(quotient, quotient_within, |i, b| &i.table, &i.map, &mut b.out),
+    stage!(reduce, reduce_within, |i, b| &i.table, BUDGET, &mut b.list, &mut b.map, &mut b.out),
+    stage!(script, script_within, |i, b| &i.table, &i.script),
 ];
 
 impl Stage {

@@ -1,12 +1,11 @@
 //! Compares the proved library with the plain implementation on random cases: answers, counts and every byte of every buffer.
 //! `basilvault-tests [CASES] [SEED]`
 
-mod capi;
-mod random;
-mod reference;
-
-use random::Random;
-use reference::{Delivery, Limits, Load, Table, LARGEST, STANDARD};
+use basilvault::raw::{self, Values};
+use basilvault::{Counts as TableCounts, Reduced, Refusal};
+use basilvault_tests::flat;
+use basilvault_tests::random::{self, Random};
+use basilvault_tests::reference::{self, Delivery, LARGEST, Limits, Load, STANDARD, Table};
 use std::io::Write;
 use std::process::{Command, Stdio};
 
@@ -70,9 +69,9 @@ fn around(r: &mut Random, need: usize) -> usize {
 
 fn compare_read(l: Limits, b: &[u8], c: &mut Counts) {
     let theirs = reference::read(l, b).map(|s| s.map(|x| x as u64));
-    same("read", b, capi::within::read(l, b), theirs);
+    same("read", b, flat(basilvault::read_within(l, b)), theirs);
     if l == STANDARD {
-        same("read, no limits given", b, capi::read(b), theirs);
+        same("read, no limits given", b, flat(basilvault::read(b)), theirs);
     }
     c.add("read", theirs);
 }
@@ -84,9 +83,9 @@ fn compare_tops(l: Limits, b: &[u8], c: &mut Counts) {
         v[40] = k as u64;
         v
     });
-    same("tops", b, capi::within::tops(l, b), theirs);
+    same("tops", b, flat(basilvault::tops_within(l, b)), theirs);
     if l == STANDARD {
-        same("tops, no limits given", b, capi::tops(b), theirs);
+        same("tops, no limits given", b, flat(basilvault::tops(b)), theirs);
     }
     c.add("tops", theirs);
 }
@@ -95,16 +94,24 @@ fn compare_clauses(r: &mut Random, l: Limits, b: &[u8], c: &mut Counts) {
     let need = reference::parse(l, b).map(|(t, _)| reference::words_of(&reference::clause_list(&t)).len()).unwrap_or(9);
     let mut ours = vec![0xbeefu16; around(r, need)];
     let mut theirs = ours.clone();
-    let a = if l == STANDARD { capi::clauses(b, &mut ours) } else { capi::within::clauses(l, b, &mut ours) };
+    let a = flat(if l == STANDARD { basilvault::clauses(b, &mut ours) } else { basilvault::clauses_within(l, b, &mut ours) });
     let e = reference::clauses(l, b, &mut theirs).map(|(x, y)| [x as u64, y as u64]);
     same("clauses", b, (a, ours), (e, theirs));
     c.add("clauses", e);
+    if let Ok((t, _)) = reference::parse(l, b) {
+        let counts = basilvault::read_within(l, b).expect("a readable table").counts(b.len());
+        let [internals, calls, returns] = [t.internals.len(), t.calls.len(), t.returns.len()];
+        assert_eq!(counts, TableCounts { symbols: t.symbols.len(), states: t.count(), internals, calls, returns });
+        assert!(need <= counts.most_words(), "{need} clause words of {t:?}");
+        let short = reference::words_of(&reference::short_list(&t)).len();
+        assert!(short <= counts.most_short_words(), "{short} clause words without transitivity of {t:?}");
+    }
 }
 
 fn compare_search(r: &mut Random, l: Limits, words: &[u16], variables: usize, budget: u64, c: &mut Counts) {
     let mut ours = vec![0x77u8; around(r, variables)];
     let mut theirs = ours.clone();
-    let a = if l == STANDARD { capi::search(words, variables, budget, &mut ours) } else { capi::within::search(l, words, variables, budget, &mut ours) };
+    let a = flat(if l == STANDARD { basilvault::search(words, variables, budget, &mut ours) } else { basilvault::search_within(l, words, variables, budget, &mut ours) });
     let e = reference::search(l, words, variables, budget, &mut theirs).map(|k| [k]);
     if (a, &ours) != (e, &theirs) {
         panic!("search differs: {a:?} {ours:?} against {e:?} {theirs:?}; variables {variables}, budget {budget}, words {words:?}");
@@ -114,7 +121,7 @@ fn compare_search(r: &mut Random, l: Limits, words: &[u16], variables: usize, bu
 
 fn compare_map(r: &mut Random, l: Limits, b: &[u8], m: &[u8], c: &mut Counts) {
     let e = reference::check(l, b, m).map(|k| [k as u64]);
-    let a = if l == STANDARD { capi::check(b, m) } else { capi::within::check(l, b, m) };
+    let a = flat(if l == STANDARD { basilvault::check(b, m) } else { basilvault::check_within(l, b, m) });
     same("check", b, a, e);
     c.add("check", e);
     let need = match (reference::parse(l, b), e) {
@@ -129,7 +136,7 @@ fn compare_map(r: &mut Random, l: Limits, b: &[u8], m: &[u8], c: &mut Counts) {
     };
     let mut ours = vec![0x55u8; around(r, need)];
     let mut theirs = ours.clone();
-    let a = if l == STANDARD { capi::quotient(b, m, &mut ours) } else { capi::within::quotient(l, b, m, &mut ours) };
+    let a = flat(if l == STANDARD { basilvault::quotient(b, m, &mut ours) } else { basilvault::quotient_within(l, b, m, &mut ours) });
     let e = reference::quotient(l, b, m, &mut theirs).map(|k| [k as u64]);
     same("quotient", b, (a, ours), (e, theirs));
     c.add("quotient", e);
@@ -141,7 +148,7 @@ fn compare_uses(r: &mut Random, l: Limits, b: &[u8], m: &[u8], lines: &[u8], c: 
         v[..40].copy_from_slice(&sums);
         v
     });
-    let a = if l == STANDARD { capi::uses(b, m, lines) } else { capi::within::uses(l, b, m, lines) };
+    let a = flat(if l == STANDARD { basilvault::uses(b, m, lines) } else { basilvault::uses_within(l, b, m, lines) });
     same("uses", b, a, e);
     c.add("uses", e);
     // the lines in another order
@@ -149,14 +156,16 @@ fn compare_uses(r: &mut Random, l: Limits, b: &[u8], m: &[u8], lines: &[u8], c: 
     let k = r.below(turned.len() + 1);
     turned.rotate_left(k);
     if lines.len() % 5 == 0 {
-        same("uses in another order", b, capi::within::uses(l, b, m, &turned.concat()), e);
+        same("uses in another order", b, flat(basilvault::uses_within(l, b, m, &turned.concat())), e);
     }
 }
 
 fn compare_choose(l: Limits, b: &[u8], first: &[u8], second: &[u8], c: &mut Counts) {
     let e = reference::choose(l, b, first, second).map(|which| [u64::from(which)]);
-    let a = if l == STANDARD { capi::choose(b, first, second) } else { capi::within::choose(l, b, first, second) };
-    same("choose", b, a, e);
+    let a = if l == STANDARD { basilvault::choose(b, first, second) } else { basilvault::choose_within(l, b, first, second) };
+    // the lent map itself, not one with the same bytes
+    let which = |map: &[u8]| [first, second].iter().position(|lent| std::ptr::eq(*lent, map)).map_or(0, |i| i as u64 + 1);
+    same("choose", b, flat(a.map(which)), e);
     c.add("choose", e);
     if let Ok([which]) = e {
         c.add(["the first map chosen", "the second map chosen"][which as usize - 1], Ok(()));
@@ -167,7 +176,7 @@ fn compare_generate(r: &mut Random, l: Limits, load: Load, c: &mut Counts) {
     let need = reference::generated(l, load).map_or(9, |t| t.bytes().len());
     let mut ours = vec![0x33u8; around(r, need)];
     let mut theirs = ours.clone();
-    let a = if l == STANDARD { capi::generate(load, &mut ours) } else { capi::within::generate(l, load, &mut ours) };
+    let a = flat(if l == STANDARD { basilvault::generate(load, &mut ours) } else { basilvault::generate_within(l, load, &mut ours) });
     let e = reference::generate(l, load, &mut theirs).map(|k| [k as u64]);
     assert!((a, &ours) == (e, &theirs), "generate differs: {a:?} against {e:?} for {load:?} at {l:?}");
     c.add("generate", e);
@@ -179,14 +188,14 @@ fn generated(r: &mut Random, most: usize) -> Table {
     let [internals, calls, returns] = [0; 3].map(|_| r.below(3));
     let load = Load { seed: r.next() as u32, states, internals, calls, returns, density: (1 + r.below(4)) as u32 * 10_000 / states as u32 };
     let mut out = vec![0; 22_644];
-    let [length] = capi::within::generate(LARGEST, load, &mut out).expect("few records");
-    reference::parse(LARGEST, &out[..length as usize]).expect("a generated table is readable").0
+    let length = basilvault::generate_within(LARGEST, load, &mut out).expect("few records");
+    reference::parse(LARGEST, &out[..length]).expect("a generated table is readable").0
 }
 
 fn compare_script(r: &mut Random, l: Limits, t: &Table, b: &[u8], c: &mut Counts) {
     let script = random::script(r, t);
     let e = reference::script(l, b, &script).map(|yes| [u64::from(yes)]);
-    let a = if l == STANDARD { capi::script(b, &script) } else { capi::within::script(l, b, &script) };
+    let a = flat(if l == STANDARD { basilvault::script(b, &script) } else { basilvault::script_within(l, b, &script) });
     same("script", b, (&script, a), (&script, e));
     c.add("script", e);
     if let (Ok([yes]), Ok((t, _))) = (e, reference::parse(l, b)) {
@@ -201,7 +210,7 @@ fn compare_records(r: &mut Random, l: Limits, b: &[u8], m: &[u8], c: &mut Counts
     let need = reference::parse(l, b).map_or(9, |(t, _)| t.internals.len() + t.calls.len() + t.returns.len());
     let mut ours = vec![0x22u8; around(r, need)];
     let mut theirs = ours.clone();
-    let a = if l == STANDARD { capi::records(b, m, &mut ours) } else { capi::within::records(l, b, m, &mut ours) };
+    let a = flat(if l == STANDARD { basilvault::records(b, m, &mut ours) } else { basilvault::records_within(l, b, m, &mut ours) });
     let e = reference::records(l, b, m, &mut theirs).map(|x| x.map(|k| k as u64));
     same("records", b, (a, ours), (e, theirs));
     c.add("records", e);
@@ -221,7 +230,7 @@ fn compare_fit(r: &mut Random, c: &mut Counts) {
         bytes[i] = random::damaged(r, &bytes[i]);
     }
     let e = reference::fit(&bytes[0], &bytes[1]).map(|yes| [u64::from(yes)]);
-    same("fit", &bytes.concat(), capi::fit(&bytes[0], &bytes[1]), e);
+    same("fit", &bytes.concat(), flat(basilvault::fit(&bytes[0], &bytes[1])), e);
     c.add("fit", e);
     if let Ok([yes]) = e {
         c.add(["fit: no", "fit: yes"][yes as usize], Ok(()));
@@ -234,6 +243,31 @@ fn compare_fit(r: &mut Random, c: &mut Counts) {
     }
 }
 
+/// A row of a season: the number or 0, and a reduction's values.
+fn row(answer: basilvault::Result<Reduced>) -> [u64; 8] {
+    match answer {
+        Err(refusal) => [u64::from(refusal.number()), 0, 0, 0, 0, 0, 0, 0],
+        Ok(reduced) => [&[0], &reduced.values()[..]].concat().try_into().expect("eight values"),
+    }
+}
+
+/// The values of a season as C has them, also those past the count, with buffers of these lengths.
+fn season_values(l: Limits, tables: &[u8], lengths: &[u64], guesses: u64, [list, maps, out]: [usize; 3]) -> Result<Vec<u64>, u8> {
+    let (mut list, mut maps, mut out, mut values) = (vec![0u16; list], vec![0u8; maps], vec![0u8; out], vec![7u64; 64]);
+    let (t, c, k) = (tables.len(), lengths.len(), values.len());
+    let [n, m, o] = [list.len(), maps.len(), out.len()];
+    let (tables, lengths, values_at) = (tables.as_ptr(), lengths.as_ptr(), values.as_mut_ptr());
+    let (list, maps, out) = (list.as_mut_ptr(), maps.as_mut_ptr(), out.as_mut_ptr());
+    let number = unsafe {
+        if l == STANDARD {
+            raw::basilvault_season(tables, t, lengths, c, guesses, list, n, maps, m, out, o, values_at, k)
+        } else {
+            raw::basilvault_season_within(l.states, l.symbols, tables, t, lengths, c, guesses, list, n, maps, m, out, o, values_at, k)
+        }
+    };
+    if number == 0 { Ok(values) } else { Err(number as u8) }
+}
+
 fn compare_season(r: &mut Random, l: Limits, c: &mut Counts) {
     let (tables, lengths) = random::season(r, 6);
     let guesses = if r.chance(70) { r.below(20) as u64 } else { u64::MAX };
@@ -241,10 +275,17 @@ fn compare_season(r: &mut Random, l: Limits, c: &mut Counts) {
     let mut maps = vec![0x66u8; around(r, 25)];
     let mut out = vec![0x44u8; around(r, tables.len())];
     let (mut list2, mut maps2, mut out2) = (list.clone(), maps.clone(), out.clone());
-    let a = if l == STANDARD { capi::season(&tables, &lengths, guesses, &mut list, &mut maps, &mut out) } else { capi::within::season(l, &tables, &lengths, guesses, &mut list, &mut maps, &mut out) };
+    let a = if l == STANDARD {
+        basilvault::season(&tables, &lengths, guesses, &mut list, &mut maps, &mut out)
+    } else {
+        basilvault::season_within(l, &tables, &lengths, guesses, &mut list, &mut maps, &mut out)
+    };
+    let in_c = season_values(l, &tables, &lengths, guesses, [list2.len(), maps2.len(), out2.len()]);
     let e = reference::season(l, &tables, &lengths, guesses, &mut list2, &mut maps2, &mut out2);
-    let flat = e.map(|x| x.concat());
-    same("season", &tables, (a.map(|x| x.to_vec()), list, maps, out), (flat, list2, maps2, out2));
+    let rows = |answers: Vec<basilvault::Result<Reduced>>| answers.into_iter().map(row).collect::<Vec<_>>();
+    let expected = e.map(|x| x[..lengths.len()].to_vec());
+    same("season", &tables, (a.map(rows).map_err(Refusal::number), list, maps, out), (expected, list2, maps2, out2));
+    same("season's values", &tables, in_c, e.map(|x| x.concat()));
     c.add("season", e);
     for answer in e.into_iter().flatten().take(lengths.len()) {
         c.add(if answer[7] == 1 { "season, a table spent" } else { "season, a table" }, if answer[0] == 0 { Ok(()) } else { Err(answer[0] as u8) });
@@ -258,7 +299,7 @@ fn compare_many_lines() {
         let bytes: Vec<u8> = (0..lines).flat_map(|_| [0, 255, 255, 255, 255]).collect();
         let e = reference::uses(STANDARD, &b, &[0], &bytes).map(|x| x.1);
         assert_eq!(e, if lines > 65_536 { Err(32) } else { Ok(lines * u64::from(u32::MAX)) });
-        assert_eq!(capi::uses(&b, &[0], &bytes).map(|x| (x[0], x[40])), e.map(|x| (x, x)));
+        assert_eq!(basilvault::uses(&b, &[0], &bytes).map(|x| (x.sums[0], x.total)).map_err(Refusal::number), e.map(|x| (x, x)));
     }
 }
 
@@ -326,7 +367,7 @@ fn compare_reduce(r: &mut Random, l: Limits, b: &[u8], c: &mut Counts) {
     let mut map = vec![0x66u8; if ample { states + r.below(4) } else { around(r, states) }];
     let mut out = vec![0x44u8; if ample { b.len() + r.below(20) } else { around(r, b.len()) }];
     let (mut list2, mut map2, mut out2) = (list.clone(), map.clone(), out.clone());
-    let a = if l == STANDARD { capi::reduce(b, budget, &mut list, &mut map, &mut out) } else { capi::within::reduce(l, b, budget, &mut list, &mut map, &mut out) };
+    let a = flat(if l == STANDARD { basilvault::reduce(b, budget, &mut list, &mut map, &mut out) } else { basilvault::reduce_within(l, b, budget, &mut list, &mut map, &mut out) });
     let e = reference::reduce(l, b, budget, &mut list2, &mut map2, &mut out2);
     same("reduce", b, (a, list, &map, &out), (e.map(|x| x.values()), list2, &map2, &out2));
     c.add("reduce", e);
@@ -341,7 +382,7 @@ fn compare_reduce(r: &mut Random, l: Limits, b: &[u8], c: &mut Counts) {
         let small = reference::parse(l, &out[..v.length]).expect("the quotient is readable").0;
         for _ in 0..3 {
             let script = random::script(r, &t);
-            let [table, reduced] = [b, &out[..v.length]].map(|x| capi::within::script(l, x, &script));
+            let [table, reduced] = [b, &out[..v.length]].map(|x| flat(basilvault::script_within(l, x, &script)));
             assert_eq!(table, reduced, "script {script:?} tells {t:?} and {small:?} apart");
             c.add("script, on table and reduced table", table);
         }
@@ -409,18 +450,18 @@ fn compare_all_maps(t: &Table, c: &mut Counts) {
             None => Ok([classes]),
             Some(k) => Err(k),
         };
-        same("check of every map", &b, capi::check(&b, m), e);
+        same("check of every map", &b, flat(basilvault::check(&b, m)), e);
         c.add("check", e);
     }
-    let most = met.iter().map(|m| reference::joined_pairs(m) as u64).max().unwrap();
+    let most = met.iter().map(|m| reference::joined_pairs(m)).max().unwrap();
     for budget in [0, 1, 2, 3, u64::MAX] {
         let (mut list, mut map, mut out) = (vec![0u16; 40_000], vec![0u8; 40], vec![0u8; b.len()]);
-        if let Ok([_, _, _, _, joined, ceiling, spent]) = capi::reduce(&b, budget, &mut list, &mut map, &mut out) {
+        if let Ok(Reduced { joined, ceiling, spent, .. }) = basilvault::reduce(&b, budget, &mut list, &mut map, &mut out) {
             let found = &map[..t.count()];
             assert!(met.iter().any(|m| &m[..] == found), "the delivered map meets Definition 1");
-            assert_eq!(reference::joined_pairs(found) as u64, joined);
+            assert_eq!(reference::joined_pairs(found), joined);
             assert!(most <= ceiling, "no map that meets it joins more pairs than {ceiling}: {b:02x?}");
-            assert!(spent == 1 || !met.iter().any(|m| joins_more(found, m)), "none coarser meets it: {found:?} of {b:02x?}");
+            assert!(spent || !met.iter().any(|m| joins_more(found, m)), "none coarser meets it: {found:?} of {b:02x?}");
             c.add("every map of a small table", Ok(()));
         }
     }
@@ -471,7 +512,7 @@ fn compare_hard(c: &mut Counts) {
         for &budget in budgets {
             let (mut list, mut map, mut out) = (vec![3u16; 40_000], vec![5u8; 24], vec![9u8; b.len()]);
             let (mut list2, mut map2, mut out2) = (list.clone(), map.clone(), out.clone());
-            let a = capi::reduce(&b, budget, &mut list, &mut map, &mut out);
+            let a = flat(basilvault::reduce(&b, budget, &mut list, &mut map, &mut out));
             let e = reference::reduce(STANDARD, &b, budget, &mut list2, &mut map2, &mut out2);
             same(name, &b, (a, list, map, out), (e.map(|x| x.values()), list2, map2, out2));
             c.add("reduce of a hard table", e);
@@ -479,12 +520,17 @@ fn compare_hard(c: &mut Counts) {
     }
 }
 
+/// The tops as C is answered, in a values buffer of any length; the number.
+fn tops_into(table: &[u8], values: &mut [u64]) -> u32 {
+    unsafe { raw::basilvault_tops(table.as_ptr(), table.len(), values.as_mut_ptr(), values.len()) }
+}
+
 /// A values buffer without room for every value keeps its content, and the number is the same.
 fn compare_short_values(t: &Table) {
     let b = t.bytes();
     for room in 0..46 {
         let mut values = vec![9u64; room];
-        assert_eq!(capi::tops_into(&b, &mut values), 0);
+        assert_eq!(tops_into(&b, &mut values), 0);
         match reference::tops(STANDARD, &b) {
             Ok((w, k)) if room >= 41 => {
                 assert_eq!(values[..40], w);
@@ -493,7 +539,7 @@ fn compare_short_values(t: &Table) {
             }
             _ => assert!(values.iter().all(|&x| x == 9)),
         }
-        assert_eq!(capi::tops_into(&b[1..], &mut vec![9u64; room]), 3);
+        assert_eq!(tops_into(&b[1..], &mut vec![9u64; room]), 3);
     }
 }
 

@@ -1,26 +1,18 @@
 //! The operations once more, written from documents 01 and 02 alone, for comparison. Plain and slow: sets, vectors and nested loops.
 
+pub use basilvault::{Limits, Load};
 use std::collections::{BTreeMap, BTreeSet, VecDeque};
 
 pub const BOTTOM: usize = 40;
-
-/// The limits that a table is read at.
-#[derive(Clone, Copy, Debug, PartialEq, Eq)]
-pub struct Limits {
-    pub states: usize,
-    pub symbols: usize,
-}
 
 /// The limits of a caller that gives none, and the largest.
 pub const STANDARD: Limits = Limits { states: 24, symbols: 32 };
 pub const LARGEST: Limits = Limits { states: 40, symbols: 64 };
 
-impl Limits {
-    /// 39: a limit of zero or past its maximum.
-    fn judged(self) -> Result<(), u8> {
-        let fine = (1..=LARGEST.states).contains(&self.states) && (1..=LARGEST.symbols).contains(&self.symbols);
-        if fine { Ok(()) } else { Err(39) }
-    }
+/// 39: a limit of zero or past its maximum.
+fn judged(l: Limits) -> Result<(), u8> {
+    let fine = (1..=LARGEST.states).contains(&l.states) && (1..=LARGEST.symbols).contains(&l.symbols);
+    if fine { Ok(()) } else { Err(39) }
 }
 
 /// A table as the file holds it.
@@ -122,7 +114,7 @@ fn fault(l: Limits, table: &Table) -> Option<u8> {
 
 /// Reading: the table and the five starts, or the number of the first refusal that applies.
 pub fn parse(l: Limits, b: &[u8]) -> Result<(Table, [usize; 5]), u8> {
-    l.judged()?;
+    judged(l)?;
     if b.len() < 12 || b.len() > 22_540 + l.states + l.symbols {
         return Err(1);
     }
@@ -466,7 +458,7 @@ pub fn search_trying(list: &[Vec<u16>], variables: usize, budget: u64, mut trial
 
 /// The operation search: the guesses made.
 pub fn search(l: Limits, list: &[u16], variables: usize, budget: u64, answer: &mut [u8]) -> Result<u64, u8> {
-    l.judged()?;
+    judged(l)?;
     if variables > l.states * (l.states - 1) / 2 {
         return Err(11);
     }
@@ -640,7 +632,7 @@ pub type Season = [[u64; 8]; 8];
 
 /// The operation season: tables back to back, reduced in order with shared guesses.
 pub fn season(l: Limits, tables: &[u8], lengths: &[u64], guesses: u64, list: &mut [u16], maps: &mut [u8], out: &mut [u8]) -> Result<Season, u8> {
-    l.judged()?;
+    judged(l)?;
     let k = lengths.len();
     let sum: u128 = lengths.iter().map(|&x| u128::from(x)).sum();
     if k == 0 || k > 8 || sum != tables.len() as u128 {
@@ -768,20 +760,9 @@ pub fn choose(l: Limits, b: &[u8], first: &[u8], second: &[u8]) -> Result<u8, u8
     }
 }
 
-/// What a random table is asked to be.
-#[derive(Clone, Copy, Debug)]
-pub struct Load {
-    pub seed: u32,
-    pub states: usize,
-    pub internals: usize,
-    pub calls: usize,
-    pub returns: usize,
-    pub density: u32,
-}
-
 /// The table of a load: each possible record, in file order, takes one draw; or 35 or 36.
 pub fn generated(l: Limits, load: Load) -> Result<Table, u8> {
-    l.judged()?;
+    judged(l)?;
     let Load { mut seed, states, internals, calls, returns, density } = load;
     let symbols = internals as u128 + calls as u128 + returns as u128;
     if states == 0 || states > l.states || symbols > l.symbols as u128 || density > 65_536 {

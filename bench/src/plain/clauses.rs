@@ -2,7 +2,7 @@
 
 use super::table::{parse, Table};
 use super::tops::{has_top, words_of, Words};
-use crate::reference::Limits;
+use basilvault_tests::reference::Limits;
 
 /// The list as far as it was counted, and whether it is written too.
 struct List<'a> {

@@ -1,7 +1,7 @@
 //! Whether the second of two tables accepts every word of the first, by the library's steps.
 
 use super::table::{parse, Table};
-use crate::reference::STANDARD;
+use basilvault_tests::reference::STANDARD;
 
 /// A row of ten words for each of up to 600 pairs.
 type Rows = [u64; 6000];

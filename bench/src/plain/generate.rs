@@ -2,7 +2,7 @@
 
 use super::quotient::write_keys;
 use super::table::limits_fit;
-use crate::reference::{Limits, Load};
+use basilvault_tests::reference::{Limits, Load};
 
 /// The draws that are left, and how often a record is present.
 struct Draws {

@@ -5,7 +5,7 @@ use super::quotient::quotient_read;
 use super::search::solve;
 use super::table::parse;
 use super::tops::words_of;
-use crate::reference::Limits;
+use basilvault_tests::reference::Limits;
 
 /// The map of an assignment: each state gets the class of the lowest state that is joined to it, or a new one.
 fn map_of(values: &[u8], n: usize) -> [u8; 40] {

@@ -2,7 +2,7 @@
 
 use super::table::{parse, Table};
 use super::tops::{has_top, Words};
-use crate::reference::Limits;
+use basilvault_tests::reference::Limits;
 
 /// For each state and symbol, and for the end, where their records begin.
 type Starts = [u16; 40 * 64 + 1];

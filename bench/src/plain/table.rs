@@ -1,6 +1,6 @@
 //! Reading a table.
 
-use crate::reference::Limits;
+use basilvault_tests::reference::Limits;
 
 /// The sections of a table that was read.
 pub struct Table<'a> {

@@ -1,7 +1,7 @@
 //! The reachable stack tops of a table.
 
 use super::table::{parse, Table};
-use crate::reference::Limits;
+use basilvault_tests::reference::Limits;
 
 /// A word of tops a state.
 pub type Words = [u64; 40];

@@ -1,23 +1,11 @@
 //! Writes the cases that the program `cases` is run on and the output that it must give: `cases ROOT` writes crates/cases/stdin and
 //! crates/cases/stdout below ROOT. The answers are the plain implementation's. What document 01 says of a named case is asserted.
 
-#[path = "../frames.rs"]
-mod frames;
-#[path = "../named.rs"]
-#[allow(dead_code)]
-mod named;
-#[path = "../random.rs"]
-#[allow(dead_code)]
-mod random;
-#[path = "../reference.rs"]
-#[allow(dead_code)]
-mod reference;
-
-use frames::{Cases, Room};
-use named::{faults, fewer_pairs, joined_stack_symbols, longest, more_classes, more_faults, named_located, not_transitive, one_undone, one_way, pigeons};
-use named::{silent, t, t_with_call, t_with_return, two_undone, unreachable_stack};
-use random::Random;
-use reference::{Delivery, Limits, Load, Table, LARGEST, STANDARD};
+use basilvault_tests::frames::{Cases, Room};
+use basilvault_tests::named::{faults, fewer_pairs, joined_stack_symbols, longest, more_classes, more_faults, named_located, not_transitive, one_undone, one_way, pigeons};
+use basilvault_tests::named::{self, silent, t, t_with_call, t_with_return, two_undone, unreachable_stack};
+use basilvault_tests::random::{self, Random};
+use basilvault_tests::reference::{self, Delivery, LARGEST, Limits, Load, STANDARD, Table};
 
 /// The words of the list that reduce writes.
 fn short_words(table: &Table) -> usize {

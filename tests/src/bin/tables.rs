@@ -1,16 +1,7 @@
 //! Writes the example tables: `tables ROOT` writes the files of tables/ below ROOT.
 
-#[path = "../named.rs"]
-#[allow(dead_code)]
-mod named;
-#[path = "../random.rs"]
-#[allow(dead_code)]
-mod random;
-#[path = "../reference.rs"]
-#[allow(dead_code)]
-mod reference;
-
-use random::Random;
+use basilvault_tests::named;
+use basilvault_tests::random::{self, Random};
 
 fn main() {
     let root = std::env::args().nth(1).expect("the repository's folder");
