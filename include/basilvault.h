@@ -1,9 +1,19 @@
-/* The reducer's C interface: the operations of the proved library, which `./library` writes to target/lib/libbasilvault.a,
- * each at the limits of 24 states and 32 symbols and, as NAME_within, at given limits of 1 to 40 states and 1 to 64 symbols; others are refused by 39.
+/* The reducer's C interface: the operations of the proved library (README.md says how to build and link it), each at the limits of 24 states and 32
+ * symbols and, as NAME_within, at given limits of 1 to 40 states and 1 to 64 symbols; others are refused by 39.
  *
- * Each function returns the refusal's number, or 0. Where it is 0 and `values` has room for all the answer's values, they are its first
- * elements. Buffers are written as the operations say; a refused call leaves them as they were, but for the clause list of
- * basilvault_reduce with 21. Nothing has to hold before a call but that each pointer is valid for its length. */
+ * A call. Each function returns the refusal's number (enum basilvault_refusal), or 0. Where it is 0 and `values` has room for all the answer's values,
+ * they are its first elements; where it has not, 0 is returned all the same and nothing is stored in it. Buffers are written as the operations say; a
+ * refused call leaves them as they were, but for the clause list of basilvault_reduce with 21, and that of basilvault_season.
+ *
+ * What a caller must see to. Each pointer is valid for its length, counted in elements, and aligned for its type. The buffers of one call do not
+ * overlap: nothing is promised of a call in which one that is written lies over another one. A null pointer with the length 0 is fine. Nothing else has
+ * to hold before a call: any bytes, numbers and lengths are answered or refused.
+ *
+ * What a call takes. Nothing is allocated or kept, and there are no globals: calls from several threads are fine, each on buffers of its own. A call
+ * needs at most BASILVAULT_STACK bytes of stack. Every call ends. The time of basilvault_search, basilvault_reduce and basilvault_season grows with the
+ * guesses that they make, at most the budget. As measured (bench/README.md), a guess of a reduction takes from a fifth of a microsecond to some
+ * microseconds; one of basilvault_search up to 7 milliseconds, on lists that were made to be slow. The others take time in the table's and the script's
+ * length, basilvault_fit up to some tenths of a second. */
 #ifndef BASILVAULT_H
 #define BASILVAULT_H
 
@@ -13,6 +23,86 @@
 #ifdef __cplusplus
 extern "C" {
 #endif
+
+/* The largest limits, and those of a function without limits. */
+#define BASILVAULT_MOST_STATES 40
+#define BASILVAULT_MOST_SYMBOLS 64
+#define BASILVAULT_STANDARD_STATES 24
+#define BASILVAULT_STANDARD_SYMBOLS 32
+
+/* The most records of a kind in a file, and the longest file at limits and at the largest ones. */
+#define BASILVAULT_MOST_INTERNALS 1024
+#define BASILVAULT_MOST_CALLS 1024
+#define BASILVAULT_MOST_RETURNS 4096
+#define BASILVAULT_LONGEST_FILE_WITHIN(states, symbols) ((states) + (symbols) + 22540)
+#define BASILVAULT_LONGEST_FILE 22644
+
+/* The most variables, one for each pair of states; use lines; calls open in a script; tables of a season. */
+#define BASILVAULT_MOST_VARIABLES 780
+#define BASILVAULT_MOST_LINES 65536
+#define BASILVAULT_MOST_OPEN 64
+#define BASILVAULT_MOST_TABLES 8
+
+/* How many values an answer has. */
+#define BASILVAULT_READ_VALUES 5
+#define BASILVAULT_TOPS_VALUES 41
+#define BASILVAULT_CLAUSES_VALUES 2
+#define BASILVAULT_SEARCH_VALUES 1
+#define BASILVAULT_CHECK_VALUES 1
+#define BASILVAULT_QUOTIENT_VALUES 1
+#define BASILVAULT_REDUCE_VALUES 7
+#define BASILVAULT_USES_VALUES 41
+#define BASILVAULT_CHOOSE_VALUES 1
+#define BASILVAULT_SCRIPT_VALUES 1
+#define BASILVAULT_RECORDS_VALUES 4
+#define BASILVAULT_GENERATE_VALUES 1
+#define BASILVAULT_FIT_VALUES 1
+#define BASILVAULT_SEASON_VALUES 64
+
+/* No clause list of a table with n >= 1 states, so many internals and calls together, and so many returns is longer: neither the whole list of
+ * basilvault_clauses nor the shorter one of basilvault_reduce. Most lists are far shorter: the program has room for 32,768 words. */
+#define BASILVAULT_LIST_BOUND(n, moves, returns)                                                                                       \
+    ((size_t)(n) * ((size_t)(n)-1) + 2 * (size_t)(n) * ((size_t)(n)-1) * ((size_t)(n)-2) +                                             \
+     (size_t)(moves) * ((size_t)(n)-1) * ((size_t)(n) + 2) + (size_t)(returns) * (size_t)(n) * (size_t)(n) * ((size_t)(n) + 3))
+
+/* The most bytes of stack that a call takes, as measured, and some to spare. */
+#define BASILVAULT_STACK 327680
+
+/* Why a call is refused. Where several apply, the first in the operation's order is given, 39 before all. */
+enum basilvault_refusal {
+    BASILVAULT_REFUSED_LENGTH = 1,         /* a file of under 12 bytes, or longer than the limits permit */
+    BASILVAULT_REFUSED_VERSION = 2,        /* a version other than 1 and 2 */
+    BASILVAULT_REFUSED_DISTANCES = 3,      /* the first distance is not the length less 12, a distance rises, or a record section is not whole */
+    BASILVAULT_REFUSED_COUNT = 4,          /* a count outside the limits in force */
+    BASILVAULT_REFUSED_BYTE = 5,           /* a symbol byte over 2, or a state byte over 3 in version 1, over 63 in version 2 */
+    BASILVAULT_REFUSED_INITIAL = 6,        /* no initial state */
+    BASILVAULT_REFUSED_RECORD = 7,         /* a record with a state or symbol past the count, or a symbol of another kind */
+    BASILVAULT_REFUSED_ORDER = 8,          /* records that do not ascend */
+    BASILVAULT_REFUSED_LIST = 10,          /* the clause list is longer than its buffer */
+    BASILVAULT_REFUSED_CLAUSES = 11,       /* too many variables, a clause past the end, a variable past the count or twice in a clause */
+    BASILVAULT_REFUSED_NONE = 12,          /* no assignment satisfies the clauses */
+    BASILVAULT_REFUSED_SPENT = 13,         /* the budget of guesses is spent; of basilvault_search alone */
+    BASILVAULT_REFUSED_ANSWER = 14,        /* fewer answer bytes than variables */
+    BASILVAULT_REFUSED_MAP_LENGTH = 15,    /* the map has not one byte a state */
+    BASILVAULT_REFUSED_NUMBERING = 16,     /* class numbers that do not begin at 0 or skip one */
+    BASILVAULT_REFUSED_LOOKS = 17,         /* joined states that differ in accepting or in their mark */
+    BASILVAULT_REFUSED_INTERNALS = 18,     /* an internal move that a joined state does not match */
+    BASILVAULT_REFUSED_CALLS = 19,         /* a call that a joined state does not match */
+    BASILVAULT_REFUSED_RETURNS = 20,       /* a return that a joined state does not match over a joined stack state */
+    BASILVAULT_REFUSED_OUT = 21,           /* the output is too short */
+    BASILVAULT_REFUSED_MAP = 22,           /* the map buffer has under one byte a state */
+    BASILVAULT_REFUSED_SYMBOL = 30,        /* a script with a symbol past the count, anywhere */
+    BASILVAULT_REFUSED_DEPTH = 31,         /* a script with a 65th open call before any return on the empty stack */
+    BASILVAULT_REFUSED_LINES = 32,         /* use lines whose length is not a multiple of 5, or over 65,536 lines */
+    BASILVAULT_REFUSED_LINE_STATE = 33,    /* a use line with a state past the count */
+    BASILVAULT_REFUSED_LENGTHS = 34,       /* no table, more than 8, or lengths that do not add up to the buffer */
+    BASILVAULT_REFUSED_LOAD = 35,          /* a load whose state count, symbol counts added up, or density is outside its limits */
+    BASILVAULT_REFUSED_LOAD_RECORDS = 36,  /* a load with more records of a kind than a file permits */
+    BASILVAULT_REFUSED_SYMBOLS = 37,       /* two tables whose symbols differ */
+    BASILVAULT_REFUSED_CHOICE = 38,        /* a second table with a choice */
+    BASILVAULT_REFUSED_LIMITS = 39,        /* a limit of zero, or past its maximum */
+    BASILVAULT_REFUSED_BOTH_MAPS = 40      /* of two maps the check accepts neither */
+};
 
 /* Five values: the starts of symbols, states, internals, calls and returns. */
 uint32_t basilvault_read(const uint8_t *table, size_t table_len, uint64_t *values, size_t values_len);
