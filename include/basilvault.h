@@ -1,9 +1,9 @@
 /* The reducer's C interface: the operations of the proved library (README.md says how to build and link it), each at the limits of 24 states and 32
- * symbols and, as NAME_within, at given limits of 1 to 40 states and 1 to 64 symbols; others are refused by 39.
+ * symbols and, but for basilvault_fit, as NAME_within at given limits of 1 to 40 states and 1 to 64 symbols; others are refused by 39.
  *
  * A call. Each function returns the refusal's number (enum basilvault_refusal), or 0. Where it is 0 and `values` has room for all the answer's values,
  * they are its first elements; where it has not, 0 is returned all the same and nothing is stored in it. Buffers are written as the operations say; a
- * refused call leaves them as they were, but for the clause list of basilvault_reduce with 21, and that of basilvault_season.
+ * refused call leaves them as they were, but for the clause list of basilvault_reduce with 21.
  *
  * What a caller must see to. Each pointer is valid for its length, counted in elements, and aligned for its type. The buffers of one call do not
  * overlap: nothing is promised of a call in which one that is written lies over another one. A null pointer with the length 0 is fine. Nothing else has
@@ -11,9 +11,9 @@
  *
  * What a call takes. Nothing is allocated or kept, and there are no globals: calls from several threads are fine, each on buffers of its own. A call
  * needs at most BASILVAULT_STACK bytes of stack. Every call ends. The time of basilvault_search, basilvault_reduce and basilvault_season grows with the
- * guesses that they make, at most the budget. As measured (bench/README.md), a guess of a reduction takes from a fifth of a microsecond to some
- * microseconds; one of basilvault_search up to 7 milliseconds, on lists that were made to be slow. The others take time in the table's and the script's
- * length, basilvault_fit up to some tenths of a second. */
+ * guesses that they make, at most the budget. On the hardest tables that were found a guess of a reduction takes 0.1 to 0.3 microseconds; where the
+ * clause list has over 32,768 words each guess goes over the whole list. A guess of basilvault_search can take milliseconds, on lists that were made to
+ * be slow (bench/README.md). basilvault_fit took an eighth of a second on the worst tables that were made. */
 #ifndef BASILVAULT_H
 #define BASILVAULT_H
 
