@@ -19,10 +19,10 @@ use Rattle.maps.proofs.Checking.{accepted-number}
 use Rattle.fates.specs.declared.Recorded.{Recorded}
 use Rattle.fates.specs.Fates.{recordCount, countsOf, RecordsDone, recordsOf}
 use Rattle.fates.proofs.Answers.{records-told}
-use Rattle.reduce.specs.declared.Reduction.{Reduction}
-use Rattle.reduce.specs.declared.Reduction.the-variants.{Delivered, Refused}
-use Rattle.reduce.specs.Reduce.{reduceOf}
-use Rattle.reduce.specs.Demands.{mapWritten, DeliversChecked}
+use Rattle.reductions.specs.declared.Reduction.{Reduction}
+use Rattle.reductions.specs.declared.Reduction.the-variants.{Delivered, Refused}
+use Rattle.reductions.specs.Reduce.{reduceOf}
+use Rattle.reductions.specs.Demands.{mapWritten, DeliversChecked}
 use Rattle.basilvault.specs.Program.{widest}
 use Rattle.basilvault.specs.Text.{countsText, mapText, tableText, goingText, refusedText, reductionText, reducedText, printed}
 

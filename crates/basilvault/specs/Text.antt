@@ -11,10 +11,10 @@ use Rattle.table.specs.Language.{count}
 use Rattle.fates.specs.declared.Recorded.{Recorded}
 use Rattle.fates.specs.declared.Recorded.the-variants.{Counts, Refused as Recorded·Refused}
 use Rattle.fates.specs.Fates.{countsOf}
-use Rattle.reduce.specs.declared.Reduction.{Reduction}
-use Rattle.reduce.specs.declared.Reduction.the-variants.{Delivered, Refused}
-use Rattle.reduce.specs.Reduce.{Reduced, reduceOf}
-use Rattle.reduce.specs.Demands.{mapWritten}
+use Rattle.reductions.specs.declared.Reduction.{Reduction}
+use Rattle.reductions.specs.declared.Reduction.the-variants.{Delivered, Refused}
+use Rattle.reductions.specs.Reduce.{Reduced, reduceOf}
+use Rattle.reductions.specs.Demands.{mapWritten}
 use Rattle.basilvault.specs.Program.{widest}
 
 -- bytes were put behind the first `at` bytes of a text, which r bytes then are: what stood before them is as it was

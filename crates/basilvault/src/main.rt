@@ -18,7 +18,7 @@ use libc::STDERR_FILENO;
 use libc::STDIN_FILENO;
 use libc::STDOUT_FILENO;
 use limits::Limits;
-use reduce::Reduction;
+use reductions::Reduction;
 use table::Reading;
 use table::Section;
 

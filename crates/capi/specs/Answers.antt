@@ -9,12 +9,12 @@ use Rattle.table.specs.declared.Reading.{Reading}
 use Rattle.table.specs.Reading.{readingNumber, readingValues}
 use Rattle.tops.specs.declared.TopWords.{TopWords}
 use Rattle.tops.specs.Tops.{topsValues}
-use Rattle.clauses.specs.Clauses.{ClausesDone, listedNumber, listedValues}
+use Rattle.encoding.specs.Clauses.{ClausesDone, listedNumber, listedValues}
 use Rattle.search.specs.Answers.{Searched, solutionNumber, solutionValues}
 use Rattle.maps.specs.declared.Checked.{Checked}
 use Rattle.maps.specs.Check.{checkedNumber, checkedValues}
-use Rattle.quotient.specs.Quotient.{QuotientDone, writtenNumber, writtenValues}
-use Rattle.reduce.specs.Reduce.{Reduced, reductionNumber, reductionValues}
+use Rattle.quotients.specs.Quotient.{QuotientDone, writtenNumber, writtenValues}
+use Rattle.reductions.specs.Reduce.{Reduced, reductionNumber, reductionValues}
 use Rattle.uses.specs.declared.Counted.{Counted}
 use Rattle.uses.specs.Uses.{countedValues}
 use Rattle.choose.specs.declared.Choice.{Choice}

@@ -1,11 +1,3 @@
-pub mod Tidy
-pub mod Related
-pub mod Groups
-pub mod Models
-pub mod Maps
-pub mod Formed
-pub mod Assignments
-pub mod Theorems
 pub mod Collecting
 pub mod Emitting
 pub mod Stepping
@@ -17,4 +9,3 @@ pub mod Moving
 pub mod Returning
 pub mod Writing
 pub mod Whole
-pub mod Short

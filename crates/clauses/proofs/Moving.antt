@@ -16,8 +16,8 @@ use Rattle.table.specs.File.{records}
 use Rattle.table.specs.Language.{targets}
 use Rattle.table.specs.Spans.{startsWith}
 use Rattle.tops.proofs.Loops.{record-byte}
+use Rattle.encoding.specs.Clauses.{premise, moveClause}
 use Rattle.clauses.specs.declared.literals.Literals.{Literals}
-use Rattle.clauses.specs.Clauses.{premise, moveClause}
 use Rattle.clauses.specs.Emit.{literalsOf, withAll, Holds, matchingFrom, lastBytes, Sorted, State, emit}
 use Rattle.clauses.proofs.Tidying.{matching-one}
 use Rattle.clauses.proofs.Targeting.{with-length}

@@ -21,9 +21,9 @@ use Rattle.table.specs.Language.{targets}
 use Rattle.table.specs.Spans.{startsWith}
 use Rattle.tops.specs.Tops.{live}
 use Rattle.tops.proofs.Loops.{record-byte}
+use Rattle.encoding.specs.Clauses.{premise, returnClause, topStates}
 use Rattle.clauses.specs.declared.literals.Literals.{Literals}
 use Rattle.clauses.specs.declared.returns.Return.{Return}
-use Rattle.clauses.specs.Clauses.{premise, returnClause, topStates}
 use Rattle.clauses.specs.Emit.{literalsOf, withAll, Holds, matchingFrom, lastBytes, Sorted, returnOf, liveRecord, returnClausesBy, State, Ordered, emit}
 use Rattle.clauses.proofs.Emitting.{Coming, coming, come-on, come-as, come-all, come}
 use Rattle.clauses.proofs.Stepping.{Along, along-all, along-here, along-on}

@@ -13,8 +13,8 @@ use Rattle.pairs.specs.Triangles.{together, apart}
 use Rattle.table.specs.File.{records}
 use Rattle.table.proofs.Walks.{records-cons, records-end}
 use Rattle.tops.proofs.Loops.{record-byte}
+use Rattle.encoding.specs.Clauses.{opposite, premise}
 use Rattle.clauses.specs.declared.literals.Literals.{Literals}
-use Rattle.clauses.specs.Clauses.{opposite, premise}
 use Rattle.clauses.specs.Emit.{literalsOf, withLiteral, withAll, Holds, matchingFrom, lastBytes, State, emit}
 use Rattle.clauses.proofs.Tidying.{Matching, match-itself, match-both, match-on, matched}
 

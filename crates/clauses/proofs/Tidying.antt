@@ -10,9 +10,9 @@ use borrow.Author.Tests.{eq-eqb, ne-eqb}
 use Rattle.lists.specs.Lists.{any, mem}
 use Rattle.lists.proofs.Members.{any-true, any-false, mem-true, mem-false, mem-snoc}
 use Rattle.pairs.specs.Triangles.{together, apart}
-use Rattle.clauses.specs.Clauses.{opposite, once, tidy, premise, matching}
+use Rattle.encoding.specs.Clauses.{opposite, once, tidy, premise, matching}
+use Rattle.encoding.proofs.Tidy.{opposite-half, opposite-sign}
 use Rattle.clauses.specs.Emit.{withLiteral, withAll, tidyFrom, matchingFrom}
-use Rattle.clauses.proofs.Tidy.{opposite-half, opposite-sign}
 
 opposite-twice : (l : ℕ) → opposite (opposite l) ≡ l
 opposite-twice l = omega (arith, opposite-half (opposite l), opposite-half l, opposite-sign (opposite l), opposite-sign l)

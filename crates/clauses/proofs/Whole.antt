@@ -1,24 +1,19 @@
--- The clause list of a table that was read: its groups one behind the other, its sections as parts of the file, its answer, and what the written list
--- is worth (demand 3). Assumes nothing.
-use mathlib.Core.Path.{_≡_, refl, sym, ap, _∙_, subst}
+-- The clause list of a table that was read: its groups one behind the other, its sections as parts of the file, and its answer. Assumes nothing.
+use mathlib.Core.Path.{_≡_, refl, sym, ap, _∙_}
 use mathlib.Core.Logic.{_≢_}
 use mathlib.Core.Bool.{Bool, true, false}
 use mathlib.Core.List.{List, _++_, append-nil}
 use Prim.Native.Nat.{ℕ}
 use native.Mathlib.Omega.{arith}
-use lib.ListN.{length, take, drop, replicate}
-use lib.Seq.{slice, take-append-seam}
+use lib.ListN.{length, replicate}
+use lib.Seq.{slice}
 use lib.Dec.{eqb, leb}
-use borrow.Author.Tests.{eq-eqb, ne-eqb, eqb-true}
-use Rattle.lists.specs.Lists.{over}
-use Rattle.cnf.specs.Clauses.{Model, clausesIn, wordsOf}
-use Rattle.cnf.proofs.Words.{clauses-words}
+use borrow.Author.Tests.{eq-eqb, ne-eqb}
+use Rattle.cnf.specs.Clauses.{wordsOf}
 use Rattle.limits.specs.declared.Limits.{Limits}
 use Rattle.limits.specs.Limits.{stateMost}
-use Rattle.pairs.specs.Pairs.{pairs}
 use Rattle.table.specs.File.{trailer, start, tableOf, records}
 use Rattle.table.specs.Reading.{readNumber, Readable, startsOf}
-use Rattle.table.specs.Language.{count}
 use Rattle.table.specs.Sections.{partOf}
 use Rattle.table.specs.declared.Starts.{Starts}
 use Rattle.table.specs.declared.view.Section.the-variants.{States, Internals, Calls, Returns}
@@ -31,13 +26,10 @@ use Rattle.tops.specs.declared.Examined.{Examined}
 use Rattle.tops.proofs.Loops.{section-within}
 use Rattle.tops.proofs.Read.{sections-read}
 use Rattle.maps.specs.Sections.{Known}
-use Rattle.clauses.specs.declared.Listed.{Listed}
-use Rattle.clauses.specs.declared.Listed.the-variants.{Refused}
-use Rattle.clauses.specs.Clauses.{lookClauses, transitivity, moveClauses, returnClauses, clauseList, shortList, clauseWords, clausesNumber, ClausesDone, clausesOf}
+use Rattle.encoding.specs.declared.Listed.the-variants.{Refused}
+use Rattle.encoding.specs.Clauses.{lookClauses, transitivity, moveClauses, returnClauses, clauseList, shortList, clauseWords, clausesNumber, ClausesDone, clausesOf}
 use Rattle.clauses.specs.Emit.{State, emit, statesOnly, returnClausesBy, Ready, listFor, closureFor, listBy, listedBy}
-use Rattle.clauses.specs.Demands.{ListSound}
 use Rattle.clauses.proofs.Emitting.{emit-append}
-use Rattle.clauses.proofs.Theorems.{model-accepted}
 
 -- ---- group 2, where the list is to be whole
 
@@ -137,31 +129,3 @@ module _ (L : Limits) (b : List ℕ) {x : Examined} (e : x ≡ examinedOf L b) w
       go false p f =
           let n : clausesNumber L b list ≡ readNumber L b = rw (p, clausesNumber) in
           refused L b list (n ∙ sym (ap (λ (y : Examined). y .number) f)) h
-
--- ---- demand 3
-
--- where the answer is a list, the bytes were read and the words fit
-fit : (L : Limits) (b list : List ℕ) → clausesNumber L b list ≡ 0 → Readable L b
-unfolding clausesNumber
-fit L b list e = go (eqb (readNumber L b) 0) refl e
-  where
-    go : (t : Bool) → eqb (readNumber L b) 0 ≡ t → _≡_ {A = ℕ} (elim t [ true ↦ elim (leb (length (clauseWords (tableOf b))) (length list)) [ true ↦ 0 | false ↦ 10 ] | false ↦ readNumber L b ]) 0 → Readable L b
-    go true p f = eqb-true _ _ p
-    go false p f = f
-
-sound : (L : Limits) (b list : List ℕ) → ListSound L b (clausesOf L b list .list) (clausesOf L b list .answer)
-unfolding clausesOf clauseWords over
-sound L b list = go (eqb (clausesNumber L b list) 0) refl
-  where
-    cs : List (List ℕ)
-    cs = clauseList (tableOf b)
-
-    there : clausesIn (take (length (wordsOf cs)) (wordsOf cs ++ drop (length (wordsOf cs)) list)) ≡ cs
-    there = ap clausesIn (take-append-seam (wordsOf cs) (drop (length (wordsOf cs)) list)) ∙ clauses-words cs
-
-    go : (t : Bool) → eqb (clausesNumber L b list) 0 ≡ t → ListSound L b (clausesOf L b list .list) (clausesOf L b list .answer)
-    go true p = rw (p, clausesOf) (λ v m. model-accepted L b (fit L b list (eqb-true _ _ p)) v (subst (λ (ds : List (List ℕ)). Model ds (pairs (count (tableOf b))) v) there m))
-    go false p = rw (p, clausesOf) tt
-
-pub sound-of : (L : Limits) (b list : List ℕ) {r : Listed} {list' : List ℕ} → record { answer = r; list = list' } ≡ clausesOf L b list → ListSound L b list' r
-sound-of L b list {r} {list'} e = subst (λ (d : ClausesDone). ListSound L b (d .list) (d .answer)) (sym e) (sound L b list)

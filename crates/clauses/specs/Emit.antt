@@ -16,11 +16,11 @@ use Rattle.table.specs.Language.{byteOf, look}
 use Rattle.tops.specs.Tops.{live}
 use Rattle.tops.specs.Sections.{Section}
 use Rattle.cnf.specs.Clauses.{wordsOf}
-use Rattle.clauses.specs.declared.Listed.the-variants.{List as Words, Refused}
+use Rattle.encoding.specs.declared.Listed.the-variants.{List as Words, Refused}
+use Rattle.encoding.specs.Clauses.{opposite, lookClauses, transitivity, moveClauses, returnClause, topStates, ClausesDone, clauseList, shortList}
 use Rattle.clauses.specs.declared.returns.Return.{Return}
 use Rattle.clauses.specs.declared.literals.Literals.{Literals}
 use Rattle.clauses.specs.declared.emit.Tally.{Tally}
-use Rattle.clauses.specs.Clauses.{opposite, lookClauses, transitivity, moveClauses, returnClause, topStates, ClausesDone, clauseList, shortList}
 
 -- ---- the literals of a clause
 

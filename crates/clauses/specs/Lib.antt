@@ -1,4 +1,1 @@
-pub mod Clauses
-pub mod Maps
 pub mod Emit
-pub mod Demands

@@ -5,10 +5,11 @@ ghost use lib.ListN.{length};
 ghost use Rattle.limits.specs.Limits.{standard, stateMost};
 ghost use Rattle.table.specs.File.{tableOf};
 ghost use Rattle.maps.specs.Sections.{Known};
-ghost use Rattle.clauses.specs.Clauses.{clausesOf};
+ghost use Rattle.encoding.specs.Clauses.{clausesOf};
+ghost use Rattle.encoding.specs.Demands.{ListSound};
 ghost use Rattle.clauses.specs.Emit.{state, Ordered, emit, statesOnly, closureFor, Ready, listFor, listBy, listedBy};
-ghost use Rattle.clauses.specs.Demands.{ListSound};
 use emit::Tally;
+use encoding::Listed;
 use limits::Limits;
 use moves::moves;
 use returns::live_returns;
@@ -23,13 +24,6 @@ mod matched;
 mod moves;
 mod returns;
 mod states;
-
-// What writing the clause list answers.
-pub enum Listed {
-    List { clauses: usize, words: usize },
-    // 39, 1 to 8, 10
-    Refused(u8),
-}
 
 // Group 2, where the list is to be whole.
 fn closure(whole: bool, states: &[u8], tally: Tally, list: &mut [u16]) -> Tally

@@ -5,7 +5,7 @@ ghost use Prim.Native.Nat.{_<_, _≤_};
 ghost use lib.ListN.{length, take};
 ghost use Rattle.lists.specs.Lists.{mem};
 ghost use Rattle.pairs.specs.Triangles.{together, apart};
-ghost use Rattle.clauses.specs.Clauses.{opposite};
+ghost use Rattle.encoding.specs.Clauses.{opposite};
 ghost use Rattle.clauses.specs.Emit.{literalsOf, withLiteral, Holds};
 use pairs::variable_of;
 

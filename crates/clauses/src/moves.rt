@@ -2,7 +2,7 @@
 ghost use mathlib.Core.Path.{_≡_};
 ghost use Rattle.lists.specs.Lists.{gather, upto};
 ghost use Rattle.table.specs.File.{records};
-ghost use Rattle.clauses.specs.Clauses.{moveClause, moveClauses};
+ghost use Rattle.encoding.specs.Clauses.{moveClause, moveClauses};
 ghost use Rattle.clauses.specs.Emit.{Sorted, state, Ordered, emit};
 use super::emit::Tally;
 use super::literals::no_literals;

@@ -6,7 +6,7 @@ ghost use lib.Dec.{eqb};
 ghost use Rattle.lists.specs.Lists.{gather, keep, upto};
 ghost use Rattle.lists.specs.Bits.{hasBit, has};
 ghost use Rattle.table.specs.File.{records};
-ghost use Rattle.clauses.specs.Clauses.{topStates};
+ghost use Rattle.encoding.specs.Clauses.{topStates};
 ghost use Rattle.clauses.specs.Emit.{Sorted, returnOf, liveRecord, returnClausesBy, state, Ordered, emit};
 use super::emit::Tally;
 use super::literals::no_literals;

@@ -8,7 +8,7 @@ ghost use Rattle.limits.specs.Limits.{stateMost};
 ghost use Rattle.pairs.specs.Pairs.{pairs, pairOf};
 ghost use Rattle.pairs.specs.Entries.{PairTable};
 ghost use Rattle.pairs.specs.Triangles.{triangle, past};
-ghost use Rattle.clauses.specs.Clauses.{lookClauses, transitivity};
+ghost use Rattle.encoding.specs.Clauses.{lookClauses, transitivity};
 ghost use Rattle.clauses.specs.Emit.{Holds, state, Ordered, emit, statesOnly, lookClause};
 use super::emit::Tally;
 use super::emit::put;

@@ -13,8 +13,8 @@ use Rattle.limits.specs.declared.Limits.{Limits}
 use Rattle.table.specs.File.{Table, tableOf}
 use Rattle.maps.specs.Check.{checkNumber}
 use Rattle.maps.proofs.Accepted.{accepted}
-use Rattle.quotient.specs.Quotient.{quotientTable, quotientBytes}
-use Rattle.quotient.proofs.Theorems.{quotient-table}
+use Rattle.quotients.specs.Quotient.{quotientTable, quotientBytes}
+use Rattle.quotients.proofs.Theorems.{quotient-table}
 use Rattle.fates.specs.declared.Recorded.{Recorded}
 use Rattle.fates.specs.declared.Recorded.the-variants.{Counts, Refused}
 use Rattle.fates.specs.Fates.{fatesOf, recordCount, countsOf, recordsNumber, RecordsDone, recordsOf}

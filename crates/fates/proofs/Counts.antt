@@ -14,10 +14,9 @@ use Rattle.table.specs.File.{Table}
 use Rattle.table.specs.Reading.{ascend}
 use Rattle.table.proofs.Order.{ascend-unique}
 use Rattle.tops.specs.Tops.{topWords, live, liveReturns}
-use Rattle.quotient.specs.Quotient.{image, insert, ascending, images, quotientTable}
-use Rattle.quotient.proofs.Ascending.{Inserted, first, later, there, inserted, insert-mem, insert-new, insert-old, insert-ascends, ascending-ascends}
-use Rattle.quotient.proofs.Image.{images-mem}
-use Rattle.quotient.proofs.Quotienting.{keep-every}
+use Rattle.quotients.specs.Quotient.{image, insert, ascending, images, quotientTable}
+use Rattle.quotients.proofs.Ascending.{Inserted, first, later, there, inserted, insert-mem, insert-new, insert-old, insert-ascends, ascending-ascends}
+use Rattle.quotients.proofs.Image.{images-mem, keep-every}
 use Rattle.fates.specs.Fates.{keptMark, foldedMark, deadMark, taken, fate, fatesBehind, fatesOf, recordCount, having}
 
 -- ---- one record more among ascending ones

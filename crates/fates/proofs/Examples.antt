@@ -14,7 +14,7 @@ use Rattle.table.specs.Language.{look, targets}
 use Rattle.table.specs.Maps.{joins, numberedFrom, numbered}
 use Rattle.tops.specs.Tops.{add, byInternals, byCalls, live, byReturns, round, rounds, startWords, topWordsAt}
 use Rattle.maps.specs.Check.{looksAgree, moveMatched, movesMatched, returnMatched, returnsMatched, mapTests, checkNumber}
-use Rattle.quotient.specs.Quotient.{image}
+use Rattle.quotients.specs.Quotient.{image}
 use Rattle.fates.specs.Fates.{taken, fate, fatesBehind, fatesOf, recordCount, having, countsOf, recordsNumber, recordsOf, recordedNumber, recordedValues}
 
 -- the symbols and states of table T, with these records

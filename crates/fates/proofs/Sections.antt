@@ -6,7 +6,7 @@ use Prim.Native.Nat.{ℕ, zero, suc, _<_}
 use native.Mathlib.Omega.{arith}
 use lib.ListN.{length, getD, take}
 use Rattle.lists.specs.Lists.{any, same}
-use Rattle.quotient.specs.Quotient.{image}
+use Rattle.quotients.specs.Quotient.{image}
 use Rattle.fates.specs.Fates.{taken, fate, fatesBehind}
 
 -- a record's fate, by the records before it

@@ -9,7 +9,7 @@ use Rattle.limits.specs.declared.Limits.{Limits}
 use Rattle.table.specs.File.{Table, tableOf}
 use Rattle.tops.specs.Tops.{topWords, live}
 use Rattle.maps.specs.Check.{checkNumber}
-use Rattle.quotient.specs.Quotient.{image}
+use Rattle.quotients.specs.Quotient.{image}
 use Rattle.fates.specs.declared.Recorded.{Recorded}
 use Rattle.fates.specs.declared.Recorded.the-variants.{Counts, Refused}
 

@@ -14,7 +14,7 @@ use Rattle.table.specs.File.{records}
 use Rattle.table.specs.Reading.{isInitial, before, ascendFrom, ascend}
 use Rattle.table.proofs.Order.{first-cases, by-first, by-others, before-irreflexive, before-transitive, ascend-rest}
 use Rattle.table.proofs.Walks.{records-cons, records-end}
-use Rattle.quotient.specs.Quotient.{bitOf}
+use Rattle.quotients.specs.Quotient.{bitOf}
 use Rattle.fitting.specs.Fit.{oneTarget}
 
 -- ---- the order of the first w bytes

@@ -10,7 +10,7 @@ use Rattle.table.specs.File.{word16, trailer, distance, version, start, records
 use Rattle.table.specs.Reading.{lengthFits, versionFits, distancesFit, countsFit, stateByteMost, bytesFit, isInitial, isAccepting, startFits, recordFits, recordsFit, before, ascendFrom, ascend, orderFits, tableTests, readNumber}
 use Rattle.table.specs.Language.{targets}
 use Rattle.tops.specs.Tops.{add, byInternals, byCalls, live, byReturns, round, rounds, startWords, topWordsAt}
-use Rattle.quotient.specs.Quotient.{bitOf}
+use Rattle.quotients.specs.Quotient.{bitOf}
 use Rattle.fitting.specs.declared.Fitting.{Fitting}
 use Rattle.fitting.specs.Fit.{after, pairMove, pairMoves, pairReturn, pairReturns, pairByte, pairTable, ends, fits, oneTarget, oneInitial, noChoice, sameSymbols, fitNumber, fitOf, fittingNumber, fittingValues}
 

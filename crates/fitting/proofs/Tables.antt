@@ -15,7 +15,7 @@ use Rattle.table.specs.Reading.{isInitial, isAccepting}
 use Rattle.table.specs.Language.{count, byteOf, targets, automaton}
 use Rattle.table.proofs.Facts.{targets-mem, mem-targets, three-bytes, four-bytes}
 use Rattle.tops.proofs.Bounded.{Moves, Pops, Bounded, lawful}
-use Rattle.quotient.specs.Quotient.{bitOf}
+use Rattle.quotients.specs.Quotient.{bitOf}
 use Rattle.fitting.specs.Fit.{pairOf, firstOf, secondOf, after, pairMove, pairMoves, pairReturn, pairReturns, pairByte, pairTable, pairCount}
 use Rattle.fitting.proofs.Numbers.{pair-first, pair-second, pair-whole, second-below, pair-below}
 use Rattle.fitting.proofs.Pairing.{Dead, After, moved, stuck, Paired}

@@ -8,8 +8,8 @@ use Rattle.limits.specs.Limits.{standard}
 use Rattle.table.specs.File.{tableOf}
 use Rattle.maps.specs.Check.{checkNumber}
 use Rattle.maps.proofs.Accepted.{accepted}
-use Rattle.quotient.specs.Quotient.{quotientBytes}
-use Rattle.quotient.proofs.Theorems.{keeps-words, is-quotient}
+use Rattle.quotients.specs.Quotient.{quotientBytes}
+use Rattle.quotients.proofs.Theorems.{keeps-words, is-quotient}
 use Rattle.fitting.specs.declared.Fitting.{Fitting}
 use Rattle.fitting.specs.declared.Fitting.the-variants.{Yes}
 use Rattle.fitting.specs.Fit.{noChoice, fitNumber, fitOf, fittingNumber}

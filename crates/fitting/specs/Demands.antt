@@ -7,7 +7,7 @@ use Rattle.limits.specs.declared.Limits.{Limits}
 use Rattle.table.specs.File.{Table}
 use Rattle.table.specs.Language.{automaton, OneTarget, AcceptsWord}
 use Rattle.maps.specs.Check.{checkNumber}
-use Rattle.quotient.specs.Quotient.{quotientBytes}
+use Rattle.quotients.specs.Quotient.{quotientBytes}
 use Rattle.fitting.specs.declared.Fitting.{Fitting}
 use Rattle.fitting.specs.declared.Fitting.the-variants.{Yes, No}
 use Rattle.fitting.specs.Fit.{fitOf, fittingNumber}

@@ -11,7 +11,7 @@ use Rattle.table.specs.File.{Table, tableOf}
 use Rattle.table.specs.Reading.{isInitial, isAccepting, readNumber}
 use Rattle.table.specs.Language.{count, byteOf, targets}
 use Rattle.tops.specs.Tops.{topWordsAt}
-use Rattle.quotient.specs.Quotient.{bitOf}
+use Rattle.quotients.specs.Quotient.{bitOf}
 use Rattle.fitting.specs.declared.Fitting.{Fitting}
 use Rattle.fitting.specs.declared.Fitting.the-variants.{Yes, No, Refused}
 

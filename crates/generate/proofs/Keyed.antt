@@ -13,10 +13,10 @@ use Rattle.lists.proofs.Members.{and-true, and-of}
 use Rattle.table.specs.File.{bytesOf}
 use Rattle.table.specs.Keys.{key}
 use Rattle.table.proofs.Bytes.{Bytes}
+use Rattle.quotients.specs.Quotient.{QuotientDone}
+use Rattle.quotients.specs.declared.Written.the-variants.{Refused}
 use Rattle.quotient.specs.Keys.{keysOf, lastBytes, Holds}
-use Rattle.quotient.specs.Quotient.{QuotientDone}
 use Rattle.quotient.specs.Sections.{keyedTable, writtenFor}
-use Rattle.quotient.specs.declared.Written.the-variants.{Refused}
 use Rattle.quotient.proofs.Keys.{Same}
 use Rattle.quotient.proofs.Quotienting.{keys-back}
 use Rattle.loads.specs.Loads.{Load, symbolBytes, stateBytes, possible, present, possibleInternals, possibleCalls, possibleReturns, seedCalls, seedReturns, described, describedBytes, recordsFew}

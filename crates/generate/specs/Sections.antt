@@ -10,10 +10,10 @@ use Rattle.lists.specs.Lists.{upto}
 use Rattle.limits.specs.Limits.{stateMost, symbolMost}
 use Rattle.table.specs.Limits.{moveLimit, returnLimit}
 use Rattle.table.specs.Keys.{key}
-use Rattle.quotient.specs.Quotient.{QuotientDone}
+use Rattle.quotients.specs.Quotient.{QuotientDone}
+use Rattle.quotients.specs.declared.Written.the-variants.{Refused}
 use Rattle.quotient.specs.Keys.{keysOf, Holds}
 use Rattle.quotient.specs.Sections.{writtenFor}
-use Rattle.quotient.specs.declared.Written.the-variants.{Refused}
 use Rattle.loads.specs.Loads.{Load, tuples, present, after, recordsFew, described, describedBytes}
 use Rattle.generate.specs.declared.draws.Drawn.{Drawn}
 

@@ -6,7 +6,7 @@ ghost use Rattle.loads.specs.Loads.{loadOf, sizesFit, generateOf};
 ghost use Rattle.loads.specs.Demands.{WritesReadable, WritesDescribed};
 ghost use Rattle.generate.specs.Sections.{Counts, drawnFor};
 use limits::Limits;
-use quotient::Written;
+use quotients::Written;
 
 mod draws;
 mod write;

@@ -7,7 +7,7 @@ ghost use Rattle.table.specs.File.{bytesOf};
 ghost use Rattle.quotient.specs.Sections.{keyedTable, writtenFor};
 ghost use Rattle.loads.specs.Loads.{kindOf, symbolBytes, stateByte, stateBytes};
 ghost use Rattle.generate.specs.Sections.{Counts, FewKeys};
-use quotient::Written;
+use quotients::Written;
 
 // The byte of a symbol: "numbered in that order".
 fn kind_of(internals: usize, calls: usize, symbol: usize) -> u8

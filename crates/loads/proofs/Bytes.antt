@@ -10,7 +10,7 @@ use borrow.Author.Tests.{lt-ltb, le-ltb, lt-leb, le-leb, eq-eqb, ne-eqb}
 use Rattle.lists.specs.Lists.{upto}
 use Rattle.lists.proofs.Members.{getD-map, length-upto, getD-upto}
 use Rattle.limits.specs.declared.Limits.{Limits}
-use Rattle.quotient.specs.Quotient.{bitOf}
+use Rattle.quotients.specs.Quotient.{bitOf}
 use Rattle.loads.specs.Loads.{kindOf, symbolBytes, stateByte, stateBytes, sizesFit}
 
 -- ---- one number for each number below n

@@ -15,8 +15,8 @@ use Rattle.table.specs.File.{tableOf}
 use Rattle.table.specs.Reading.{versionFits, stateByteMost, isInitial, recordFits, Readable, WellFormed}
 use Rattle.table.proofs.Passed.{Wide, Tested, formed-of}
 use Rattle.table.proofs.Bytes.{table-of-bytes, read-bytes}
-use Rattle.quotient.specs.Quotient.{bitOf}
-use Rattle.quotient.proofs.States.{bit-small}
+use Rattle.quotients.specs.Quotient.{bitOf}
+use Rattle.quotients.proofs.States.{bit-small}
 use Rattle.loads.specs.Loads.{Load, kindOf, symbolBytes, stateByte, stateBytes, possible, possibleInternals, possibleCalls, possibleReturns, seedCalls, seedReturns, described, describedBytes, sizesFit, recordsFew}
 use Rattle.loads.proofs.Tuples.{Possible, possible-of, possible-ascend}
 use Rattle.loads.proofs.Present.{present-mem, present-ascends}

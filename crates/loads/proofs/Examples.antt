@@ -7,7 +7,7 @@ use Rattle.lists.specs.Lists.{gather, upto, flat, firstFailed}
 use Rattle.limits.specs.declared.Limits.{Limits}
 use Rattle.limits.specs.Limits.{standard, limitsFit}
 use Rattle.table.specs.File.{bytes16, fromReturns, fromCalls, fromInternals, fromStates, fromSymbols, trailerOf, bytesOf}
-use Rattle.quotient.specs.Quotient.{bitOf}
+use Rattle.quotients.specs.Quotient.{bitOf}
 use Rattle.loads.specs.Loads.{Load, loadOf, draw, kindOf, symbolBytes, stateByte, stateBytes, tuples, span, possible, present, after, possibleInternals, possibleCalls, possibleReturns, seedCalls, seedReturns, described, describedBytes, sizesFit, recordsFew, generateNumber}
 
 -- two states and a symbol of each kind, drawn from seed 0: the first draw is 1,013,904,223, above 15,470 times 65,536

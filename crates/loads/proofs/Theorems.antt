@@ -14,10 +14,10 @@ use Rattle.limits.specs.declared.Limits.{Limits}
 use Rattle.limits.specs.Limits.{limitsFit}
 use Rattle.table.specs.File.{tableOf}
 use Rattle.table.specs.Reading.{Readable}
-use Rattle.quotient.specs.Quotient.{QuotientDone}
-use Rattle.quotient.specs.Demands.{OnWriting}
-use Rattle.quotient.specs.declared.Written.{Written}
-use Rattle.quotient.specs.declared.Written.the-variants.{Length, Refused}
+use Rattle.quotients.specs.Quotient.{QuotientDone}
+use Rattle.quotients.specs.Demands.{OnWriting}
+use Rattle.quotients.specs.declared.Written.{Written}
+use Rattle.quotients.specs.declared.Written.the-variants.{Length, Refused}
 use Rattle.loads.specs.Loads.{Load, described, describedBytes, sizesFit, recordsFew, generateNumber, generateOf}
 use Rattle.loads.specs.Demands.{WritesReadable, WritesDescribed}
 use Rattle.loads.proofs.Described.{described-read, described-table}

@@ -14,8 +14,8 @@ use Rattle.lists.specs.Lists.{all, gather, upto}
 use Rattle.lists.proofs.Members.{getD-map, gather-mem, upto-mem, length-upto, getD-upto, and-of}
 use Rattle.table.specs.Reading.{before, ascendFrom, ascend}
 use Rattle.table.proofs.Order.{by-first, by-others, ascend-behind, ascend-rest, ascend-cons}
+use Rattle.quotients.proofs.Table.{mem-index}
 use Rattle.quotient.specs.Keys.{Rising}
-use Rattle.quotient.proofs.Table.{mem-index}
 use Rattle.loads.specs.Loads.{tuples, span, possible}
 
 -- ---- how many, and which

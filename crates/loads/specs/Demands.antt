@@ -6,8 +6,8 @@ use lib.ListN.{take}
 use Rattle.limits.specs.declared.Limits.{Limits}
 use Rattle.table.specs.File.{tableOf}
 use Rattle.table.specs.Reading.{Readable}
-use Rattle.quotient.specs.Demands.{OnWriting}
-use Rattle.quotient.specs.declared.Written.{Written}
+use Rattle.quotients.specs.Demands.{OnWriting}
+use Rattle.quotients.specs.declared.Written.{Written}
 use Rattle.loads.specs.Loads.{Load, described}
 
 -- "is always readable", at the limits in force

@@ -9,8 +9,8 @@ use Rattle.limits.specs.declared.Limits.{Limits}
 use Rattle.limits.specs.Limits.{limitsFit}
 use Rattle.table.specs.Limits.{moveLimit, returnLimit}
 use Rattle.table.specs.File.{Table, bytesOf}
-use Rattle.quotient.specs.Quotient.{bitOf, QuotientDone}
-use Rattle.quotient.specs.declared.Written.the-variants.{Length, Refused}
+use Rattle.quotients.specs.Quotient.{bitOf, QuotientDone}
+use Rattle.quotients.specs.declared.Written.the-variants.{Length, Refused}
 
 -- "a seed of 32 bits"; "Given are the state count, the counts of internal, call and return symbols .. and a density"
 pub record Load : Type 0 where

@@ -17,9 +17,9 @@ use Rattle.table.specs.Language.{markOf}
 use Rattle.table.specs.Maps.{classOf}
 use Rattle.table.proofs.Bytes.{Bytes}
 use Rattle.maps.specs.Sections.{ofStates}
-use Rattle.quotient.specs.Quotient.{memberHas, bitOf, markAmong, classMark, classByte}
+use Rattle.quotients.specs.Quotient.{memberHas, bitOf, markAmong, classMark, classByte}
+use Rattle.quotients.proofs.States.{mark-here, mark-on, mark-most}
 use Rattle.quotient.specs.Sections.{flagged, classBytes}
-use Rattle.quotient.proofs.States.{mark-here, mark-on, mark-most}
 
 -- ---- members
 

@@ -1,10 +1,3 @@
-pub mod Ascending
-pub mod Image
-pub mod Classes
-pub mod States
-pub mod Automaton
-pub mod Table
-pub mod Theorems
 pub mod ClassBytes
 pub mod Keys
 pub mod Inserting

@@ -28,16 +28,16 @@ use Rattle.tops.specs.Tops.{live, liveReturns}
 use Rattle.maps.specs.Check.{checkNumber}
 use Rattle.maps.specs.Sections.{ofStates, kept, Known}
 use Rattle.maps.proofs.Matched.{move-kept, return-kept}
-use Rattle.quotient.specs.Quotient.{image, images, memberHas, classMark, classByte, quotientTable, quotientBytes, quotientNumber, QuotientDone, quotientOf}
-use Rattle.quotient.specs.Demands.{WritesQuotient, WritesSameWords, WritesSameMarks, WritesNoneOpen, WritesSteps, WritesSameScripts}
+use Rattle.quotients.specs.Quotient.{image, images, memberHas, classMark, classByte, quotientTable, quotientBytes, quotientNumber, QuotientDone, quotientOf}
+use Rattle.quotients.specs.Demands.{WritesQuotient, WritesSameWords, WritesSameMarks, WritesNoneOpen, WritesSteps, WritesSameScripts}
 use Rattle.table.specs.Keys.{key}
 use Rattle.table.proofs.Keys.{part-bytes}
+use Rattle.quotients.specs.declared.Written.{Written}
+use Rattle.quotients.specs.declared.Written.the-variants.{Length, Refused}
+use Rattle.quotients.proofs.Image.{images-mem, images-length, image-length, keep-every}
+use Rattle.quotients.proofs.Theorems.{writes-quotient, writes-same-words, writes-same-marks, writes-none-open, writes-steps, writes-same-scripts}
 use Rattle.quotient.specs.Keys.{lastBytes, Holds}
 use Rattle.quotient.specs.Sections.{classBytes, keyedTable, Sized, imageKeys, partedQuotient, writtenFor}
-use Rattle.quotient.specs.declared.Written.{Written}
-use Rattle.quotient.specs.declared.Written.the-variants.{Length, Refused}
-use Rattle.quotient.proofs.Image.{images-mem, images-length, image-length}
-use Rattle.quotient.proofs.Theorems.{writes-quotient, writes-same-words, writes-same-marks, writes-none-open, writes-steps, writes-same-scripts}
 use Rattle.quotient.proofs.ClassBytes.{length-bytes}
 use Rattle.quotient.proofs.Keys.{Same, last-key}
 use Rattle.quotient.proofs.Collecting.{image-bytes}
@@ -154,11 +154,6 @@ keep-same g h (r ∷ rs) e = go (h r) (e r (List·Memᴰ·head refl)) refl (keep
     go : (t : Bool) → g r ≡ h r → h r ≡ t → keep g rs ≡ keep h rs → keep g (r ∷ rs) ≡ keep h (r ∷ rs)
     go true p q ih = keep-yes g r rs (p ∙ q) ∙ ap (λ xs. r ∷ xs) ih ∙ sym (keep-yes h r rs q)
     go false p q ih = keep-no g r rs (p ∙ q) ∙ ih ∙ sym (keep-no h r rs q)
-
-pub keep-every : (rs : List (List ℕ)) → keep (λ r. true) rs ≡ rs
-unfolding keep
-keep-every [] = refl
-keep-every (r ∷ rs) = ap (λ xs. r ∷ xs) (keep-every rs)
 
 moves-kept : (s f : List ℕ) → keep (kept f) (records 3 s) ≡ records 3 s
 moves-kept s f = keep-same (kept f) (λ r. true) (records 3 s) (λ r d. sym (move-kept f r (omega (arith, records-wide 3 s r d)))) ∙ keep-every (records 3 s)

@@ -1,4 +1,2 @@
-pub mod Quotient
-pub mod Demands
 pub mod Keys
 pub mod Sections

@@ -9,9 +9,9 @@ use Rattle.limits.specs.Limits.{symbolMost}
 use Rattle.table.specs.File.{Table, records, bytes16}
 use Rattle.table.specs.Maps.{classes}
 use Rattle.maps.specs.Sections.{ofStates, kept}
-use Rattle.quotient.specs.Quotient.{images, classByte, QuotientDone}
+use Rattle.quotients.specs.Quotient.{images, classByte, QuotientDone}
+use Rattle.quotients.specs.declared.Written.the-variants.{Length, Refused}
 use Rattle.quotient.specs.Keys.{keysOf, lastBytes}
-use Rattle.quotient.specs.declared.Written.the-variants.{Length, Refused}
 
 -- a state byte has the flag 1 "for initial" or 2 "for accepting"
 unfoldable pub flagged : ℕ → ℕ → Bool

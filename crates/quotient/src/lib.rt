@@ -5,8 +5,8 @@ ghost use Rattle.limits.specs.declared.Limits.{Limits};
 ghost use Rattle.table.specs.File.{bytesOf};
 ghost use Rattle.table.specs.Reading.{Readable};
 ghost use Rattle.maps.specs.Sections.{Known};
-ghost use Rattle.quotient.specs.Quotient.{quotientBytes, quotientOf};
-ghost use Rattle.quotient.specs.Demands.{WritesQuotient, WritesSameWords, WritesSameMarks, WritesNoneOpen, WritesSteps, WritesSameScripts};
+ghost use Rattle.quotients.specs.Quotient.{quotientBytes, quotientOf};
+ghost use Rattle.quotients.specs.Demands.{WritesQuotient, WritesSameWords, WritesSameMarks, WritesNoneOpen, WritesSteps, WritesSameScripts};
 ghost use Rattle.quotient.specs.Sections.{Sized, partedQuotient, writtenFor};
 
 mod images;
@@ -15,18 +15,11 @@ mod write;
 use images::collect;
 use limits::Limits;
 use maps::class_count;
+use quotients::Written;
 use table::Section;
 use table::Starts;
 use write::put_states;
 pub use write::put_table;
-
-// What writing the quotient answers.
-pub enum Written {
-    // the quotient's length
-    Length(usize),
-    // 39, 1 to 8, 15 to 21
-    Refused(u8),
-}
 
 // The quotient over the version and the parts of a table: its length is known before anything is written.
 fn write_parts(

@@ -5,7 +5,7 @@ ghost use lib.ListN.{length};
 ghost use Rattle.lists.specs.Lists.{gather, over};
 ghost use Rattle.table.specs.File.{bytes16, bytesOf};
 ghost use Rattle.maps.specs.Sections.{ofStates};
-ghost use Rattle.quotient.specs.Quotient.{memberHas, bitOf, classMark, classByte};
+ghost use Rattle.quotients.specs.Quotient.{memberHas, bitOf, classMark, classByte};
 ghost use Rattle.quotient.specs.Keys.{lastBytes};
 ghost use Rattle.quotient.specs.Sections.{flagged, classBytes, keyedTable, trailerFrom};
 use maps::class_of;

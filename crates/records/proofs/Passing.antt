@@ -18,7 +18,7 @@ use Rattle.table.specs.Maps.{classOf, classes}
 use Rattle.table.proofs.Bytes.{records-wide}
 use Rattle.maps.specs.Sections.{kept}
 use Rattle.maps.proofs.Numbered.{class-below, class-under}
-use Rattle.quotient.specs.Quotient.{image}
+use Rattle.quotients.specs.Quotient.{image}
 use Rattle.fates.specs.Fates.{taken, fate, sectionFates}
 use Rattle.fates.proofs.Counts.{length-fates}
 use Rattle.fates.proofs.Sections.{fate-at}

@@ -10,8 +10,8 @@ use lib.Seq.{ext-getD}
 use Rattle.lists.proofs.Members.{getD-map}
 use Rattle.limits.specs.Limits.{stateMost, symbolMost}
 use Rattle.table.specs.Maps.{classOf}
-use Rattle.quotient.specs.Quotient.{image}
-use Rattle.quotient.proofs.Image.{image-length}
+use Rattle.quotients.specs.Quotient.{image}
+use Rattle.quotients.proofs.Image.{image-length}
 use Rattle.records.specs.Marks.{placeOf, Placed}
 
 -- the bytes of an image: each state's class, and the symbol

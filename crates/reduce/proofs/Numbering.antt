@@ -18,7 +18,7 @@ use Rattle.pairs.proofs.Pairs.{variable-below}
 use Rattle.table.specs.Maps.{classes}
 use Rattle.maps.proofs.Numbered.{class-below}
 use Rattle.limits.specs.Limits.{stateMost}
-use Rattle.clauses.specs.Maps.{joinedBy, nextClass, mapOf}
+use Rattle.encoding.specs.Maps.{joinedBy, nextClass, mapOf}
 use Rattle.reduce.specs.Lowest.{Lowest, LowestJoined, MapOf}
 
 -- ---- the first state that passes a test

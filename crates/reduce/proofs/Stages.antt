@@ -33,29 +33,29 @@ use Rattle.table.proofs.Bytes.{read-well-formed}
 use Rattle.table.proofs.Facts.{most-states}
 use Rattle.table.proofs.Parts.{states-read}
 use Rattle.maps.specs.Sections.{Known}
-use Rattle.clauses.specs.Clauses.{clauseList, shortList, shortWords, ClausesDone}
+use Rattle.encoding.specs.Clauses.{clauseList, shortList, shortWords, ClausesDone}
+use Rattle.encoding.specs.Maps.{mapOf}
+use Rattle.encoding.specs.declared.Listed.{Listed}
+use Rattle.encoding.specs.declared.Listed.the-variants.{List as Words, Refused as NotListed}
+use Rattle.encoding.proofs.Short.{short-formed, short-tried}
 use Rattle.clauses.specs.Emit.{listedBy}
-use Rattle.clauses.specs.Maps.{mapOf}
-use Rattle.clauses.specs.declared.Listed.{Listed}
-use Rattle.clauses.specs.declared.Listed.the-variants.{List as Words, Refused as NotListed}
-use Rattle.clauses.proofs.Short.{short-formed, short-tried}
 use Rattle.search.specs.Turns.{noneSet, Fresh, EndsWith}
 use Rattle.propagate.specs.Conclusions.{withTriangles}
 use Rattle.search.specs.declared.engine.Ending.{Ending}
 use Rattle.search.specs.declared.engine.Ending.the-variants.{Found, Absent, Spent}
 use Rattle.search.proofs.Answering.{prefix-is, prefix-values}
-use Rattle.quotient.specs.Quotient.{quotientNumber, QuotientDone, quotientOf}
-use Rattle.quotient.specs.declared.Written.{Written}
-use Rattle.quotient.specs.declared.Written.the-variants.{Length, Refused as NotWritten}
-use Rattle.reduce.specs.Reduce.{Reduced, beforeSearch, triedOfTable, joinedPairs, deliver, afterSearch, reduceOf}
+use Rattle.quotients.specs.Quotient.{quotientNumber, QuotientDone, quotientOf}
+use Rattle.quotients.specs.declared.Written.{Written}
+use Rattle.quotients.specs.declared.Written.the-variants.{Length, Refused as NotWritten}
+use Rattle.reductions.specs.Reduce.{Reduced, beforeSearch, triedOfTable, joinedPairs, deliver, afterSearch, reduceOf}
+use Rattle.reductions.specs.declared.Reduction.{Reduction}
+use Rattle.reductions.specs.declared.Reduction.the-variants.{Delivered, Refused}
+use Rattle.reductions.proofs.Joined.{held-joined}
+use Rattle.reductions.proofs.Ways.{list-formed, trial-model}
 use Rattle.reduce.specs.Held.{MadeBy, HeldFor}
 use Rattle.reduce.specs.Lowest.{MapOf}
 use Rattle.reduce.specs.declared.map.Classes.{Classes}
 use Rattle.reduce.specs.declared.Made.{Made}
-use Rattle.reduce.specs.declared.Reduction.{Reduction}
-use Rattle.reduce.specs.declared.Reduction.the-variants.{Delivered, Refused}
-use Rattle.reduce.proofs.Joined.{held-joined}
-use Rattle.reduce.proofs.Ways.{list-formed, trial-model}
 
 -- ---- map and quotient
 

@@ -8,11 +8,11 @@ use Rattle.cnf.specs.Trials.{notFalse}
 use Rattle.pairs.specs.Pairs.{pairs}
 use Rattle.table.specs.File.{Table}
 use Rattle.table.specs.Language.{count}
-use Rattle.clauses.specs.Maps.{mapOf}
+use Rattle.encoding.specs.Maps.{mapOf}
 use Rattle.search.specs.declared.engine.Ending.{Ending}
 use Rattle.search.specs.declared.engine.Ending.the-variants.{Found, Absent, Spent}
+use Rattle.reductions.specs.Reduce.{joinedPairs}
 use Rattle.reduce.specs.declared.Made.{Made}
-use Rattle.reduce.specs.Reduce.{joinedPairs}
 
 -- the end of a search, as its guesses and how it ended
 abbrev pub MadeBy : Ending → Made → Type 0

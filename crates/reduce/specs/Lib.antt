@@ -1,4 +1,2 @@
-pub mod Reduce
 pub mod Held
-pub mod Demands
 pub mod Lowest

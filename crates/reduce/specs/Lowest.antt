@@ -8,7 +8,7 @@ use Rattle.cnf.specs.Clauses.{valueOf}
 use Rattle.limits.specs.Limits.{stateMost}
 use Rattle.pairs.specs.Pairs.{variableOf}
 use Rattle.table.specs.Maps.{classes}
-use Rattle.clauses.specs.Maps.{mapOf}
+use Rattle.encoding.specs.Maps.{mapOf}
 use Rattle.reduce.specs.declared.map.Classes.{Classes}
 
 -- l is the lowest state joined to q by a variable below x, or q itself

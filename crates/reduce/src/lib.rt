@@ -10,35 +10,21 @@ ghost use Rattle.table.specs.File.{tableOf};
 ghost use Rattle.table.specs.Reading.{Readable};
 ghost use Rattle.table.specs.Language.{count};
 ghost use Rattle.maps.specs.Sections.{Known};
-ghost use Rattle.clauses.specs.Clauses.{shortWords};
-ghost use Rattle.clauses.specs.Maps.{mapOf};
-ghost use Rattle.reduce.specs.Reduce.{Reduced, triedOfTable, deliver, afterSearch, reduceOf};
+ghost use Rattle.encoding.specs.Clauses.{shortWords};
+ghost use Rattle.encoding.specs.Maps.{mapOf};
+ghost use Rattle.reductions.specs.Reduce.{Reduced, triedOfTable, deliver, afterSearch, reduceOf};
+ghost use Rattle.reductions.specs.Demands.{KeepsWords, DeliversQuotient, DeliversChecked, DeliversMaximal, FewGuesses, DeliversCeiling, SameSearch, SpentSaid, DeliversNoneOpen, DeliversSteps, KeepsMarks, KeepsScripts};
 ghost use Rattle.reduce.specs.Held.{MadeBy, HeldFor};
-ghost use Rattle.reduce.specs.Demands.{KeepsWords, DeliversQuotient, DeliversChecked, DeliversMaximal, FewGuesses, DeliversCeiling, SameSearch, SpentSaid, DeliversNoneOpen, DeliversSteps, KeepsMarks, KeepsScripts};
-use clauses::Listed;
+use encoding::Listed;
 use limits::Limits;
 use map::map_of;
-use quotient::Written;
+use quotients::Written;
+use reductions::Reduction;
 use search::Ending;
 use table::Section;
 use table::Starts;
 
 mod map;
-
-// What reduce answers.
-pub enum Reduction {
-    Delivered {
-        classes: usize,
-        guesses: u64,
-        words: usize,
-        length: usize,
-        joined: usize,
-        ceiling: usize,
-        spent: bool,
-    },
-    // 39, 1 to 8, 22, 10, 21
-    Refused(u8),
-}
 
 // The end of a search as its guesses, and whether none exists or the budget is spent.
 struct Made {

@@ -10,9 +10,9 @@ use lib.ListN.{length, getD, take, drop, replicate, length-append, length-drop, 
 use lib.Seq.{paste, drop-cons, drop-drop, take-all, take-append-add, drop-append-add, length-take-le, length-paste, take-paste, drop-paste}
 use Rattle.lists.specs.Lists.{gather, over, sum}
 use Rattle.limits.specs.declared.Limits.{Limits}
-use Rattle.reduce.specs.Reduce.{Reduced, reduceOf}
-use Rattle.reduce.specs.declared.Reduction.{Reduction}
-use Rattle.reduce.specs.declared.Reduction.the-variants.{Delivered, Refused}
+use Rattle.reductions.specs.Reduce.{Reduced, reduceOf}
+use Rattle.reductions.specs.declared.Reduction.{Reduction}
+use Rattle.reductions.specs.declared.Reduction.the-variants.{Delivered, Refused}
 use Rattle.seasons.specs.Seasons.{row, guessesIn, mapTaken, outTaken, Reductions, reductionsFrom, lengthsFit}
 use Rattle.seasons.proofs.Lone.{leaves}
 use Rattle.season.specs.declared.Turn.{Turn}

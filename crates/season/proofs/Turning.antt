@@ -8,10 +8,10 @@ use Rattle.limits.specs.declared.Limits.{Limits}
 use Rattle.table.specs.File.{tableOf}
 use Rattle.table.specs.Reading.{Readable}
 use Rattle.table.specs.Language.{count}
-use Rattle.reduce.specs.Reduce.{Reduced, reduceOf, spentValue}
-use Rattle.reduce.specs.declared.Reduction.{Reduction}
-use Rattle.reduce.specs.declared.Reduction.the-variants.{Delivered, Refused}
-use Rattle.reduce.proofs.Ways.{Ways, refused-first, refused-short, delivers, reduce-ways}
+use Rattle.reductions.specs.Reduce.{Reduced, reduceOf, spentValue}
+use Rattle.reductions.specs.declared.Reduction.{Reduction}
+use Rattle.reductions.specs.declared.Reduction.the-variants.{Delivered, Refused}
+use Rattle.reductions.proofs.Ways.{Ways, refused-first, refused-short, delivers, reduce-ways}
 use Rattle.seasons.specs.Seasons.{row, guessesIn, mapTaken, outTaken}
 use Rattle.season.specs.Turns.{Turned}
 

@@ -5,7 +5,7 @@ use Prim.Native.Nat.{ℕ}
 use lib.ListN.{length, replicate}
 use Rattle.lists.specs.Lists.{gather, over}
 use Rattle.limits.specs.declared.Limits.{Limits}
-use Rattle.reduce.specs.Reduce.{reduceOf}
+use Rattle.reductions.specs.Reduce.{reduceOf}
 use Rattle.seasons.specs.Seasons.{row, guessesIn, mapTaken, outTaken, reductionsFrom}
 use Rattle.season.specs.declared.Turn.{Turn}
 

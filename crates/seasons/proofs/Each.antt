@@ -8,8 +8,8 @@ use lib.ListN.{length, getD, take, drop}
 use lib.Seq.{drop-drop, drop-append-add, take-append-le, length-take-le, take-take}
 use Rattle.lists.specs.Lists.{sum}
 use Rattle.limits.specs.declared.Limits.{Limits}
-use Rattle.reduce.specs.Reduce.{Reduced, reduceOf}
-use Rattle.reduce.specs.declared.Reduction.{Reduction}
+use Rattle.reductions.specs.Reduce.{Reduced, reduceOf}
+use Rattle.reductions.specs.declared.Reduction.{Reduction}
 use Rattle.seasons.specs.Seasons.{guessesIn, mapTaken, outTaken, Reductions, reductionsFrom}
 use Rattle.seasons.specs.Demands.{tableAt, answerAt, mapsTaken, mapsBefore, outBefore, IsLone}
 use Rattle.seasons.proofs.Lone.{Leaves, leaves, same-reduced}

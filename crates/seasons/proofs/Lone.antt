@@ -20,13 +20,13 @@ use Rattle.table.specs.Reading.{readNumber}
 use Rattle.table.specs.Language.{count}
 use Rattle.table.specs.Maps.{classes}
 use Rattle.table.proofs.Bytes.{read-well-formed}
-use Rattle.clauses.specs.Clauses.{clauseList, shortWords}
-use Rattle.clauses.specs.Maps.{mapOf}
-use Rattle.clauses.proofs.Theorems.{map-proper}
-use Rattle.quotient.specs.Quotient.{quotientBytes, quotientNumber}
-use Rattle.reduce.specs.Reduce.{Reduced, beforeSearch, searchOfTable, triedOfTable, joinedPairs, deliver, afterSearch, reduceOf}
-use Rattle.reduce.specs.declared.Reduction.the-variants.{Delivered, Refused}
-use Rattle.reduce.proofs.Ways.{Held, Ways, refused-first, refused-short, delivers, reduce-ways}
+use Rattle.encoding.specs.Clauses.{clauseList, shortWords}
+use Rattle.encoding.specs.Maps.{mapOf}
+use Rattle.encoding.proofs.Theorems.{map-proper}
+use Rattle.quotients.specs.Quotient.{quotientBytes, quotientNumber}
+use Rattle.reductions.specs.Reduce.{Reduced, beforeSearch, searchOfTable, triedOfTable, joinedPairs, deliver, afterSearch, reduceOf}
+use Rattle.reductions.specs.declared.Reduction.the-variants.{Delivered, Refused}
+use Rattle.reductions.proofs.Ways.{Held, Ways, refused-first, refused-short, delivers, reduce-ways}
 use Rattle.seasons.specs.Seasons.{guessesIn, mapTaken, outTaken}
 
 -- ---- what is left

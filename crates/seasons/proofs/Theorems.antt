@@ -24,14 +24,14 @@ use Rattle.table.proofs.Bytes.{read-well-formed}
 use Rattle.maps.specs.Check.{checkOf}
 use Rattle.scripts.specs.Demands.{SameScripts}
 use Rattle.maps.specs.declared.Checked.the-variants.{Accepted}
-use Rattle.clauses.specs.Clauses.{clauseList}
-use Rattle.quotient.specs.Demands.{IsQuotient, ShowsSteps}
-use Rattle.reduce.specs.Reduce.{Reduced, searchOfTable, joinedPairs, reduceOf}
-use Rattle.reduce.specs.Demands.{OnBest, Promises}
-use Rattle.reduce.specs.declared.Reduction.{Reduction}
-use Rattle.reduce.specs.declared.Reduction.the-variants.{Delivered, Refused}
-use Rattle.reduce.proofs.Ways.{list-formed, Ways, refused-first, refused-short, delivers, reduce-ways}
-use Rattle.reduce.proofs.Theorems.{promises}
+use Rattle.encoding.specs.Clauses.{clauseList}
+use Rattle.quotients.specs.Demands.{IsQuotient, ShowsSteps}
+use Rattle.reductions.specs.Reduce.{Reduced, searchOfTable, joinedPairs, reduceOf}
+use Rattle.reductions.specs.Demands.{OnBest, Promises}
+use Rattle.reductions.specs.declared.Reduction.{Reduction}
+use Rattle.reductions.specs.declared.Reduction.the-variants.{Delivered, Refused}
+use Rattle.reductions.proofs.Ways.{list-formed, Ways, refused-first, refused-short, delivers, reduce-ways}
+use Rattle.reductions.proofs.Theorems.{promises}
 use Rattle.seasons.specs.declared.Season.{Season}
 use Rattle.seasons.specs.Seasons.{row, guessesIn, mapTaken, outTaken, Reductions, reductionsFrom, shareOf, lengthsFit, seasonNumber, SeasonDone, refusedBy, seasonOf}
 use Rattle.seasons.specs.Demands.{tableAt, answerAt, allowedTo, mapsBefore, outBefore, IsLone, answersOf, Alone, SolvedWithin, EachPromised, guessesReported, WithinAll}

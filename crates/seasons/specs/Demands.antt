@@ -7,9 +7,9 @@ use lib.ListN.{length, getD, take, drop, replicate}
 use Rattle.lists.specs.Lists.{gather, over, parts, sum}
 use Rattle.cnf.specs.Search.{madeOf, isSpent}
 use Rattle.limits.specs.declared.Limits.{Limits}
-use Rattle.reduce.specs.Reduce.{Reduced, searchOfTable, reduceOf}
-use Rattle.reduce.specs.Demands.{OnBest, Promises}
-use Rattle.reduce.specs.declared.Reduction.{Reduction}
+use Rattle.reductions.specs.Reduce.{Reduced, searchOfTable, reduceOf}
+use Rattle.reductions.specs.Demands.{OnBest, Promises}
+use Rattle.reductions.specs.declared.Reduction.{Reduction}
 use Rattle.seasons.specs.declared.Season.{Season}
 use Rattle.seasons.specs.Seasons.{row, guessesIn, mapTaken, outTaken, reductionsFrom, shareOf}
 

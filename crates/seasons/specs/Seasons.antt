@@ -9,9 +9,9 @@ use Rattle.limits.specs.declared.Limits.{Limits}
 use Rattle.limits.specs.Limits.{limitsFit}
 use Rattle.table.specs.File.{tableOf}
 use Rattle.table.specs.Language.{count}
-use Rattle.reduce.specs.Reduce.{reduceOf, spentValue}
-use Rattle.reduce.specs.declared.Reduction.{Reduction}
-use Rattle.reduce.specs.declared.Reduction.the-variants.{Delivered, Refused}
+use Rattle.reductions.specs.Reduce.{reduceOf, spentValue}
+use Rattle.reductions.specs.declared.Reduction.{Reduction}
+use Rattle.reductions.specs.declared.Reduction.the-variants.{Delivered, Refused}
 use Rattle.seasons.specs.declared.Season.{Season}
 
 -- an answer as 8 numbers: its refusal's number, or 0 and its values

@@ -7,7 +7,7 @@ use lib.Seq.{length-take-le}
 use Rattle.table.specs.File.{tableOf}
 use Rattle.table.specs.Language.{count}
 use Rattle.maps.specs.Check.{checkNumber}
-use Rattle.reduce.proofs.Theorems.{delivered-fits}
+use Rattle.reductions.proofs.Theorems.{delivered-fits}
 use Rattle.basilvault.specs.Program.{widest}
 use Rattle.basilvault.specs.Text.{refusedText}
 use Rattle.basilvault.proofs.Putting.{put-on, put-whole}

@@ -1,7 +1,7 @@
 -- `capi::basilvault_clauses_within` meets its contract: the answer as a number, buffers and values. Assumes nothing.
 use borrow.Author.Needs.{needs}
 use mathlib.Core.Path.{ap, _∙_}
-use Rattle.clauses.specs.Clauses.{listedNumber, listedValues}
+use Rattle.encoding.specs.Clauses.{listedNumber, listedValues}
 use Rattle.capi.specs.Answers.{clausesOut}
 use Rattle.capi.proofs.Answering.{answered, refused}
 use Rattle.capi.proofs.basilvault_clauses_within.Statement.{statement}

@@ -1,7 +1,7 @@
 -- `capi::basilvault_reduce_within` meets its contract: the answer as a number, buffers and values. Assumes nothing.
 use borrow.Author.Needs.{needs}
 use mathlib.Core.Path.{ap, _∙_}
-use Rattle.reduce.specs.Reduce.{reductionNumber, reductionValues}
+use Rattle.reductions.specs.Reduce.{reductionNumber, reductionValues}
 use Rattle.capi.specs.Answers.{reduceOut}
 use Rattle.capi.proofs.Answering.{answered, refused}
 use Rattle.capi.proofs.basilvault_reduce_within.Statement.{statement}

@@ -1,7 +1,7 @@
 -- `capi::say_written` meets its contract: a length is stored, a refusal has no value. Assumes nothing.
 use borrow.Author.Needs.{needs}
 use mathlib.Core.Path.{sym, ap, _∙_}
-use Rattle.quotient.specs.Quotient.{writtenNumber, writtenValues}
+use Rattle.quotients.specs.Quotient.{writtenNumber, writtenValues}
 use Rattle.capi.specs.Answers.{stored}
 use Rattle.capi.proofs.Answering.{stored-none}
 use Rattle.capi.proofs.say_written.Statement.{statement}

@@ -1,7 +1,8 @@
 -- `clauses::clauses_within` meets its contract: reading first, then the list. Assumes nothing.
 use mathlib.Core.Path.{_∙_}
 use Rattle.maps.proofs.Checking.{read-known, read-readable}
-use Rattle.clauses.proofs.Whole.{listed, unread, sound-of}
+use Rattle.encoding.proofs.Theorems.{sound-of}
+use Rattle.clauses.proofs.Whole.{listed, unread}
 use borrow.Author.Needs.{needs}
 use Rattle.clauses.proofs.clauses_within.Statement.{statement}
 use Rattle.clauses.proofs.clauses_within.Tie as tie

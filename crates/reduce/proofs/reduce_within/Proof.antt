@@ -2,7 +2,7 @@
 use mathlib.Core.Path.{sym}
 use native.Mathlib.Omega.{arith}
 use Rattle.maps.proofs.Checking.{examined-number, read-readable, read-known}
-use Rattle.reduce.proofs.Theorems.{promised}
+use Rattle.reductions.proofs.Theorems.{promised}
 use Rattle.reduce.proofs.Stages as laws
 use borrow.Author.Needs.{needs}
 use Rattle.reduce.proofs.reduce_within.Statement.{statement}

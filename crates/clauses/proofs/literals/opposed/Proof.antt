@@ -1,7 +1,7 @@
 -- `clauses::literals::opposed` meets its contract. Assumes nothing.
 use borrow.Author.Needs.{needs}
 use borrow.Author.Tests.{eq-eqb, ne-eqb}
-use Rattle.clauses.specs.Clauses.{opposite}
+use Rattle.encoding.specs.Clauses.{opposite}
 use Rattle.clauses.proofs.literals.opposed.Statement.{statement}
 use Rattle.clauses.proofs.literals.opposed.Tie as tie
 

@@ -4,7 +4,7 @@ use lib.ListN.{length, getD}
 use borrow.Author.Needs.{needs}
 use Rattle.lists.specs.Lists.{gather, upto}
 use Rattle.table.specs.File.{records}
-use Rattle.clauses.specs.Clauses.{moveClause, moveClauses}
+use Rattle.encoding.specs.Clauses.{moveClause, moveClauses}
 use Rattle.clauses.specs.Emit.{state}
 use Rattle.clauses.proofs.Emitting.{come-full}
 use Rattle.clauses.proofs.Stepping.{Along, along-all, along-done}

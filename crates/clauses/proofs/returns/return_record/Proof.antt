@@ -3,7 +3,7 @@ use Prim.Native.Nat.{_-_}
 use borrow.Author.Needs.{needs}
 use Rattle.lists.specs.Lists.{gather, upto}
 use Rattle.table.specs.File.{records}
-use Rattle.clauses.specs.Clauses.{topStates}
+use Rattle.encoding.specs.Clauses.{topStates}
 use Rattle.clauses.specs.Emit.{returnOf, state}
 use Rattle.clauses.proofs.Stepping.{Over, over-all, over-on, over-done}
 use Rattle.clauses.proofs.Returning.{of-word}

@@ -3,7 +3,7 @@ use Prim.Native.Nat.{_-_}
 use borrow.Author.Needs.{needs}
 use Rattle.lists.specs.Lists.{gather, upto}
 use Rattle.pairs.specs.Triangles.{triangle, past, triangles}
-use Rattle.clauses.specs.Clauses.{transitivity}
+use Rattle.encoding.specs.Clauses.{transitivity}
 use Rattle.clauses.specs.Emit.{state}
 use Rattle.clauses.proofs.Stepping.{Over, over-all, over-on, over-done}
 use Rattle.clauses.proofs.states.transitive.Statement.{statement}

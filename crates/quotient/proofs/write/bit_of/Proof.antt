@@ -1,5 +1,5 @@
 -- `quotient::write::bit_of` meets its contract. Assumes nothing.
-use Rattle.quotient.specs.Quotient.{bitOf}
+use Rattle.quotients.specs.Quotient.{bitOf}
 use mathlib.Core.Path.{sym, ap}
 use Rattle.quotient.proofs.write.bit_of.Statement.{statement}
 use Rattle.quotient.proofs.write.bit_of.Tie as tie

@@ -1,0 +1,9 @@
+pub mod Tidy
+pub mod Related
+pub mod Groups
+pub mod Models
+pub mod Maps
+pub mod Formed
+pub mod Assignments
+pub mod Theorems
+pub mod Short

@@ -1,0 +1,19 @@
+-- What the written list is worth (demand 3). Assumes nothing.
+use mathlib.Core.Path.{_≡_}
+use mathlib.Core.List.{List}
+use Prim.Native.Nat.{ℕ}
+use lib.ListN.{take}
+use Rattle.cnf.specs.Clauses.{Model, clausesIn}
+use Rattle.limits.specs.declared.Limits.{Limits}
+use Rattle.pairs.specs.Pairs.{pairs}
+use Rattle.table.specs.File.{tableOf}
+use Rattle.table.specs.Language.{count}
+use Rattle.maps.specs.Check.{checkNumber}
+use Rattle.encoding.specs.Maps.{mapOf}
+use Rattle.encoding.specs.declared.Listed.{Listed}
+use Rattle.encoding.specs.declared.Listed.the-variants.{List as Words, Refused}
+
+-- where a list was written, every assignment that satisfies its words has a map that the check accepts
+abbrev pub ListSound : Limits → List ℕ → List ℕ → Listed → Type 0
+ListSound L b list (Words c w) = (v : List ℕ) → Model (clausesIn (take w list)) (pairs (count (tableOf b))) v → checkNumber L b (mapOf v (count (tableOf b))) ≡ 0
+ListSound L b list (Refused k) = Unit {0}

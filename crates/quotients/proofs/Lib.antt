@@ -1,0 +1,7 @@
+pub mod Ascending
+pub mod Image
+pub mod Classes
+pub mod States
+pub mod Automaton
+pub mod Table
+pub mod Theorems

@@ -1,0 +1,4 @@
+pub mod Marked
+pub mod Joined
+pub mod Ways
+pub mod Theorems
