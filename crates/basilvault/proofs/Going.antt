@@ -7,15 +7,15 @@ use Prim.Native.Nat.{ℕ, _+_, _≤_}
 use native.Mathlib.Omega.{arith}
 use lib.ListN.{length, take, replicate, length-replicate}
 use Rattle.limits.specs.declared.Limits.{Limits}
-use Rattle.table.specs.Limits.{moveLimit, returnLimit}
-use Rattle.table.specs.File.{tableOf}
-use Rattle.table.specs.Reading.{Readable}
-use Rattle.table.specs.Language.{count}
-use Rattle.table.proofs.Bytes.{read-well-formed}
-use Rattle.table.proofs.Passed.{formed-tested}
-use Rattle.maps.specs.Check.{checkNumber}
-use Rattle.maps.proofs.Accepted.{accepted}
-use Rattle.maps.proofs.Checking.{accepted-number}
+use Rattle.format.specs.Limits.{moveLimit, returnLimit}
+use Rattle.format.specs.File.{tableOf}
+use Rattle.format.specs.Reading.{Readable}
+use Rattle.format.specs.Language.{count}
+use Rattle.format.proofs.Bytes.{read-well-formed}
+use Rattle.format.proofs.Passed.{formed-tested}
+use Rattle.relations.specs.Check.{checkNumber}
+use Rattle.relations.proofs.Accepted.{accepted}
+use Rattle.relations.proofs.Answers.{accepted-number}
 use Rattle.fates.specs.declared.Recorded.{Recorded}
 use Rattle.fates.specs.Fates.{recordCount, countsOf, RecordsDone, recordsOf}
 use Rattle.fates.proofs.Answers.{records-told}

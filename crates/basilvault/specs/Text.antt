@@ -6,8 +6,8 @@ use Prim.Native.Nat.{ℕ, zero, suc, _+_, _/_, _%_, _≤_}
 use lib.ListN.{length, take, replicate}
 use lib.Dec.{ltb}
 use Rattle.io.specs.Digits.{glyph, digits}
-use Rattle.table.specs.File.{tableOf}
-use Rattle.table.specs.Language.{count}
+use Rattle.format.specs.File.{tableOf}
+use Rattle.format.specs.Language.{count}
 use Rattle.fates.specs.declared.Recorded.{Recorded}
 use Rattle.fates.specs.declared.Recorded.the-variants.{Counts, Refused as Recorded·Refused}
 use Rattle.fates.specs.Fates.{countsOf}

@@ -8,18 +8,18 @@ ghost use Rattle.io.specs.Counts.{Counts};
 ghost use Rattle.io.specs.Digits.{glyph};
 ghost use Rattle.lists.specs.Lists.{over};
 ghost use Rattle.basilvault.specs.Program.{widest};
-ghost use Rattle.table.specs.File.{tableOf};
-ghost use Rattle.table.specs.Reading.{Readable};
-ghost use Rattle.table.specs.Language.{count};
-ghost use Rattle.maps.specs.Check.{checkNumber};
+ghost use Rattle.format.specs.File.{tableOf};
+ghost use Rattle.format.specs.Reading.{Readable};
+ghost use Rattle.format.specs.Language.{count};
+ghost use Rattle.relations.specs.Check.{checkNumber};
 ghost use Rattle.basilvault.specs.Text.{Put, decimalText, spentText, countsText, hexText, mapText, tableText, recordsText, goingText, printed};
 use fates::Recorded;
+use format::Reading;
 use libc::STDERR_FILENO;
 use libc::STDIN_FILENO;
 use libc::STDOUT_FILENO;
 use limits::Limits;
 use reductions::Reduction;
-use table::Reading;
 use table::Section;
 
 fn wide(x: u8) -> u64

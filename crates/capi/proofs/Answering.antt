@@ -7,8 +7,8 @@ use native.Mathlib.Omega.{arith}
 use lib.ListN.{length, drop, replicate}
 use borrow.Author.Tests.{le-leb, lt-leb, ne-eqb}
 use Rattle.lists.specs.Lists.{over}
-use Rattle.tops.specs.declared.TopWords.{TopWords}
-use Rattle.tops.specs.Tops.{topsValues}
+use Rattle.reach.specs.declared.TopWords.{TopWords}
+use Rattle.reach.specs.Tops.{topsValues}
 use Rattle.uses.specs.declared.Counted.{Counted}
 use Rattle.uses.specs.Uses.{countedValues}
 use Rattle.choose.specs.declared.Which.the-variants.{Neither, First, Second}

@@ -5,14 +5,14 @@ use Prim.Native.Nat.{ℕ}
 use lib.ListN.{length}
 use lib.Dec.{leb}
 use Rattle.lists.specs.Lists.{over}
-use Rattle.table.specs.declared.Reading.{Reading}
-use Rattle.table.specs.Reading.{readingNumber, readingValues}
-use Rattle.tops.specs.declared.TopWords.{TopWords}
-use Rattle.tops.specs.Tops.{topsValues}
+use Rattle.format.specs.declared.Reading.{Reading}
+use Rattle.format.specs.Reading.{readingNumber, readingValues}
+use Rattle.reach.specs.declared.TopWords.{TopWords}
+use Rattle.reach.specs.Tops.{topsValues}
 use Rattle.encoding.specs.Clauses.{ClausesDone, listedNumber, listedValues}
 use Rattle.search.specs.Answers.{Searched, solutionNumber, solutionValues}
-use Rattle.maps.specs.declared.Checked.{Checked}
-use Rattle.maps.specs.Check.{checkedNumber, checkedValues}
+use Rattle.relations.specs.declared.Checked.{Checked}
+use Rattle.relations.specs.Check.{checkedNumber, checkedValues}
 use Rattle.quotients.specs.Quotient.{QuotientDone, writtenNumber, writtenValues}
 use Rattle.reductions.specs.Reduce.{Reduced, reductionNumber, reductionValues}
 use Rattle.uses.specs.declared.Counted.{Counted}

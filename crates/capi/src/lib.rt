@@ -4,11 +4,11 @@
 ghost use mathlib.Core.Path.{_≡_};
 ghost use mathlib.Core.List.{[], _∷_, _++_};
 ghost use Rattle.limits.specs.Limits.{standard};
-ghost use Rattle.table.specs.Reading.{readOf};
-ghost use Rattle.tops.specs.Tops.{topsOf};
+ghost use Rattle.format.specs.Reading.{readOf};
+ghost use Rattle.reach.specs.Tops.{topsOf};
 ghost use Rattle.encoding.specs.Clauses.{clausesOf};
 ghost use Rattle.search.specs.Answers.{searchOf};
-ghost use Rattle.maps.specs.Check.{checkOf};
+ghost use Rattle.relations.specs.Check.{checkOf};
 ghost use Rattle.quotients.specs.Quotient.{quotientOf, writtenNumber, writtenValues};
 ghost use Rattle.reductions.specs.Reduce.{reduceOf, spentValue};
 ghost use Rattle.uses.specs.Uses.{usesOf};
@@ -23,13 +23,13 @@ use choose::Which;
 use encoding::Listed;
 use fates::Recorded;
 use fitting::Fitting;
+use format::Reading;
 use limits::Limits;
-use maps::Checked;
 use quotients::Written;
 use reductions::Reduction;
+use relations::Checked;
 use scripts::Read;
 use search::Solution;
-use table::Reading;
 
 // Stores an answer's values where there is room for all of them.
 fn store(answer: &[u64], values: &mut [u64])

@@ -29,14 +29,14 @@ ghost use lib.ListN.{length};
 use choose::Which;
 use encoding::Listed;
 use fates::Recorded;
+use format::Reading;
 use libc::STDOUT_FILENO;
 use limits::Limits;
-use maps::Checked;
 use quotients::Written;
 use reductions::Reduction;
+use relations::Checked;
 use scripts::Read;
 use search::Solution;
-use table::Reading;
 
 // Writes text to standard output.
 fn say(text: &[u8]) -> bool {

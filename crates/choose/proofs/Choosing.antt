@@ -12,18 +12,19 @@ use denote.Ref.{RefT}
 use Rattle.lists.specs.Lists.{firstFailed}
 use Rattle.lists.proofs.Refusals.{passes, fails, no-test}
 use Rattle.limits.specs.declared.Limits.{Limits}
-use Rattle.table.specs.Reading.{readNumber, Readable}
-use Rattle.table.specs.Maps.{classes}
-use Rattle.table.proofs.Bytes.{read-well-formed}
-use Rattle.table.proofs.Passed.{read-within, formed-tested}
+use Rattle.format.specs.Reading.{readNumber, Readable}
+use Rattle.format.specs.Maps.{classes}
+use Rattle.format.proofs.Bytes.{read-well-formed}
+use Rattle.format.proofs.Passed.{read-within, formed-tested}
 use Rattle.tops.specs.declared.Examined.{Examined}
-use Rattle.tops.specs.Demands.{examinedOf}
-use Rattle.maps.specs.declared.Checked.{Checked}
-use Rattle.maps.specs.declared.Checked.the-variants.{Accepted, Refused}
-use Rattle.maps.specs.Check.{checkNumber, checkOf}
-use Rattle.maps.specs.Accepting.{IsAccepted}
-use Rattle.maps.proofs.Accepted.{accepted, Accepted as Accepted′}
-use Rattle.maps.proofs.Checking.{examined-number, unread, check-refused, Answers, passes-by, refuses-by, answers}
+use Rattle.tops.specs.Sections.{examinedOf}
+use Rattle.relations.specs.declared.Checked.{Checked}
+use Rattle.relations.specs.declared.Checked.the-variants.{Accepted, Refused}
+use Rattle.relations.specs.Check.{checkNumber, checkOf}
+use Rattle.relations.specs.Accepting.{IsAccepted}
+use Rattle.relations.proofs.Accepted.{accepted, Accepted as Accepted′}
+use Rattle.relations.proofs.Answers.{check-refused, Answers, passes-by, refuses-by, answers}
+use Rattle.maps.proofs.Checking.{examined-number, unread}
 use Rattle.choose.specs.declared.Which.{Which}
 use Rattle.choose.specs.declared.Which.the-variants.{Neither, First, Second}
 use Rattle.choose.specs.declared.Choice.{Choice}

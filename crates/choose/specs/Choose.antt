@@ -6,10 +6,10 @@ use lib.Dec.{eqb, leb}
 use denote.Ref.{RefT}
 use Rattle.lists.specs.Lists.{firstFailed}
 use Rattle.limits.specs.declared.Limits.{Limits}
-use Rattle.table.specs.Reading.{readNumber}
-use Rattle.maps.specs.declared.Checked.{Checked}
-use Rattle.maps.specs.declared.Checked.the-variants.{Accepted, Refused}
-use Rattle.maps.specs.Check.{checkOf}
+use Rattle.format.specs.Reading.{readNumber}
+use Rattle.relations.specs.declared.Checked.{Checked}
+use Rattle.relations.specs.declared.Checked.the-variants.{Accepted, Refused}
+use Rattle.relations.specs.Check.{checkOf}
 use Rattle.choose.specs.declared.Which.{Which}
 use Rattle.choose.specs.declared.Which.the-variants.{Neither, First, Second}
 use Rattle.choose.specs.declared.Choice.{Choice}

@@ -6,10 +6,10 @@ use Prim.Native.Nat.{ℕ, _≤_}
 use lib.ListN.{length}
 use denote.Ref.{RefT}
 use Rattle.limits.specs.declared.Limits.{Limits}
-use Rattle.table.specs.Reading.{Readable}
-use Rattle.table.specs.Maps.{classes}
-use Rattle.maps.specs.Check.{checkOf}
-use Rattle.maps.specs.Accepting.{IsAccepted}
+use Rattle.format.specs.Reading.{Readable}
+use Rattle.format.specs.Maps.{classes}
+use Rattle.relations.specs.Check.{checkOf}
+use Rattle.relations.specs.Accepting.{IsAccepted}
 use Rattle.choose.specs.declared.Which.the-variants.{Neither}
 use Rattle.choose.specs.declared.Choice.{Choice}
 use Rattle.choose.specs.Choose.{chooseNumber}

@@ -2,12 +2,12 @@
 ghost use mathlib.Core.Path.{_≡_};
 ghost use Rattle.limits.specs.Limits.{standard};
 ghost use Rattle.limits.specs.declared.Limits.{Limits};
-ghost use Rattle.table.specs.Reading.{Readable};
+ghost use Rattle.format.specs.Reading.{Readable};
 ghost use Rattle.maps.specs.Sections.{Known};
 ghost use Rattle.choose.specs.Choose.{whichOf, chooseNumber, choiceOf, sliceOf, chooseOf};
 ghost use Rattle.choose.specs.Demands.{NumberTells, NeitherPasses, HandedBack};
+use format::Starts;
 use limits::Limits;
-use table::Starts;
 
 // Which of two maps is handed back.
 pub enum Which {

@@ -10,11 +10,11 @@ use lib.Dec.{eqb, ltb}
 use borrow.Author.Tests.{eqb-true, ltb-true}
 use Rattle.lists.specs.Lists.{keep, same}
 use Rattle.lists.proofs.Members.{and-true, or-true, and-of, keep-mem}
-use Rattle.table.specs.File.{records}
-use Rattle.table.specs.Reading.{before, ascendFrom, ascend}
+use Rattle.format.specs.File.{records}
+use Rattle.format.specs.Reading.{before, ascendFrom, ascend}
+use Rattle.format.proofs.Order.{before-transitive, ascend-rest}
+use Rattle.format.proofs.Bytes.{records-wide}
 use Rattle.table.specs.Spans.{startsWith}
-use Rattle.table.proofs.Order.{before-transitive, ascend-rest}
-use Rattle.table.proofs.Bytes.{records-wide}
 
 -- numbers that ascend from m on
 data Rising : ℕ → List ℕ → Type 0 where

@@ -12,8 +12,8 @@ use borrow.Author.Tests.{eq-eqb, ne-eqb}
 use Rattle.lists.specs.Lists.{gather, upto, keep, same}
 use Rattle.limits.specs.Limits.{stateMost}
 use Rattle.pairs.specs.Triangles.{apart}
-use Rattle.table.specs.File.{records}
-use Rattle.table.specs.Language.{targets}
+use Rattle.format.specs.File.{records}
+use Rattle.format.specs.Language.{targets}
 use Rattle.table.specs.Spans.{startsWith}
 use Rattle.tops.proofs.Loops.{record-byte}
 use Rattle.encoding.specs.Clauses.{premise, moveClause}

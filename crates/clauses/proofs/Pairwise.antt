@@ -15,7 +15,7 @@ use Rattle.pairs.specs.Entries.{pairIn, PairTable}
 use Rattle.pairs.specs.Triangles.{together, apart, triangle}
 use Rattle.pairs.proofs.Pairs.{pair-ordered, pair-below, variable-pair}
 use Rattle.pairs.proofs.Entries.{pair-found}
-use Rattle.table.specs.Language.{look}
+use Rattle.format.specs.Language.{look}
 use Rattle.encoding.specs.Clauses.{lookClauses}
 use Rattle.clauses.specs.declared.literals.Literals.{Literals}
 use Rattle.clauses.specs.Emit.{literalsOf, withLiteral, Holds, State, emit, statesOnly, lookClause}

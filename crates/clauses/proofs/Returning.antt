@@ -16,10 +16,10 @@ use Rattle.lists.specs.Bits.{hasBit, has}
 use Rattle.lists.proofs.Bits.{no-bit}
 use Rattle.lists.proofs.Lowest.{Lowest, trailing-lowest, keep-none, keep-lowest, bit-le}
 use Rattle.limits.specs.Limits.{stateMost}
-use Rattle.table.specs.File.{records}
-use Rattle.table.specs.Language.{targets}
+use Rattle.format.specs.File.{records}
+use Rattle.format.specs.Language.{targets}
 use Rattle.table.specs.Spans.{startsWith}
-use Rattle.tops.specs.Tops.{live}
+use Rattle.reach.specs.Tops.{live}
 use Rattle.tops.proofs.Loops.{record-byte}
 use Rattle.encoding.specs.Clauses.{premise, returnClause, topStates}
 use Rattle.clauses.specs.declared.literals.Literals.{Literals}

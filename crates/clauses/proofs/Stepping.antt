@@ -13,7 +13,7 @@ use Rattle.pairs.specs.Pairs.{pairs, pairOf}
 use Rattle.pairs.specs.Triangles.{past}
 use Rattle.pairs.proofs.Pairs.{pairs-suc, variable-lt, pair-variable}
 use Rattle.pairs.proofs.Triangles.{past-from}
-use Rattle.table.specs.File.{records}
+use Rattle.format.specs.File.{records}
 use Rattle.table.proofs.Walks.{records-cons, records-end}
 use Rattle.clauses.specs.Emit.{State, Ordered, emit}
 use Rattle.clauses.proofs.Emitting.{Coming, coming, come-on, come-as, come}

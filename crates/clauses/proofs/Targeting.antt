@@ -10,7 +10,7 @@ use lib.Seq.{length-take-le}
 use borrow.Author.Tests.{eq-eqb, ne-eqb}
 use Rattle.lists.specs.Lists.{mem}
 use Rattle.pairs.specs.Triangles.{together, apart}
-use Rattle.table.specs.File.{records}
+use Rattle.format.specs.File.{records}
 use Rattle.table.proofs.Walks.{records-cons, records-end}
 use Rattle.tops.proofs.Loops.{record-byte}
 use Rattle.encoding.specs.Clauses.{opposite, premise}

@@ -12,16 +12,16 @@ use borrow.Author.Tests.{eq-eqb, ne-eqb}
 use Rattle.cnf.specs.Clauses.{wordsOf}
 use Rattle.limits.specs.declared.Limits.{Limits}
 use Rattle.limits.specs.Limits.{stateMost}
-use Rattle.table.specs.File.{trailer, start, tableOf, records}
-use Rattle.table.specs.Reading.{readNumber, Readable, startsOf}
+use Rattle.format.specs.File.{trailer, start, tableOf, records}
+use Rattle.format.specs.Reading.{readNumber, Readable, startsOf}
+use Rattle.format.specs.declared.Starts.{Starts}
+use Rattle.format.proofs.Passed.{Tested, formed-tested}
+use Rattle.format.proofs.Bytes.{read-well-formed}
 use Rattle.table.specs.Sections.{partOf}
-use Rattle.table.specs.declared.Starts.{Starts}
 use Rattle.table.specs.declared.view.Section.the-variants.{States, Internals, Calls, Returns}
-use Rattle.table.proofs.Passed.{Tested, formed-tested}
-use Rattle.table.proofs.Bytes.{read-well-formed}
 use Rattle.table.proofs.Parts.{states-at, internals-at, calls-at, returns-at}
-use Rattle.tops.specs.Tops.{topWords, topCount, liveReturns}
-use Rattle.tops.specs.Demands.{examinedOf}
+use Rattle.reach.specs.Tops.{topWords, topCount, liveReturns}
+use Rattle.tops.specs.Sections.{examinedOf}
 use Rattle.tops.specs.declared.Examined.{Examined}
 use Rattle.tops.proofs.Loops.{section-within}
 use Rattle.tops.proofs.Read.{sections-read}

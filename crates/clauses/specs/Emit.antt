@@ -10,10 +10,10 @@ use Rattle.lists.specs.Lists.{mem, over, gather, keep, upto}
 use Rattle.lists.specs.Bits.{has}
 use Rattle.limits.specs.Limits.{stateMost}
 use Rattle.pairs.specs.Triangles.{together, apart}
-use Rattle.table.specs.File.{Table, records}
-use Rattle.table.specs.Reading.{ascend}
-use Rattle.table.specs.Language.{byteOf, look}
-use Rattle.tops.specs.Tops.{live}
+use Rattle.format.specs.File.{Table, records}
+use Rattle.format.specs.Reading.{ascend}
+use Rattle.format.specs.Language.{byteOf, look}
+use Rattle.reach.specs.Tops.{live}
 use Rattle.tops.specs.Sections.{Section}
 use Rattle.cnf.specs.Clauses.{wordsOf}
 use Rattle.encoding.specs.declared.Listed.the-variants.{List as Words, Refused}

@@ -2,7 +2,7 @@
 ghost use mathlib.Core.Path.{_≡_};
 ghost use Prim.Native.Nat.{_+_, _<_, _≤_};
 ghost use lib.ListN.{length};
-ghost use Rattle.table.specs.File.{records};
+ghost use Rattle.format.specs.File.{records};
 ghost use Rattle.encoding.specs.Clauses.{premise};
 ghost use Rattle.clauses.specs.Emit.{literalsOf, withAll, Holds, matchingFrom, lastBytes, state, Ordered, emit};
 use super::emit::Tally;

@@ -1,7 +1,7 @@
 // The clauses of internals and calls: groups 3 and 4 of the list.
 ghost use mathlib.Core.Path.{_≡_};
 ghost use Rattle.lists.specs.Lists.{gather, upto};
-ghost use Rattle.table.specs.File.{records};
+ghost use Rattle.format.specs.File.{records};
 ghost use Rattle.encoding.specs.Clauses.{moveClause, moveClauses};
 ghost use Rattle.clauses.specs.Emit.{Sorted, state, Ordered, emit};
 use super::emit::Tally;

@@ -5,7 +5,7 @@ ghost use Prim.Native.Nat.{_≤_, _<_};
 ghost use lib.Dec.{eqb};
 ghost use Rattle.lists.specs.Lists.{gather, keep, upto};
 ghost use Rattle.lists.specs.Bits.{hasBit, has};
-ghost use Rattle.table.specs.File.{records};
+ghost use Rattle.format.specs.File.{records};
 ghost use Rattle.encoding.specs.Clauses.{topStates};
 ghost use Rattle.clauses.specs.Emit.{Sorted, returnOf, liveRecord, returnClausesBy, state, Ordered, emit};
 use super::emit::Tally;

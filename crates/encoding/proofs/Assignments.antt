@@ -18,11 +18,11 @@ use Rattle.pairs.proofs.Pairs.{variable-sym, variable-below, pair-ordered, pair
 use Rattle.vpa.specs.Quotients.{Joined, Raq}
 use Rattle.vpa.proofs.Relations.{raq-along, equality-raq}
 use Rattle.limits.specs.declared.Limits.{Limits}
-use Rattle.table.specs.File.{Table}
-use Rattle.table.specs.Reading.{WellFormed}
-use Rattle.table.specs.Language.{count, automaton}
-use Rattle.tops.proofs.Bounded.{lawful}
-use Rattle.tops.proofs.Formed.{bounded}
+use Rattle.format.specs.File.{Table}
+use Rattle.format.specs.Reading.{WellFormed}
+use Rattle.format.specs.Language.{count, automaton}
+use Rattle.reach.proofs.Bounded.{lawful}
+use Rattle.reach.proofs.Formed.{bounded}
 use Rattle.encoding.specs.Clauses.{clauseList}
 use Rattle.encoding.proofs.Related.{Related}
 use Rattle.encoding.proofs.Models.{model-raq}

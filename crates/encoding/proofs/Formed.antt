@@ -20,11 +20,11 @@ use Rattle.pairs.specs.Pairs.{pairs, variableOf}
 use Rattle.pairs.specs.Triangles.{together, apart, past, triangle, triangles}
 use Rattle.pairs.proofs.Pairs.{variable-below, variable-injective}
 use Rattle.pairs.proofs.Triangles.{past-mem}
-use Rattle.table.specs.File.{Table}
-use Rattle.table.specs.Reading.{WellFormed}
-use Rattle.table.specs.Language.{count, byteOf, look, targets, OneTarget}
-use Rattle.table.proofs.Facts.{Fit, internals-fit, calls-fit, returns-fit, targets-mem}
-use Rattle.tops.specs.Tops.{topWords, live, liveReturns}
+use Rattle.format.specs.File.{Table}
+use Rattle.format.specs.Reading.{WellFormed}
+use Rattle.format.specs.Language.{count, byteOf, look, targets, OneTarget}
+use Rattle.format.proofs.Facts.{Fit, internals-fit, calls-fit, returns-fit, targets-mem}
+use Rattle.reach.specs.Tops.{topWords, live, liveReturns}
 use Rattle.encoding.specs.Clauses.{opposite, once, tidy, premise, matching, lookClauses, transitivity, moveClause, moveClauses, returnClause, topStates, returnClauses, clauseList}
 use Rattle.encoding.proofs.Tidy.{opposite-half, opposite-sign, once-mem}
 

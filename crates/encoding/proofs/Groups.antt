@@ -18,10 +18,10 @@ use Rattle.pairs.specs.Pairs.{pairs, variableOf}
 use Rattle.pairs.specs.Triangles.{together, apart, past, triangle, triangles}
 use Rattle.pairs.proofs.Pairs.{variable-sym, in-order}
 use Rattle.pairs.proofs.Triangles.{past-mem, past-of}
-use Rattle.table.specs.File.{Table}
-use Rattle.table.specs.Language.{count, byteOf, look, targets}
-use Rattle.table.proofs.Facts.{Fit, three-bytes, four-bytes, targets-mem, mem-targets}
-use Rattle.tops.specs.Tops.{topWords, live, liveReturns}
+use Rattle.format.specs.File.{Table}
+use Rattle.format.specs.Language.{count, byteOf, look, targets}
+use Rattle.format.proofs.Facts.{Fit, three-bytes, four-bytes, targets-mem, mem-targets}
+use Rattle.reach.specs.Tops.{topWords, live, liveReturns}
 use Rattle.encoding.specs.Clauses.{premise, matching, lookClauses, transitivity, moveClause, moveClauses, returnClause, topStates, returnClauses}
 use Rattle.encoding.proofs.Tidy.{HasRight, Satisfied, Set, Matches, not-all, itself, to, matching-of, of-matching}
 use Rattle.encoding.proofs.Related.{Related, related-refl, related-sym, related-true, variable-bit, related-dec, set-together, premise-set, premise-related, premise-apart, right-positive, positive-right, right-negative, negative-right}

@@ -12,8 +12,8 @@ use lib.Dec.{leb}
 use borrow.Author.Tests.{eqb-true, eq-eqb, le-leb}
 use Rattle.lists.specs.Lists.{keep, upto}
 use Rattle.lists.proofs.Members.{and-of, keep-mem, keep-of, upto-mem, upto-of}
-use Rattle.table.specs.Maps.{classOf, classes, numberedFrom, numbered}
-use Rattle.maps.proofs.Numbered.{class-below}
+use Rattle.format.specs.Maps.{classOf, classes, numberedFrom, numbered}
+use Rattle.relations.proofs.Numbered.{class-below}
 use Rattle.encoding.specs.Maps.{joinedBy, nextClass, mapOf}
 use Rattle.encoding.proofs.Related.{Related, related-sym, related-true}
 

@@ -7,11 +7,11 @@ use Rattle.pairs.specs.Pairs.{pairs}
 use Rattle.vpa.specs.Quotients.{Equivalence, Raq}
 use Rattle.vpa.proofs.Relations.{Matched, matched-of, raq-of}
 use Rattle.limits.specs.declared.Limits.{Limits}
-use Rattle.table.specs.File.{Table}
-use Rattle.table.specs.Reading.{WellFormed}
-use Rattle.table.specs.Language.{count, automaton}
-use Rattle.table.proofs.Facts.{internals-fit, calls-fit, returns-fit, look-accepting, look-mark, agreed-look}
-use Rattle.tops.proofs.Formed.{told, reachable?}
+use Rattle.format.specs.File.{Table}
+use Rattle.format.specs.Reading.{WellFormed}
+use Rattle.format.specs.Language.{count, automaton}
+use Rattle.format.proofs.Facts.{internals-fit, calls-fit, returns-fit, look-accepting, look-mark, agreed-look}
+use Rattle.reach.proofs.Formed.{told, reachable?}
 use Rattle.encoding.specs.Clauses.{lookClauses, transitivity, moveClauses, clauseList}
 use Rattle.encoding.proofs.Tidy.{Satisfied}
 use Rattle.encoding.proofs.Related.{Related, related-refl, related-sym}

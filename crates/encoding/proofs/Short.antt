@@ -9,8 +9,8 @@ use Rattle.cnf.proofs.Values.{Formed}
 use Rattle.cnf.proofs.Closure.{members-same}
 use Rattle.cnf.proofs.Trials.{tried-members}
 use Rattle.pairs.specs.Pairs.{pairs}
-use Rattle.table.specs.File.{Table}
-use Rattle.table.specs.Language.{count}
+use Rattle.format.specs.File.{Table}
+use Rattle.format.specs.Language.{count}
 use Rattle.pairs.specs.Triangles.{triangles}
 use Rattle.encoding.specs.Clauses.{lookClauses, transitivity, moveClauses, returnClauses, clauseList, shortList}
 

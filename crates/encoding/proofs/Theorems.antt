@@ -20,13 +20,13 @@ use Rattle.pairs.proofs.Pairs.{variable-pair, pair-ordered, pair-below}
 use Rattle.vpa.specs.Quotients.{Joined}
 use Rattle.vpa.proofs.Relations.{raq-along}
 use Rattle.limits.specs.declared.Limits.{Limits}
-use Rattle.table.specs.File.{Table, tableOf}
-use Rattle.table.specs.Reading.{readNumber, Readable, WellFormed}
-use Rattle.table.specs.Language.{count, automaton}
-use Rattle.table.specs.Maps.{JoinedBy, Proper, RaqMap, NoneCoarser}
-use Rattle.table.proofs.Bytes.{read-well-formed}
-use Rattle.maps.specs.Check.{checkNumber}
-use Rattle.maps.proofs.Accepted.{accepts}
+use Rattle.format.specs.File.{Table, tableOf}
+use Rattle.format.specs.Reading.{readNumber, Readable, WellFormed}
+use Rattle.format.specs.Language.{count, automaton}
+use Rattle.format.specs.Maps.{JoinedBy, Proper, RaqMap, NoneCoarser}
+use Rattle.format.proofs.Bytes.{read-well-formed}
+use Rattle.relations.specs.Check.{checkNumber}
+use Rattle.relations.proofs.Accepted.{accepts}
 use Rattle.encoding.specs.declared.Listed.{Listed}
 use Rattle.encoding.specs.Clauses.{clauseList, clauseWords, clausesNumber, ClausesDone, clausesOf}
 use Rattle.encoding.specs.Maps.{mapOf}

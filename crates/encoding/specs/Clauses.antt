@@ -9,10 +9,10 @@ use Rattle.lists.specs.Bits.{has}
 use Rattle.cnf.specs.Clauses.{wordsOf}
 use Rattle.limits.specs.declared.Limits.{Limits}
 use Rattle.pairs.specs.Triangles.{together, apart, triangles}
-use Rattle.table.specs.File.{Table, tableOf}
-use Rattle.table.specs.Reading.{readNumber}
-use Rattle.table.specs.Language.{count, byteOf, look, targets}
-use Rattle.tops.specs.Tops.{topWords, liveReturns}
+use Rattle.format.specs.File.{Table, tableOf}
+use Rattle.format.specs.Reading.{readNumber}
+use Rattle.format.specs.Language.{count, byteOf, look, targets}
+use Rattle.reach.specs.Tops.{topWords, liveReturns}
 use Rattle.encoding.specs.declared.Listed.{Listed}
 use Rattle.encoding.specs.declared.Listed.the-variants.{List as Words, Refused}
 

@@ -6,9 +6,9 @@ use lib.ListN.{take}
 use Rattle.cnf.specs.Clauses.{Model, clausesIn}
 use Rattle.limits.specs.declared.Limits.{Limits}
 use Rattle.pairs.specs.Pairs.{pairs}
-use Rattle.table.specs.File.{tableOf}
-use Rattle.table.specs.Language.{count}
-use Rattle.maps.specs.Check.{checkNumber}
+use Rattle.format.specs.File.{tableOf}
+use Rattle.format.specs.Language.{count}
+use Rattle.relations.specs.Check.{checkNumber}
 use Rattle.encoding.specs.Maps.{mapOf}
 use Rattle.encoding.specs.declared.Listed.{Listed}
 use Rattle.encoding.specs.declared.Listed.the-variants.{List as Words, Refused}

@@ -10,9 +10,9 @@ use borrow.Author.Tests.{eqb-true, eq-eqb, ne-eqb, le-leb, lt-leb}
 use Rattle.lists.specs.Lists.{over}
 use Rattle.lists.proofs.Refusals.{fails, passes, no-test}
 use Rattle.limits.specs.declared.Limits.{Limits}
-use Rattle.table.specs.File.{Table, tableOf}
-use Rattle.maps.specs.Check.{checkNumber}
-use Rattle.maps.proofs.Accepted.{accepted}
+use Rattle.format.specs.File.{Table, tableOf}
+use Rattle.relations.specs.Check.{checkNumber}
+use Rattle.relations.proofs.Accepted.{accepted}
 use Rattle.quotients.specs.Quotient.{quotientTable, quotientBytes}
 use Rattle.quotients.proofs.Theorems.{quotient-table}
 use Rattle.fates.specs.declared.Recorded.{Recorded}

@@ -9,14 +9,14 @@ use lib.ListN.{length, length-append}
 use lib.Dec.{eqb}
 use Rattle.lists.specs.Lists.{keep, same}
 use Rattle.lists.proofs.Members.{and-true, and-of, any-true, any-false, any-of, keep-mem, keep-of, same-true, same-of}
-use Rattle.lists.proofs.Counts.{keep-append}
-use Rattle.table.specs.File.{Table}
-use Rattle.table.specs.Reading.{ascend}
-use Rattle.table.proofs.Order.{ascend-unique}
-use Rattle.tops.specs.Tops.{topWords, live, liveReturns}
+use Rattle.lists.proofs.Counts.{keep-append, keep-every}
+use Rattle.format.specs.File.{Table}
+use Rattle.format.specs.Reading.{ascend}
+use Rattle.format.proofs.Order.{ascend-unique}
+use Rattle.reach.specs.Tops.{topWords, live, liveReturns}
 use Rattle.quotients.specs.Quotient.{image, insert, ascending, images, quotientTable}
 use Rattle.quotients.proofs.Ascending.{Inserted, first, later, there, inserted, insert-mem, insert-new, insert-old, insert-ascends, ascending-ascends}
-use Rattle.quotients.proofs.Image.{images-mem, keep-every}
+use Rattle.quotients.proofs.Image.{images-mem}
 use Rattle.fates.specs.Fates.{keptMark, foldedMark, deadMark, taken, fate, fatesBehind, fatesOf, recordCount, having}
 
 -- ---- one record more among ascending ones

@@ -7,13 +7,13 @@ use lib.ListN.{replicate}
 use Rattle.lists.specs.Lists.{any, all, keep, gather, upto, same, parts, flat, over, firstFailed}
 use Rattle.lists.specs.Bits.{has, hasBit}
 use Rattle.limits.specs.Limits.{standard, limitsFit}
-use Rattle.table.specs.Limits.{longest}
-use Rattle.table.specs.File.{Table, word16, trailer, distance, version, start, records, tableOf, bytes16, fromReturns, fromCalls, fromInternals, fromStates, fromSymbols, trailerOf, bytesOf}
-use Rattle.table.specs.Reading.{lengthFits, versionFits, distancesFit, countsFit, stateByteMost, bytesFit, isInitial, startFits, recordFits, recordsFit, before, ascendFrom, ascend, orderFits, tableTests, readNumber}
-use Rattle.table.specs.Language.{look, targets}
-use Rattle.table.specs.Maps.{joins, numberedFrom, numbered}
-use Rattle.tops.specs.Tops.{add, byInternals, byCalls, live, byReturns, round, rounds, startWords, topWordsAt}
-use Rattle.maps.specs.Check.{looksAgree, moveMatched, movesMatched, returnMatched, returnsMatched, mapTests, checkNumber}
+use Rattle.format.specs.Limits.{longest}
+use Rattle.format.specs.File.{Table, word16, trailer, distance, version, start, records, tableOf, bytes16, fromReturns, fromCalls, fromInternals, fromStates, fromSymbols, trailerOf, bytesOf}
+use Rattle.format.specs.Reading.{lengthFits, versionFits, distancesFit, countsFit, stateByteMost, bytesFit, isInitial, startFits, recordFits, recordsFit, before, ascendFrom, ascend, orderFits, tableTests, readNumber}
+use Rattle.format.specs.Language.{look, targets}
+use Rattle.format.specs.Maps.{joins, numberedFrom, numbered}
+use Rattle.reach.specs.Tops.{add, byInternals, byCalls, live, byReturns, round, rounds, startWords, topWordsAt}
+use Rattle.relations.specs.Check.{looksAgree, moveMatched, movesMatched, returnMatched, returnsMatched, mapTests, checkNumber}
 use Rattle.quotients.specs.Quotient.{image}
 use Rattle.fates.specs.Fates.{taken, fate, fatesBehind, fatesOf, recordCount, having, countsOf, recordsNumber, recordsOf, recordedNumber, recordedValues}
 

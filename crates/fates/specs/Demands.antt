@@ -3,7 +3,7 @@
 use mathlib.Core.Path.{_≡_}
 use mathlib.Core.List.{List}
 use Prim.Native.Nat.{ℕ, _+_}
-use Rattle.table.specs.File.{tableOf}
+use Rattle.format.specs.File.{tableOf}
 use Rattle.quotients.specs.Quotient.{quotientTable, quotientBytes}
 use Rattle.fates.specs.declared.Recorded.{Recorded}
 use Rattle.fates.specs.declared.Recorded.the-variants.{Counts, Refused}

@@ -6,9 +6,9 @@ use lib.ListN.{length}
 use lib.Dec.{eqb, leb}
 use Rattle.lists.specs.Lists.{any, keep, same, over, firstFailed}
 use Rattle.limits.specs.declared.Limits.{Limits}
-use Rattle.table.specs.File.{Table, tableOf}
-use Rattle.tops.specs.Tops.{topWords, live}
-use Rattle.maps.specs.Check.{checkNumber}
+use Rattle.format.specs.File.{Table, tableOf}
+use Rattle.reach.specs.Tops.{topWords, live}
+use Rattle.relations.specs.Check.{checkNumber}
 use Rattle.quotients.specs.Quotient.{image}
 use Rattle.fates.specs.declared.Recorded.{Recorded}
 use Rattle.fates.specs.declared.Recorded.the-variants.{Counts, Refused}

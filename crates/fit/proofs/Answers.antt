@@ -8,10 +8,10 @@ use borrow.Author.Tests.{eq-eqb, ne-eqb}
 use Rattle.lists.proofs.Members.{not-so, same-true, same-of}
 use Rattle.lists.proofs.Refusals.{passes, fails, no-test}
 use Rattle.limits.specs.Limits.{standard}
-use Rattle.table.specs.File.{tableOf}
-use Rattle.table.specs.Reading.{readNumber}
+use Rattle.format.specs.File.{tableOf}
+use Rattle.format.specs.Reading.{readNumber}
+use Rattle.format.specs.declared.Starts.{Starts}
 use Rattle.table.specs.Sections.{partOf}
-use Rattle.table.specs.declared.Starts.{Starts}
 use Rattle.table.specs.declared.view.Section.the-variants.{Symbols}
 use Rattle.table.proofs.Parts.{symbols-read}
 use Rattle.fitting.specs.Fit.{fits, noChoice, sameSymbols, fitNumber, fitOf}

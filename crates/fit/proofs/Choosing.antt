@@ -10,9 +10,9 @@ use lib.Seq.{take-take}
 use borrow.Author.Tests.{eq-eqb, ne-eqb}
 use Rattle.lists.specs.Lists.{all, keep, same}
 use Rattle.lists.proofs.Members.{and-true, and-of, gives, gives-of, not-so, all-true, all-of, same-true, same-of, one-on}
-use Rattle.table.specs.File.{records}
-use Rattle.table.specs.Reading.{isInitial, before, ascendFrom, ascend}
-use Rattle.table.proofs.Order.{first-cases, by-first, by-others, before-irreflexive, before-transitive, ascend-rest}
+use Rattle.format.specs.File.{records}
+use Rattle.format.specs.Reading.{isInitial, before, ascendFrom, ascend}
+use Rattle.format.proofs.Order.{first-cases, by-first, by-others, before-irreflexive, before-transitive, ascend-rest}
 use Rattle.table.proofs.Walks.{records-cons, records-end}
 use Rattle.quotients.specs.Quotient.{bitOf}
 use Rattle.fitting.specs.Fit.{oneTarget}

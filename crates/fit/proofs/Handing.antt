@@ -8,17 +8,17 @@ use lib.ListN.{length}
 use borrow.Author.Tests.{eq-eqb, ne-eqb}
 use Rattle.lists.specs.Lists.{keep}
 use Rattle.limits.specs.Limits.{standard}
-use Rattle.table.specs.File.{Table, tableOf, records}
-use Rattle.table.specs.Reading.{isInitial, WellFormed}
-use Rattle.table.specs.Language.{count}
+use Rattle.format.specs.File.{Table, tableOf, records}
+use Rattle.format.specs.Reading.{isInitial, WellFormed}
+use Rattle.format.specs.Language.{count}
+use Rattle.format.specs.declared.Starts.{Starts}
+use Rattle.format.proofs.Bytes.{read-well-formed}
+use Rattle.format.proofs.Facts.{Fit, internals-fit, calls-fit, returns-fit, few-states}
+use Rattle.format.proofs.Passed.{formed-tested}
 use Rattle.table.specs.Sections.{partOf, ReadAs}
-use Rattle.table.specs.declared.Starts.{Starts}
 use Rattle.table.specs.declared.view.Section.the-variants.{States, Internals, Calls, Returns}
-use Rattle.table.proofs.Bytes.{read-well-formed}
-use Rattle.table.proofs.Facts.{Fit, internals-fit, calls-fit, returns-fit, few-states}
 use Rattle.table.proofs.Parts.{states-read, internals-read, calls-read, returns-read}
-use Rattle.table.proofs.Passed.{formed-tested}
-use Rattle.tops.specs.Tops.{rounds, startWords}
+use Rattle.reach.specs.Tops.{rounds, startWords}
 use Rattle.fitting.specs.Fit.{pairCount, pairTable, pairTops, ends, fits, oneTarget, oneInitial, noChoice}
 use Rattle.fit.specs.Rows.{Holds, Named, Ascends, NextMoves, NextReturns, Given, BothRead}
 use Rattle.fit.specs.Quick.{Partly, Counts, Inner, Pushing, Popping}

@@ -19,8 +19,8 @@ use Rattle.lists.proofs.Lowest.{bit-le}
 use Rattle.lists.specs.Lists.{same}
 use Rattle.lists.proofs.Words.{bits-equal}
 use Rattle.lists.proofs.Members.{same-true, same-of}
-use Rattle.tops.specs.Tops.{add}
-use Rattle.tops.proofs.Walks.{add-bit, add-below, add-own, length-add}
+use Rattle.reach.specs.Tops.{add}
+use Rattle.reach.proofs.Walks.{add-bit, add-below, add-own, length-add}
 use Rattle.fit.specs.Rows.{Holds, joined, anyIn, with-bit}
 
 -- ---- what a join leaves

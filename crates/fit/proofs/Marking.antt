@@ -16,11 +16,11 @@ use Rattle.lists.specs.Bits.{has}
 use Rattle.lists.proofs.Members.{length-upto}
 use Rattle.lists.proofs.Upto.{upto-on}
 use Rattle.lists.proofs.Words.{getD-padded}
-use Rattle.table.specs.File.{Table}
-use Rattle.table.specs.Reading.{isInitial, isAccepting}
-use Rattle.table.specs.Language.{count, byteOf}
-use Rattle.tops.specs.Tops.{add, startWords}
-use Rattle.tops.proofs.Walks.{length-add}
+use Rattle.format.specs.File.{Table}
+use Rattle.format.specs.Reading.{isInitial, isAccepting}
+use Rattle.format.specs.Language.{count, byteOf}
+use Rattle.reach.specs.Tops.{add, startWords}
+use Rattle.reach.proofs.Walks.{length-add}
 use Rattle.fitting.specs.Fit.{pairByte, pairTable, pairCount, ends}
 use Rattle.fit.specs.Rows.{Holds, startStep}
 use Rattle.fitting.proofs.Tables.{count-pairs, byte-pairs, byte-initial, byte-accepting}

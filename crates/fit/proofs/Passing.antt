@@ -13,11 +13,11 @@ use lib.Dec.{eqb}
 use Rattle.lists.specs.Lists.{upto, gather}
 use Rattle.lists.specs.Bits.{has}
 use Rattle.lists.proofs.Counts.{gather-append}
-use Rattle.table.specs.File.{records}
-use Rattle.table.proofs.Facts.{three-bytes, four-bytes}
+use Rattle.format.specs.File.{records}
+use Rattle.format.proofs.Facts.{three-bytes, four-bytes}
 use Rattle.table.proofs.Walks.{records-cons, records-end}
-use Rattle.tops.specs.Tops.{add, byInternals, byCalls, byReturns, live}
-use Rattle.tops.proofs.Walks.{length-add}
+use Rattle.reach.specs.Tops.{add, byInternals, byCalls, byReturns, live}
+use Rattle.reach.proofs.Walks.{length-add}
 use Rattle.tops.proofs.Loops.{record-byte}
 use Rattle.fitting.specs.Fit.{after, pairMove, pairMoves, pairReturn, pairReturns}
 use Rattle.fit.specs.Rows.{Holds, stepKind, byKind, stepReturn, Turns, Named, Nexts, NextMoves, NextReturns}

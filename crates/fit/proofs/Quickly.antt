@@ -24,16 +24,16 @@ use Rattle.lists.proofs.Words.{getD-padded}
 use Rattle.lists.proofs.Bits.{no-bit, bit-pow, has-true, some-bit}
 use Rattle.limits.specs.Limits.{standard}
 use Rattle.vpa.specs.Automata.{along, pushed, popped}
-use Rattle.table.specs.File.{Table, records}
-use Rattle.table.specs.Reading.{WellFormed}
-use Rattle.table.specs.Language.{count}
-use Rattle.tops.specs.Tops.{topNamed, add, rounds, startWords, topWordsAt}
-use Rattle.table.proofs.Facts.{internals-fit, calls-fit, returns-fit, three-bytes, four-bytes}
+use Rattle.format.specs.File.{Table, records}
+use Rattle.format.specs.Reading.{WellFormed}
+use Rattle.format.specs.Language.{count}
+use Rattle.reach.specs.Tops.{topNamed, add, rounds, startWords, topWordsAt}
+use Rattle.format.proofs.Facts.{internals-fit, calls-fit, returns-fit, three-bytes, four-bytes}
+use Rattle.reach.proofs.Walks.{add-bit, add-below, length-add}
+use Rattle.reach.proofs.Bounded.{Bounded}
+use Rattle.reach.proofs.Formed.{bounded}
+use Rattle.reach.proofs.Exact.{start-sound, rounds-alike}
 use Rattle.tops.proofs.Loops.{record-byte}
-use Rattle.tops.proofs.Walks.{add-bit, add-below, length-add}
-use Rattle.tops.proofs.Bounded.{Bounded}
-use Rattle.tops.proofs.Formed.{bounded}
-use Rattle.tops.proofs.Exact.{start-sound, rounds-alike}
 use Rattle.fitting.specs.Fit.{pairOf, after, pairMove, pairReturn, pairCount, pairTable, pairTops}
 use Rattle.fitting.proofs.Numbers.{pair-below}
 use Rattle.fitting.proofs.Tables.{count-pairs, pairs-bounded, moves-of, returns-of, internals-sides, calls-sides, returns-sides}

@@ -13,8 +13,8 @@ use lib.Dec.{eqb}
 use borrow.Author.Tests.{eq-eqb, ne-eqb}
 use Rattle.lists.specs.Lists.{same}
 use Rattle.lists.proofs.Members.{same-true}
-use Rattle.table.specs.File.{Table, records}
-use Rattle.tops.specs.Tops.{byInternals, byCalls, byReturns, round, rounds}
+use Rattle.format.specs.File.{Table, records}
+use Rattle.reach.specs.Tops.{byInternals, byCalls, byReturns, round, rounds}
 use Rattle.fitting.specs.Fit.{pairMoves, pairReturns, pairTable}
 use Rattle.fit.specs.Rows.{Holds, byKind, Turns, Given}
 use Rattle.fit.specs.declared.pairs.Kind.the-variants.{Internal, Call}

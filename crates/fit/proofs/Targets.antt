@@ -8,8 +8,8 @@ use lib.ListN.{length, getD, set, take, replicate, length-set, length-replicate,
 use lib.Seq.{getD-take, getD-set-same, getD-set-other}
 use Rattle.lists.specs.Lists.{keep, same}
 use Rattle.lists.proofs.Members.{keep-mem}
-use Rattle.table.specs.File.{records}
-use Rattle.table.specs.Language.{targets}
+use Rattle.format.specs.File.{records}
+use Rattle.format.specs.Language.{targets}
 use Rattle.table.specs.Spans.{startsWith}
 use Rattle.table.proofs.Walks.{records-cons, records-end}
 use Rattle.fitting.specs.Fit.{after}

@@ -11,10 +11,10 @@ use lib.Dec.{eqb}
 use Rattle.lists.specs.Bits.{Bit}
 use Rattle.limits.specs.Limits.{standard}
 use Rattle.vpa.specs.Automata.{Top}
-use Rattle.table.specs.File.{Table, records}
-use Rattle.table.specs.Reading.{WellFormed}
-use Rattle.table.specs.Language.{count, automaton}
-use Rattle.tops.specs.Tops.{topNamed, startWords}
+use Rattle.format.specs.File.{Table, records}
+use Rattle.format.specs.Reading.{WellFormed}
+use Rattle.format.specs.Language.{count, automaton}
+use Rattle.reach.specs.Tops.{topNamed, startWords}
 use Rattle.fitting.specs.Fit.{pairCount, pairTable}
 use Rattle.fit.specs.Rows.{Holds, Named, Nexts, NextMoves, NextReturns}
 

@@ -9,13 +9,13 @@ use lib.Bits.{bitOr}
 use lib.Dec.{eqb}
 use Rattle.lists.specs.Lists.{gather, upto}
 use Rattle.lists.specs.Bits.{Bit, has}
-use Rattle.table.specs.File.{Table, records}
+use Rattle.format.specs.File.{Table, records}
 use Rattle.limits.specs.Limits.{standard}
-use Rattle.table.specs.Reading.{isInitial, ascend}
+use Rattle.format.specs.Reading.{isInitial, ascend}
+use Rattle.format.specs.declared.Starts.{Starts}
+use Rattle.format.specs.Language.{count}
 use Rattle.table.specs.Sections.{ReadAs}
-use Rattle.table.specs.declared.Starts.{Starts}
-use Rattle.table.specs.Language.{count}
-use Rattle.tops.specs.Tops.{add, byInternals, byCalls, byReturns, rounds, startWords}
+use Rattle.reach.specs.Tops.{add, byInternals, byCalls, byReturns, rounds, startWords}
 use Rattle.fitting.specs.Fit.{after, pairMove, pairMoves, pairReturn, pairReturns, pairCount, pairTable, ends}
 use Rattle.fit.specs.declared.pairs.Kind.{Kind}
 use Rattle.fit.specs.declared.pairs.Kind.the-variants.{Internal, Call}

@@ -5,12 +5,12 @@ ghost use Prim.Native.Nat.{_-_, _≤_};
 ghost use lib.ListN.{length};
 ghost use Rattle.lists.specs.Lists.{keep};
 ghost use Rattle.limits.specs.Limits.{standard};
-ghost use Rattle.table.specs.File.{tableOf, records};
-ghost use Rattle.table.specs.Reading.{isInitial, ascend};
+ghost use Rattle.format.specs.File.{tableOf, records};
+ghost use Rattle.format.specs.Reading.{isInitial, ascend};
 ghost use Rattle.table.specs.Sections.{ReadAs};
 ghost use Rattle.fitting.specs.Fit.{oneTarget, noChoice};
+use format::Starts;
 use table::Section;
-use table::Starts;
 
 // How many states are initial.
 fn initials(states: &[u8]) -> usize

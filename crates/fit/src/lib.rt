@@ -15,10 +15,10 @@ ghost use Rattle.fitting.specs.Demands.{YesExactly, NoApart, FitsQuotient, Fits
 ghost use Rattle.fit.specs.Rows.{BothRead};
 use choice::no_choice;
 use fitting::Fitting;
+use format::Reading;
+use format::Starts;
 use settle::fits;
-use table::Reading;
 use table::Section;
-use table::Starts;
 
 // The answer for two tables that were read.
 fn fit_both(first: &[u8], one: Starts, second: &[u8], two: Starts) -> Fitting

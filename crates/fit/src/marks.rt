@@ -5,7 +5,7 @@ ghost use mathlib.Core.List.{List};
 ghost use Prim.Native.Nat.{ℕ, _+_, _*_, _<_, _≤_};
 ghost use lib.ListN.{length, getD};
 ghost use Rattle.lists.specs.Bits.{has};
-ghost use Rattle.table.specs.Reading.{isInitial, isAccepting};
+ghost use Rattle.format.specs.Reading.{isInitial, isAccepting};
 ghost use Rattle.fitting.specs.Fit.{pairByte};
 ghost use Rattle.fit.specs.Rows.{Holds, startStep, EndsTold, StartsTold};
 use super::rows::held;

@@ -3,7 +3,7 @@ ghost use mathlib.Core.Path.{_≡_};
 ghost use mathlib.Core.List.{[], _∷_, map};
 ghost use Prim.Native.Nat.{ℕ, suc, _*_, _<_, _≤_};
 ghost use Rattle.lists.specs.Lists.{upto};
-ghost use Rattle.table.specs.File.{records};
+ghost use Rattle.format.specs.File.{records};
 ghost use Rattle.fitting.specs.Fit.{pairReturn};
 ghost use Rattle.fit.specs.Rows.{stepKind, stepReturn, Turns, Named, Nexts, MoveTurns, MovesTurn, overEach, ReturnTurns, ReturnsTurn};
 use super::rows::any;

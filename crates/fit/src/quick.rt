@@ -4,7 +4,7 @@ ghost use mathlib.Core.Path.{_≡_};
 ghost use mathlib.Core.Option.{some};
 ghost use Prim.Native.Nat.{_+_, _*_, _<_, _≤_};
 ghost use lib.ListN.{getD};
-ghost use Rattle.table.specs.File.{Table};
+ghost use Rattle.format.specs.File.{Table};
 ghost use Rattle.fitting.specs.Fit.{pairCount};
 ghost use Rattle.fit.specs.Rows.{Named, Nexts};
 ghost use Rattle.fit.specs.Quick.{coveredIn, PairTop, Follows, Partly, Links, LinkOn, AddsTops, Place, Places, Fed, PushesOn, PopsOver, PopsOn, LooksOn, LinksOn, AllLinks, AnyMarked};

@@ -2,8 +2,8 @@
 ghost use mathlib.Core.Path.{_≡_};
 ghost use Prim.Native.Nat.{_*_, _≤_};
 ghost use Rattle.lists.specs.Lists.{same};
-ghost use Rattle.table.specs.File.{tableOf};
-ghost use Rattle.tops.specs.Tops.{rounds};
+ghost use Rattle.format.specs.File.{tableOf};
+ghost use Rattle.reach.specs.Tops.{rounds};
 ghost use Rattle.fitting.specs.Fit.{pairTops, fits};
 ghost use Rattle.fit.specs.Rows.{Holds, Named, Nexts, Rests, BothRead};
 use super::marks::any_ends;
@@ -15,8 +15,8 @@ use super::pairs::Kind;
 use super::pairs::by_moves;
 use super::pairs::by_returns;
 use super::quick::quick;
+use format::Starts;
 use table::Section;
-use table::Starts;
 
 fn same_rows(a: [u64; 6000], b: [u64; 6000]) -> bool
     ensures { λ r. ⌜ r ≡ same a b ⌝ }

@@ -11,10 +11,10 @@ use borrow.Author.Tests.{eqb-true, eq-eqb}
 use Rattle.lists.specs.Lists.{all, keep, same}
 use Rattle.lists.proofs.Members.{and-true, and-of, gives, gives-of, not-so, all-true, all-of, same-true, same-of}
 use Rattle.limits.specs.declared.Limits.{Limits}
-use Rattle.table.specs.File.{Table}
-use Rattle.table.specs.Reading.{isInitial, WellFormed}
-use Rattle.table.specs.Language.{automaton}
-use Rattle.table.proofs.Passed.{formed-wide}
+use Rattle.format.specs.File.{Table}
+use Rattle.format.specs.Reading.{isInitial, WellFormed}
+use Rattle.format.specs.Language.{automaton}
+use Rattle.format.proofs.Passed.{formed-wide}
 use Rattle.fitting.specs.Fit.{oneTarget, oneInitial, noChoice}
 use Rattle.fitting.specs.Demands.{WithoutChoice}
 use Rattle.fitting.proofs.Pairing.{Deterministic}

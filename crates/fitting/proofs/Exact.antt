@@ -18,15 +18,15 @@ use Rattle.lists.proofs.Refusals.{passed, passes, no-test}
 use Rattle.vpa.specs.Automata.{Tops, Accepts}
 use Rattle.limits.specs.declared.Limits.{Limits}
 use Rattle.limits.specs.Limits.{standard}
-use Rattle.table.specs.File.{Table, tableOf}
-use Rattle.table.specs.Reading.{isAccepting, Readable, WellFormed}
-use Rattle.table.specs.Language.{count, byteOf, automaton, AcceptsWord}
-use Rattle.table.proofs.Facts.{internals-fit, calls-fit, returns-fit}
-use Rattle.table.proofs.Bytes.{read-well-formed}
-use Rattle.tops.specs.Tops.{topWordsAt}
-use Rattle.tops.proofs.Bounded.{lawful}
-use Rattle.tops.proofs.Formed.{bounded}
-use Rattle.tops.proofs.Exact.{bottom-has}
+use Rattle.format.specs.File.{Table, tableOf}
+use Rattle.format.specs.Reading.{isAccepting, Readable, WellFormed}
+use Rattle.format.specs.Language.{count, byteOf, automaton, AcceptsWord}
+use Rattle.format.proofs.Facts.{internals-fit, calls-fit, returns-fit}
+use Rattle.format.proofs.Bytes.{read-well-formed}
+use Rattle.reach.specs.Tops.{topWordsAt}
+use Rattle.reach.proofs.Bounded.{lawful}
+use Rattle.reach.proofs.Formed.{bounded}
+use Rattle.reach.proofs.Exact.{bottom-has}
 use Rattle.fitting.specs.Fit.{firstOf, secondOf, pairCount, pairTable, ends, fits, noChoice, sameSymbols, fitNumber, fitOf, fittingNumber}
 use Rattle.fitting.specs.Demands.{WithoutChoice, Apart, YesExactly, NoApart}
 use Rattle.fitting.specs.declared.Fitting.{Fitting}

@@ -5,11 +5,11 @@ use Prim.Native.Nat.{ℕ}
 use Rattle.lists.specs.Lists.{any, all, keep, parts, gather, upto, same, firstFailed}
 use Rattle.lists.specs.Bits.{hasBit, has}
 use Rattle.limits.specs.Limits.{limitsFit}
-use Rattle.table.specs.Limits.{longest}
-use Rattle.table.specs.File.{word16, trailer, distance, version, start, records, tableOf}
-use Rattle.table.specs.Reading.{lengthFits, versionFits, distancesFit, countsFit, stateByteMost, bytesFit, isInitial, isAccepting, startFits, recordFits, recordsFit, before, ascendFrom, ascend, orderFits, tableTests, readNumber}
-use Rattle.table.specs.Language.{targets}
-use Rattle.tops.specs.Tops.{add, byInternals, byCalls, live, byReturns, round, rounds, startWords, topWordsAt}
+use Rattle.format.specs.Limits.{longest}
+use Rattle.format.specs.File.{word16, trailer, distance, version, start, records, tableOf}
+use Rattle.format.specs.Reading.{lengthFits, versionFits, distancesFit, countsFit, stateByteMost, bytesFit, isInitial, isAccepting, startFits, recordFits, recordsFit, before, ascendFrom, ascend, orderFits, tableTests, readNumber}
+use Rattle.format.specs.Language.{targets}
+use Rattle.reach.specs.Tops.{add, byInternals, byCalls, live, byReturns, round, rounds, startWords, topWordsAt}
 use Rattle.quotients.specs.Quotient.{bitOf}
 use Rattle.fitting.specs.declared.Fitting.{Fitting}
 use Rattle.fitting.specs.Fit.{after, pairMove, pairMoves, pairReturn, pairReturns, pairByte, pairTable, ends, fits, oneTarget, oneInitial, noChoice, sameSymbols, fitNumber, fitOf, fittingNumber, fittingValues}

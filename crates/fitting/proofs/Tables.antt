@@ -10,11 +10,11 @@ use lib.ListN.{length, getD, length-map, List·getD-eq-default}
 use borrow.Author.Tests.{eqb-true, eqb-false, eq-eqb, ne-eqb}
 use Rattle.lists.specs.Lists.{gather, upto}
 use Rattle.lists.proofs.Members.{getD-map, getD-upto, length-upto, upto-of, upto-mem, gather-mem, gather-of, and-true, and-of}
-use Rattle.table.specs.File.{Table}
-use Rattle.table.specs.Reading.{isInitial, isAccepting}
-use Rattle.table.specs.Language.{count, byteOf, targets, automaton}
-use Rattle.table.proofs.Facts.{targets-mem, mem-targets, three-bytes, four-bytes}
-use Rattle.tops.proofs.Bounded.{Moves, Pops, Bounded, lawful}
+use Rattle.format.specs.File.{Table}
+use Rattle.format.specs.Reading.{isInitial, isAccepting}
+use Rattle.format.specs.Language.{count, byteOf, targets, automaton}
+use Rattle.format.proofs.Facts.{targets-mem, mem-targets, three-bytes, four-bytes}
+use Rattle.reach.proofs.Bounded.{Moves, Pops, Bounded, lawful}
 use Rattle.quotients.specs.Quotient.{bitOf}
 use Rattle.fitting.specs.Fit.{pairOf, firstOf, secondOf, after, pairMove, pairMoves, pairReturn, pairReturns, pairByte, pairTable, pairCount}
 use Rattle.fitting.proofs.Numbers.{pair-first, pair-second, pair-whole, second-below, pair-below}

@@ -5,9 +5,9 @@ use mathlib.Core.List.{List}
 use Prim.Native.Nat.{ℕ}
 use Rattle.limits.specs.declared.Limits.{Limits}
 use Rattle.limits.specs.Limits.{standard}
-use Rattle.table.specs.File.{tableOf}
-use Rattle.maps.specs.Check.{checkNumber}
-use Rattle.maps.proofs.Accepted.{accepted}
+use Rattle.format.specs.File.{tableOf}
+use Rattle.relations.specs.Check.{checkNumber}
+use Rattle.relations.proofs.Accepted.{accepted}
 use Rattle.quotients.specs.Quotient.{quotientBytes}
 use Rattle.quotients.proofs.Theorems.{keeps-words, is-quotient}
 use Rattle.fitting.specs.declared.Fitting.{Fitting}

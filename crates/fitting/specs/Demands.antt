@@ -4,9 +4,9 @@ use mathlib.Core.Logic.{_↔_}
 use mathlib.Core.List.{List}
 use Prim.Native.Nat.{ℕ}
 use Rattle.limits.specs.declared.Limits.{Limits}
-use Rattle.table.specs.File.{Table}
-use Rattle.table.specs.Language.{automaton, OneTarget, AcceptsWord}
-use Rattle.maps.specs.Check.{checkNumber}
+use Rattle.format.specs.File.{Table}
+use Rattle.format.specs.Language.{automaton, OneTarget, AcceptsWord}
+use Rattle.relations.specs.Check.{checkNumber}
 use Rattle.quotients.specs.Quotient.{quotientBytes}
 use Rattle.fitting.specs.declared.Fitting.{Fitting}
 use Rattle.fitting.specs.declared.Fitting.the-variants.{Yes, No}

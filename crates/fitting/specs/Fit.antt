@@ -7,10 +7,10 @@ use lib.Dec.{eqb}
 use Rattle.lists.specs.Lists.{any, all, keep, gather, upto, same, firstFailed}
 use Rattle.lists.specs.Bits.{has}
 use Rattle.limits.specs.Limits.{standard}
-use Rattle.table.specs.File.{Table, tableOf}
-use Rattle.table.specs.Reading.{isInitial, isAccepting, readNumber}
-use Rattle.table.specs.Language.{count, byteOf, targets}
-use Rattle.tops.specs.Tops.{topWordsAt}
+use Rattle.format.specs.File.{Table, tableOf}
+use Rattle.format.specs.Reading.{isInitial, isAccepting, readNumber}
+use Rattle.format.specs.Language.{count, byteOf, targets}
+use Rattle.reach.specs.Tops.{topWordsAt}
 use Rattle.quotients.specs.Quotient.{bitOf}
 use Rattle.fitting.specs.declared.Fitting.{Fitting}
 use Rattle.fitting.specs.declared.Fitting.the-variants.{Yes, No, Refused}

@@ -10,9 +10,9 @@ use lib.Dec.{ltb, leb}
 use borrow.Author.Tests.{leb-true, ltb-true}
 use Rattle.lists.specs.Lists.{all}
 use Rattle.lists.proofs.Members.{and-true, and-of}
-use Rattle.table.specs.File.{bytesOf}
+use Rattle.format.specs.File.{bytesOf}
+use Rattle.format.proofs.Bytes.{Bytes}
 use Rattle.table.specs.Keys.{key}
-use Rattle.table.proofs.Bytes.{Bytes}
 use Rattle.quotients.specs.Quotient.{QuotientDone}
 use Rattle.quotients.specs.declared.Written.the-variants.{Refused}
 use Rattle.quotient.specs.Keys.{keysOf, lastBytes, Holds}

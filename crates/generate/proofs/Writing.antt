@@ -13,7 +13,7 @@ use Rattle.lists.proofs.Refusals.{passes, fails, no-test}
 use Rattle.limits.specs.declared.Limits.{Limits}
 use Rattle.limits.specs.Limits.{limitsFit}
 use Rattle.limits.proofs.Within.{limits-within}
-use Rattle.table.specs.File.{bytesOf}
+use Rattle.format.specs.File.{bytesOf}
 use Rattle.quotients.specs.declared.Written.the-variants.{Length, Refused}
 use Rattle.quotient.specs.Keys.{Holds}
 use Rattle.quotient.specs.Sections.{keyedTable, writtenFor}

@@ -8,7 +8,7 @@ use lib.ListN.{length, getD, replicate}
 use lib.Dec.{leb}
 use Rattle.lists.specs.Lists.{upto}
 use Rattle.limits.specs.Limits.{stateMost, symbolMost}
-use Rattle.table.specs.Limits.{moveLimit, returnLimit}
+use Rattle.format.specs.Limits.{moveLimit, returnLimit}
 use Rattle.table.specs.Keys.{key}
 use Rattle.quotients.specs.Quotient.{QuotientDone}
 use Rattle.quotients.specs.declared.Written.the-variants.{Refused}

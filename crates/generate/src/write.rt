@@ -3,7 +3,7 @@ ghost use mathlib.Core.Path.{_≡_};
 ghost use Prim.Native.Nat.{_+_, _<_, _≤_};
 ghost use lib.ListN.{length};
 ghost use Rattle.lists.specs.Lists.{over};
-ghost use Rattle.table.specs.File.{bytesOf};
+ghost use Rattle.format.specs.File.{bytesOf};
 ghost use Rattle.quotient.specs.Sections.{keyedTable, writtenFor};
 ghost use Rattle.loads.specs.Loads.{kindOf, symbolBytes, stateByte, stateBytes};
 ghost use Rattle.generate.specs.Sections.{Counts, FewKeys};

@@ -28,6 +28,12 @@ module _ {A : Type 0} where
       go true h = suc-le-suc h
       go false h = le-trans h (le-suc _)
 
+  -- a test that all pass
+  pub keep-every : (xs : List A) → keep (λ x. true) xs ≡ xs
+  unfolding keep
+  keep-every [] = refl
+  keep-every (x ∷ xs) = ap (λ (l : List A). x ∷ l) (keep-every xs)
+
   -- a test that passes more often, and once more at y, keeps more
   pub keep-less : (f g : A → Bool) (xs : List A) → ((x : A) → List·Memᴰ x xs → f x ≡ true → g x ≡ true) → (y : A) → List·Memᴰ y xs → f y ≡ false → g y ≡ true → length (keep f xs) < length (keep g xs)
   unfolding keep

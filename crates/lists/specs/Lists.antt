@@ -1,8 +1,8 @@
 -- Walks over lists that the definitions of the other crates are written with, and how a call is refused. Assumes nothing.
 use mathlib.Core.Bool.{Bool, true, false, _&&_, _||_}
 use mathlib.Core.List.{List, [], _∷_, _++_}
-use Prim.Native.Nat.{ℕ, zero, suc, _+_}
-use lib.ListN.{length, take, drop}
+use Prim.Native.Nat.{ℕ, zero, suc, _+_, _<_}
+use lib.ListN.{length, getD, take, drop}
 use lib.Dec.{eqb}
 
 module _ {A : Type 0} where
@@ -30,6 +30,10 @@ gather f (x ∷ xs) = f x ++ gather f xs
 unfoldable pub upto : ℕ → List ℕ
 upto zero = []
 upto (suc n) = upto n ++ (n ∷ [])
+
+-- the numbers ascend
+pub record Rising (xs : List ℕ) : Type 0 where
+  pub rises : (i j : ℕ) → i < j → j < length xs → getD xs i 0 < getD xs j 0
 
 -- x stands in the list
 unfoldable pub mem : ℕ → List ℕ → Bool

@@ -11,10 +11,10 @@ use Rattle.lists.specs.Lists.{all, upto}
 use Rattle.lists.proofs.Members.{and-true, and-of, getD-mem, any-of}
 use Rattle.limits.specs.declared.Limits.{Limits}
 use Rattle.limits.specs.Limits.{limitsFit}
-use Rattle.table.specs.File.{tableOf}
-use Rattle.table.specs.Reading.{versionFits, stateByteMost, isInitial, recordFits, Readable, WellFormed}
-use Rattle.table.proofs.Passed.{Wide, Tested, formed-of}
-use Rattle.table.proofs.Bytes.{table-of-bytes, read-bytes}
+use Rattle.format.specs.File.{tableOf}
+use Rattle.format.specs.Reading.{versionFits, stateByteMost, isInitial, recordFits, Readable, WellFormed}
+use Rattle.format.proofs.Passed.{Wide, Tested, formed-of}
+use Rattle.format.proofs.Bytes.{table-of-bytes, read-bytes}
 use Rattle.quotients.specs.Quotient.{bitOf}
 use Rattle.quotients.proofs.States.{bit-small}
 use Rattle.loads.specs.Loads.{Load, kindOf, symbolBytes, stateByte, stateBytes, possible, possibleInternals, possibleCalls, possibleReturns, seedCalls, seedReturns, described, describedBytes, sizesFit, recordsFew}

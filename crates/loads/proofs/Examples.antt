@@ -6,7 +6,7 @@ use lib.ListN.{replicate}
 use Rattle.lists.specs.Lists.{gather, upto, flat, firstFailed}
 use Rattle.limits.specs.declared.Limits.{Limits}
 use Rattle.limits.specs.Limits.{standard, limitsFit}
-use Rattle.table.specs.File.{bytes16, fromReturns, fromCalls, fromInternals, fromStates, fromSymbols, trailerOf, bytesOf}
+use Rattle.format.specs.File.{bytes16, fromReturns, fromCalls, fromInternals, fromStates, fromSymbols, trailerOf, bytesOf}
 use Rattle.quotients.specs.Quotient.{bitOf}
 use Rattle.loads.specs.Loads.{Load, loadOf, draw, kindOf, symbolBytes, stateByte, stateBytes, tuples, span, possible, present, after, possibleInternals, possibleCalls, possibleReturns, seedCalls, seedReturns, described, describedBytes, sizesFit, recordsFew, generateNumber}
 

@@ -5,8 +5,8 @@ use mathlib.Core.List.{List, [], _∷_, List·Memᴰ, List·Memᴰ·head, List·
 use Prim.Native.Nat.{ℕ, _/_, _<_, _≤_}
 use lib.Dec.{ltb}
 use borrow.Author.Tests.{lt-ltb, le-ltb}
-use Rattle.table.specs.Reading.{ascend}
-use Rattle.table.proofs.Order.{ascend-behind, ascend-rest, ascend-cons}
+use Rattle.format.specs.Reading.{ascend}
+use Rattle.format.proofs.Order.{ascend-behind, ascend-rest, ascend-cons}
 use Rattle.loads.specs.Loads.{draw, present}
 
 -- ---- one record more

@@ -12,8 +12,8 @@ use Rattle.lists.specs.Lists.{over}
 use Rattle.lists.proofs.Refusals.{passed}
 use Rattle.limits.specs.declared.Limits.{Limits}
 use Rattle.limits.specs.Limits.{limitsFit}
-use Rattle.table.specs.File.{tableOf}
-use Rattle.table.specs.Reading.{Readable}
+use Rattle.format.specs.File.{tableOf}
+use Rattle.format.specs.Reading.{Readable}
 use Rattle.quotients.specs.Quotient.{QuotientDone}
 use Rattle.quotients.specs.Demands.{OnWriting}
 use Rattle.quotients.specs.declared.Written.{Written}

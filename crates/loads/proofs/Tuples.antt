@@ -10,12 +10,11 @@ use lib.ListN.{length, getD, replicate, length-append, length-map, List·getD-ap
 use lib.Seq.{getD-append-add}
 use borrow.Author.Tests.{lt-ltb}
 use lib.Dec.{ltb}
-use Rattle.lists.specs.Lists.{all, gather, upto}
+use Rattle.lists.specs.Lists.{all, gather, upto, Rising}
 use Rattle.lists.proofs.Members.{getD-map, gather-mem, upto-mem, length-upto, getD-upto, and-of}
-use Rattle.table.specs.Reading.{before, ascendFrom, ascend}
-use Rattle.table.proofs.Order.{by-first, by-others, ascend-behind, ascend-rest, ascend-cons}
+use Rattle.format.specs.Reading.{before, ascendFrom, ascend}
+use Rattle.format.proofs.Order.{by-first, by-others, ascend-behind, ascend-rest, ascend-cons}
 use Rattle.quotients.proofs.Table.{mem-index}
-use Rattle.quotient.specs.Keys.{Rising}
 use Rattle.loads.specs.Loads.{tuples, span, possible}
 
 -- ---- how many, and which

@@ -4,8 +4,8 @@ use mathlib.Core.List.{List}
 use Prim.Native.Nat.{ℕ}
 use lib.ListN.{take}
 use Rattle.limits.specs.declared.Limits.{Limits}
-use Rattle.table.specs.File.{tableOf}
-use Rattle.table.specs.Reading.{Readable}
+use Rattle.format.specs.File.{tableOf}
+use Rattle.format.specs.Reading.{Readable}
 use Rattle.quotients.specs.Demands.{OnWriting}
 use Rattle.quotients.specs.declared.Written.{Written}
 use Rattle.loads.specs.Loads.{Load, described}

@@ -7,8 +7,8 @@ use lib.Dec.{eqb, ltb, leb}
 use Rattle.lists.specs.Lists.{gather, upto, over, firstFailed}
 use Rattle.limits.specs.declared.Limits.{Limits}
 use Rattle.limits.specs.Limits.{limitsFit}
-use Rattle.table.specs.Limits.{moveLimit, returnLimit}
-use Rattle.table.specs.File.{Table, bytesOf}
+use Rattle.format.specs.Limits.{moveLimit, returnLimit}
+use Rattle.format.specs.File.{Table, bytesOf}
 use Rattle.quotients.specs.Quotient.{bitOf, QuotientDone}
 use Rattle.quotients.specs.declared.Written.the-variants.{Length, Refused}
 

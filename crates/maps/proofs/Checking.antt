@@ -1,33 +1,28 @@
--- The numbers that the check answers, one law for each way to a return of src/, and what its answer promises. Assumes nothing.
+-- The numbers that the check answers over the parts of a table, one law for each way to a return of src/. Assumes nothing.
 use mathlib.Core.Path.{_≡_, refl, sym, ap, _∙_, subst}
-use mathlib.Core.Logic.{_↔_}
 use mathlib.Core.Bool.{Bool, true, false}
 use mathlib.Core.List.{List, [], _∷_}
 use Prim.Native.Nat.{ℕ, _≤_}
 use native.Mathlib.Omega.{arith}
 use lib.ListN.{length}
 use lib.Dec.{eqb}
-use borrow.Author.Tests.{eqb-true, eqb-false, eq-eqb, ne-eqb}
+use borrow.Author.Tests.{eqb-true, eq-eqb, ne-eqb}
 use Rattle.lists.specs.Lists.{firstFailed}
 use Rattle.lists.proofs.Refusals.{passes, fails, no-test}
 use Rattle.limits.specs.declared.Limits.{Limits}
-use Rattle.table.specs.File.{records, tableOf}
-use Rattle.table.specs.Reading.{readNumber, Readable, ascend}
-use Rattle.table.specs.Maps.{classes, numbered, Proper, RaqMap}
+use Rattle.format.specs.File.{records, tableOf}
+use Rattle.format.specs.Reading.{readNumber, Readable, ascend}
+use Rattle.format.specs.Maps.{numbered}
+use Rattle.format.specs.declared.Starts.{Starts}
+use Rattle.format.proofs.Passed.{formed-tested}
+use Rattle.format.proofs.Bytes.{read-well-formed}
+use Rattle.format.proofs.Facts.{most-states}
 use Rattle.table.specs.Sections.{partOf}
-use Rattle.table.specs.declared.Starts.{Starts}
 use Rattle.table.specs.declared.view.Section.the-variants.{States, Internals, Calls, Returns}
-use Rattle.table.proofs.Passed.{formed-tested}
-use Rattle.table.proofs.Bytes.{read-well-formed}
-use Rattle.table.proofs.Facts.{most-states}
 use Rattle.table.proofs.Parts.{states-read, internals-read, calls-read, returns-read}
 use Rattle.tops.specs.declared.Examined.{Examined}
-use Rattle.tops.specs.Demands.{examinedOf}
-use Rattle.maps.specs.declared.Checked.{Checked}
-use Rattle.maps.specs.declared.Checked.the-variants.{Accepted, Refused}
-use Rattle.maps.specs.Check.{looksAgree, movesMatched, returnsMatched, mapTests, checkNumber, checkOf}
-use Rattle.maps.proofs.Accepted.{accepted, accepts}
-use Rattle.maps.specs.Accepting.{IsAccepted, AcceptsExactly}
+use Rattle.tops.specs.Sections.{examinedOf}
+use Rattle.relations.specs.Check.{looksAgree, movesMatched, returnsMatched, mapTests, checkNumber}
 use Rattle.maps.specs.Sections.{ofStates, recordMatched, recordsMatched, Lent, Known, Parted, partTests}
 
 -- ---- 15 to 20, over the parts of a table
@@ -125,58 +120,7 @@ module _ (L : Limits) (b : List ℕ) where
     read-known n = known (sym examined-number ∙ n) (ap (λ (y : Examined). y .starts) e) (ap (λ (y : Examined). y .words) e)
 
 module _ (L : Limits) (b m : List ℕ) where
-  -- the check's number of a table that is not readable, and of one that is
+  -- the check's number of a table that is not readable
   pub unread : {x : Examined} → x ≡ examinedOf L b → (x .number ≡ 0 → ⊥) → checkNumber L b m ≡ x .number
   unfolding checkNumber
   unread e n = let p = examined-number L b e in rw (ne-eqb (readNumber L b) 0 (λ q. n (p ∙ q)), checkNumber) (sym p)
-
-  pub tested : {k : ℕ} → Readable L b → k ≡ firstFailed (mapTests (tableOf b) m) → checkNumber L b m ≡ k
-  unfolding checkNumber
-  tested r f = rw (eq-eqb (readNumber L b) 0 r, checkNumber) (sym f)
-
-  pub check-refused : {k : ℕ} → checkNumber L b m ≡ k → (k ≡ 0 → ⊥) → Refused k ≡ checkOf L b m
-  unfolding checkOf
-  check-refused e n = sym (rw (ne-eqb (checkNumber L b m) 0 (λ q. n (sym e ∙ q)), checkOf) (ap (λ k. Refused k) e))
-
-  pub check-accepted : {k n : ℕ} → checkNumber L b m ≡ k → k ≡ 0 → n ≡ classes m → Accepted n ≡ checkOf L b m
-  unfolding checkOf
-  check-accepted e z l = sym (rw (eq-eqb (checkNumber L b m) 0 (e ∙ z), checkOf) (ap (λ n. Accepted n) (sym l)))
-
-  -- demand 2
-  exactly : AcceptsExactly L b m (checkOf L b m)
-  unfolding checkOf
-  exactly readable = go (eqb (checkNumber L b m) 0) refl
-    where
-      go : (t : Bool) → eqb (checkNumber L b m) 0 ≡ t → IsAccepted (elim t as (λ _. Checked) [ true ↦ Accepted (classes m) | false ↦ Refused (checkNumber L b m) ]) ↔ (Proper (tableOf b) m × RaqMap (tableOf b) m)
-      go true p = (λ z. let a = accepted L b m (eqb-true _ _ p) in (a .proper, a .raq), λ z. tt)
-      go false p = (λ z. absurd z, λ z. eqb-false (checkNumber L b m) 0 p (accepts L b m (record { readable = readable; proper = z .0; raq = z .1 })))
-
-  pub checked : {r : Checked} → r ≡ checkOf L b m → (r ≡ checkOf L b m) × AcceptsExactly L b m r
-  checked {r} e = (e, subst (λ (y : Checked). AcceptsExactly L b m y) (sym e) exactly)
-
-  -- by cases: the class count where the number is 0, else the number
-  pub data Answers : Checked → Type 0 where
-    passes-by : checkNumber L b m ≡ 0 → Answers (Accepted (classes m))
-    refuses-by : (checkNumber L b m ≡ 0 → ⊥) → Answers (Refused (checkNumber L b m))
-
-  pub answers : Answers (checkOf L b m)
-  unfolding checkOf
-  answers = go (eqb (checkNumber L b m) 0) refl
-    where
-      go : (t : Bool) → eqb (checkNumber L b m) 0 ≡ t → Answers (elim t [ true ↦ Accepted (classes m) | false ↦ Refused (checkNumber L b m) ])
-      go true p = passes-by (eqb-true _ _ p)
-      go false p = refuses-by (eqb-false _ _ p)
-
-  pub accepted-number : {n : ℕ} → checkOf L b m ≡ Accepted n → checkNumber L b m ≡ 0
-  accepted-number {n} f = go answers f
-    where
-      go : {x : Checked} → Answers x → x ≡ Accepted n → checkNumber L b m ≡ 0
-      go (passes-by z) e = z
-      go (refuses-by h) e = let z : _≡_ {A = ℕ} 0 1 = cc in absurd (omega arith)
-
-  pub refused-number : {k : ℕ} → checkOf L b m ≡ Refused k → (checkNumber L b m ≡ k) × (k ≡ 0 → ⊥)
-  refused-number {k} f = go answers f
-    where
-      go : {x : Checked} → Answers x → x ≡ Refused k → (checkNumber L b m ≡ k) × (k ≡ 0 → ⊥)
-      go (passes-by z) e = let w : _≡_ {A = ℕ} 0 1 = cc in absurd (omega arith)
-      go (refuses-by h) e = let w : checkNumber L b m ≡ k = cc in (w, λ z. h (w ∙ z))

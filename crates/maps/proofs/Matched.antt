@@ -15,11 +15,11 @@ use Rattle.lists.specs.Bits.{Bit, has}
 use Rattle.lists.proofs.Bits.{no-bit}
 use Rattle.lists.proofs.Words.{has-no}
 use Rattle.lists.proofs.Members.{and-true, gives-of, all-of}
-use Rattle.table.specs.File.{records}
-use Rattle.table.specs.Language.{targets}
-use Rattle.table.specs.Maps.{classOf, joins}
-use Rattle.tops.specs.Tops.{live}
-use Rattle.maps.specs.Check.{moveMatched, returnMatched}
+use Rattle.format.specs.File.{records}
+use Rattle.format.specs.Language.{targets}
+use Rattle.format.specs.Maps.{classOf, joins}
+use Rattle.reach.specs.Tops.{live}
+use Rattle.relations.specs.Check.{moveMatched, returnMatched}
 use Rattle.maps.specs.Sections.{kept, returnMet, recordMatched, recordMet, Lent}
 
 -- ---- no word past the end, no bit past 63

@@ -7,9 +7,9 @@ use native.Mathlib.Omega.{arith}
 use lib.ListN.{length, getD, take, drop}
 use lib.Seq.{getD-take, getD-drop}
 use Rattle.lists.specs.Lists.{any, keep}
-use Rattle.table.specs.File.{records}
-use Rattle.table.specs.Language.{targets}
-use Rattle.table.specs.Maps.{joins}
+use Rattle.format.specs.File.{records}
+use Rattle.format.specs.Language.{targets}
+use Rattle.format.specs.Maps.{joins}
 use Rattle.table.specs.Spans.{startsWith}
 use Rattle.table.proofs.Walks.{Still, records-missed, records-met, records-none-met}
 

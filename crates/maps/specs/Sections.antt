@@ -7,14 +7,14 @@ use lib.ListN.{length, getD}
 use lib.Dec.{eqb, ltb}
 use Rattle.lists.specs.Lists.{all, upto}
 use Rattle.limits.specs.declared.Limits.{Limits}
-use Rattle.table.specs.File.{Table, records, tableOf}
-use Rattle.table.specs.Reading.{ascend}
-use Rattle.table.specs.Language.{look}
-use Rattle.table.specs.Maps.{joins, numbered}
+use Rattle.format.specs.File.{Table, records, tableOf}
+use Rattle.format.specs.Reading.{ascend}
+use Rattle.format.specs.Language.{look}
+use Rattle.format.specs.Maps.{joins, numbered}
+use Rattle.format.specs.declared.Starts.{Starts}
 use Rattle.table.specs.Sections.{ReadAs}
-use Rattle.table.specs.declared.Starts.{Starts}
-use Rattle.tops.specs.Tops.{topWords, live}
-use Rattle.maps.specs.Check.{looksAgree, moveMatched, returnMatched}
+use Rattle.reach.specs.Tops.{topWords, live}
+use Rattle.relations.specs.Check.{looksAgree, moveMatched, returnMatched}
 
 -- a table with these states
 abbrev pub ofStates : List ℕ → Table

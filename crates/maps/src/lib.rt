@@ -2,31 +2,24 @@
 ghost use mathlib.Core.Path.{_≡_};
 ghost use Rattle.lists.specs.Lists.{firstFailed};
 ghost use Rattle.limits.specs.Limits.{standard};
-ghost use Rattle.table.specs.File.{tableOf};
-ghost use Rattle.maps.specs.Check.{mapTests, checkOf};
-ghost use Rattle.maps.specs.Accepting.{AcceptsExactly};
+ghost use Rattle.format.specs.File.{tableOf};
+ghost use Rattle.relations.specs.Check.{mapTests, checkOf};
+ghost use Rattle.relations.specs.Accepting.{AcceptsExactly};
 ghost use Rattle.maps.specs.Sections.{Known, Parted, partTests};
 use limits::Limits;
 
 mod matching;
 mod numbering;
 
+use format::Starts;
 pub use matching::keeps;
 use matching::looks_agree;
 use matching::records_matched;
 pub use numbering::class_count;
 pub use numbering::class_of;
 use numbering::numbered;
+use relations::Checked;
 use table::Section;
-use table::Starts;
-
-// What the check answers.
-pub enum Checked {
-    // accepted: the class count
-    Accepted(usize),
-    // 39, 1 to 8, 15 to 20
-    Refused(u8),
-}
 
 // The first of 15 to 20 that applies, over the parts of a table; or 0.
 fn tests_number(

@@ -1,6 +1,6 @@
 // A map's classes: a state's class, their numbering, their count.
 ghost use mathlib.Core.Path.{_≡_};
-ghost use Rattle.table.specs.Maps.{classOf, classes, numbered};
+ghost use Rattle.format.specs.Maps.{classOf, classes, numbered};
 
 pub(crate) fn wide(x: u8) -> usize
     ensures { λ r. ⌜ r ≡ x ⌝ }

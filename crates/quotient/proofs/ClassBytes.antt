@@ -11,11 +11,11 @@ use borrow.Author.Tests.{eq-eqb, ne-eqb}
 use Rattle.lists.specs.Lists.{any, upto}
 use Rattle.lists.proofs.Members.{getD-map, length-upto, getD-upto}
 use Rattle.lists.proofs.Upto.{Counting, counting, upto-on, upto-end, any-passed, any-found, any-done}
-use Rattle.table.specs.File.{Table}
-use Rattle.table.specs.Reading.{isInitial, isAccepting}
-use Rattle.table.specs.Language.{markOf}
-use Rattle.table.specs.Maps.{classOf}
-use Rattle.table.proofs.Bytes.{Bytes}
+use Rattle.format.specs.File.{Table}
+use Rattle.format.specs.Reading.{isInitial, isAccepting}
+use Rattle.format.specs.Language.{markOf}
+use Rattle.format.specs.Maps.{classOf}
+use Rattle.format.proofs.Bytes.{Bytes}
 use Rattle.maps.specs.Sections.{ofStates}
 use Rattle.quotients.specs.Quotient.{memberHas, bitOf, markAmong, classMark, classByte}
 use Rattle.quotients.proofs.States.{mark-here, mark-on, mark-most}

@@ -11,21 +11,21 @@ use lib.Dec.{eqb, leb}
 use borrow.Author.Tests.{le-leb, lt-leb, eq-eqb, ne-eqb}
 use Rattle.lists.specs.Lists.{keep, upto, parts, over}
 use Rattle.lists.proofs.Members.{keep-mem}
-use Rattle.lists.proofs.Counts.{keep-le}
+use Rattle.lists.proofs.Counts.{keep-le, keep-every}
 use Rattle.limits.specs.declared.Limits.{Limits}
 use Rattle.limits.specs.Limits.{symbolMost}
 use Rattle.limits.proofs.Within.{limits-within}
-use Rattle.table.specs.File.{Table, trailer, version, records, tableOf, bytesOf}
-use Rattle.table.specs.Maps.{classes}
+use Rattle.format.specs.File.{Table, trailer, version, records, tableOf, bytesOf}
+use Rattle.format.specs.Maps.{classes}
+use Rattle.format.specs.declared.Starts.{Starts}
+use Rattle.format.proofs.Passed.{read-passed, formed-tested}
+use Rattle.format.proofs.Bytes.{Bytes, records-wide, read-well-formed}
 use Rattle.table.specs.Sections.{partOf}
-use Rattle.table.specs.declared.Starts.{Starts}
 use Rattle.table.specs.declared.view.Section.{Section}
 use Rattle.table.specs.declared.view.Section.the-variants.{Symbols, States, Internals, Calls, Returns}
-use Rattle.table.proofs.Passed.{read-passed, formed-tested}
-use Rattle.table.proofs.Bytes.{Bytes, records-wide, read-well-formed}
 use Rattle.table.proofs.Parts.{symbols-read, states-read, internals-read, calls-read, returns-read}
-use Rattle.tops.specs.Tops.{live, liveReturns}
-use Rattle.maps.specs.Check.{checkNumber}
+use Rattle.reach.specs.Tops.{live, liveReturns}
+use Rattle.relations.specs.Check.{checkNumber}
 use Rattle.maps.specs.Sections.{ofStates, kept, Known}
 use Rattle.maps.proofs.Matched.{move-kept, return-kept}
 use Rattle.quotients.specs.Quotient.{image, images, memberHas, classMark, classByte, quotientTable, quotientBytes, quotientNumber, QuotientDone, quotientOf}
@@ -34,7 +34,7 @@ use Rattle.table.specs.Keys.{key}
 use Rattle.table.proofs.Keys.{part-bytes}
 use Rattle.quotients.specs.declared.Written.{Written}
 use Rattle.quotients.specs.declared.Written.the-variants.{Length, Refused}
-use Rattle.quotients.proofs.Image.{images-mem, images-length, image-length, keep-every}
+use Rattle.quotients.proofs.Image.{images-mem, images-length, image-length}
 use Rattle.quotients.proofs.Theorems.{writes-quotient, writes-same-words, writes-same-marks, writes-none-open, writes-steps, writes-same-scripts}
 use Rattle.quotient.specs.Keys.{lastBytes, Holds}
 use Rattle.quotient.specs.Sections.{classBytes, keyedTable, Sized, imageKeys, partedQuotient, writtenFor}

@@ -6,9 +6,9 @@ use native.Mathlib.Nat.{mul-zero, mul-suc}
 use native.Mathlib.Omega.{arith}
 use lib.ListN.{length, length-append, length-map}
 use Rattle.lists.specs.Lists.{flat, gather}
-use Rattle.table.specs.File.{Table, bytes16, fromReturns, fromCalls, fromInternals, fromStates, fromSymbols, trailerOf, bytesOf}
-use Rattle.table.proofs.Passed.{Wide}
-use Rattle.table.proofs.Bytes.{lengths}
+use Rattle.format.specs.File.{Table, bytes16, fromReturns, fromCalls, fromInternals, fromStates, fromSymbols, trailerOf, bytesOf}
+use Rattle.format.proofs.Passed.{Wide}
+use Rattle.format.proofs.Bytes.{lengths}
 use Rattle.quotient.specs.Keys.{lastBytes}
 use Rattle.quotient.specs.Sections.{keyedTable, trailerFrom}
 use Rattle.quotient.proofs.Keys.{length-last}

@@ -9,7 +9,7 @@ use lib.ListN.{length, getD, take, drop, length-append, length-drop, take-append
 use lib.Seq.{length-take-le, drop-cons, drop-drop, take-all, take-at, drop-at}
 use Rattle.lists.specs.Lists.{gather, over}
 use Rattle.lists.proofs.Copying.{length-over}
-use Rattle.table.specs.File.{bytes16}
+use Rattle.format.specs.File.{bytes16}
 use Rattle.quotient.specs.Keys.{bytes32, lastBytes}
 
 -- the output in the end is what stands before the place, then what is still to be written over what stands behind it

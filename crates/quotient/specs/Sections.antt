@@ -6,8 +6,8 @@ use lib.ListN.{length}
 use lib.Dec.{eqb, leb}
 use Rattle.lists.specs.Lists.{keep, gather, upto, over}
 use Rattle.limits.specs.Limits.{symbolMost}
-use Rattle.table.specs.File.{Table, records, bytes16}
-use Rattle.table.specs.Maps.{classes}
+use Rattle.format.specs.File.{Table, records, bytes16}
+use Rattle.format.specs.Maps.{classes}
 use Rattle.maps.specs.Sections.{ofStates, kept}
 use Rattle.quotients.specs.Quotient.{images, classByte, QuotientDone}
 use Rattle.quotients.specs.declared.Written.the-variants.{Length, Refused}

@@ -2,8 +2,8 @@
 ghost use mathlib.Core.Path.{_≡_};
 ghost use Rattle.limits.specs.Limits.{standard};
 ghost use Rattle.limits.specs.declared.Limits.{Limits};
-ghost use Rattle.table.specs.File.{bytesOf};
-ghost use Rattle.table.specs.Reading.{Readable};
+ghost use Rattle.format.specs.File.{bytesOf};
+ghost use Rattle.format.specs.Reading.{Readable};
 ghost use Rattle.maps.specs.Sections.{Known};
 ghost use Rattle.quotients.specs.Quotient.{quotientBytes, quotientOf};
 ghost use Rattle.quotients.specs.Demands.{WritesQuotient, WritesSameWords, WritesSameMarks, WritesNoneOpen, WritesSteps, WritesSameScripts};
@@ -12,12 +12,12 @@ ghost use Rattle.quotient.specs.Sections.{Sized, partedQuotient, written
 mod images;
 mod write;
 
+use format::Starts;
 use images::collect;
 use limits::Limits;
 use maps::class_count;
 use quotients::Written;
 use table::Section;
-use table::Starts;
 use write::put_states;
 pub use write::put_table;
 

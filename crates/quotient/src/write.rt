@@ -3,7 +3,7 @@ ghost use mathlib.Core.Path.{_≡_};
 ghost use Prim.Native.Nat.{_+_, _*_, _^_, _<_, _≤_};
 ghost use lib.ListN.{length};
 ghost use Rattle.lists.specs.Lists.{gather, over};
-ghost use Rattle.table.specs.File.{bytes16, bytesOf};
+ghost use Rattle.format.specs.File.{bytes16, bytesOf};
 ghost use Rattle.maps.specs.Sections.{ofStates};
 ghost use Rattle.quotients.specs.Quotient.{memberHas, bitOf, classMark, classByte};
 ghost use Rattle.quotient.specs.Keys.{lastBytes};

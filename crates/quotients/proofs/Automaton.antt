@@ -12,12 +12,12 @@ use lib.ListN.{length, getD, List·getD-eq-default}
 use Rattle.lists.proofs.Members.{keep-mem, keep-of}
 use Rattle.vpa.specs.Automata.{Tops}
 use Rattle.vpa.specs.Quotients.{quotient}
-use Rattle.table.specs.File.{Table}
-use Rattle.table.specs.Language.{count, byteOf, markOf, automaton}
-use Rattle.table.specs.Maps.{classOf, JoinedBy, classes, numbered}
-use Rattle.table.proofs.Passed.{Wide}
-use Rattle.tops.specs.Tops.{topWords, live, liveReturns}
-use Rattle.maps.proofs.Numbered.{class-below}
+use Rattle.format.specs.File.{Table}
+use Rattle.format.specs.Language.{count, byteOf, markOf, automaton}
+use Rattle.format.specs.Maps.{classOf, JoinedBy, classes, numbered}
+use Rattle.format.proofs.Passed.{Wide}
+use Rattle.reach.specs.Tops.{topWords, live, liveReturns}
+use Rattle.relations.proofs.Numbered.{class-below}
 use Rattle.quotients.specs.Quotient.{image, images, classMark, quotientTable}
 use Rattle.quotients.proofs.Image.{images-mem, image-move, image-return}
 use Rattle.quotients.proofs.Classes.{class-member}

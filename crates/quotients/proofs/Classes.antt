@@ -11,7 +11,7 @@ use lib.ListN.{length}
 use lib.Dec.{leb}
 use borrow.Author.Tests.{leb-true}
 use Rattle.lists.proofs.Members.{and-true}
-use Rattle.table.specs.Maps.{classOf, classes, numberedFrom, numbered}
+use Rattle.format.specs.Maps.{classOf, classes, numberedFrom, numbered}
 
 -- a state of class c
 pub record Member (m : List ℕ) (c : ℕ) : Type 0 where

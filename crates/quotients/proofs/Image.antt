@@ -1,13 +1,11 @@
 -- The images of records under a map: the members of `images m rs`, and the image of a record of each width. Assumes nothing.
 use mathlib.Core.Path.{_≡_, refl, sym, ap}
 use mathlib.Core.Logic.{_↔_}
-use mathlib.Core.Bool.{true}
 use mathlib.Core.List.{List, [], _∷_, map, List·Memᴰ, Memᴰ·map, Memᴰ·of-map, Memᴰ·cast}
 use Prim.Native.Nat.{ℕ, suc, _≤_}
 use native.Mathlib.Omega.{arith}
 use lib.ListN.{length, length-map}
-use Rattle.lists.specs.Lists.{keep}
-use Rattle.table.specs.Maps.{classOf}
+use Rattle.format.specs.Maps.{classOf}
 use Rattle.quotients.specs.Quotient.{image, images}
 use Rattle.quotients.proofs.Ascending.{ascending-mem, ascending-of, ascending-length}
 
@@ -35,9 +33,3 @@ unfolding image
 image-length m [] = refl
 image-length m (p ∷ []) = refl
 image-length m (p ∷ a ∷ qs) = ap (λ n. suc (suc n)) (length-map qs (classOf m))
-
--- what keeps every record
-pub keep-every : (rs : List (List ℕ)) → keep (λ r. true) rs ≡ rs
-unfolding keep
-keep-every [] = refl
-keep-every (r ∷ rs) = ap (λ xs. r ∷ xs) (keep-every rs)

@@ -11,11 +11,11 @@ use lib.Dec.{eqb}
 use borrow.Author.Tests.{eqb-true, eqb-false, eq-eqb}
 use Rattle.lists.specs.Lists.{any, upto}
 use Rattle.lists.proofs.Members.{and-true, and-of, getD-map, any-true, any-of, upto-mem, upto-of, length-upto, getD-upto}
-use Rattle.table.specs.File.{Table}
-use Rattle.table.specs.Reading.{stateByteMost, isInitial, isAccepting}
-use Rattle.table.specs.Language.{count, byteOf, markOf}
-use Rattle.table.specs.Maps.{classOf, classes}
-use Rattle.table.proofs.Versions.{mark-within}
+use Rattle.format.specs.File.{Table}
+use Rattle.format.specs.Reading.{stateByteMost, isInitial, isAccepting}
+use Rattle.format.specs.Language.{count, byteOf, markOf}
+use Rattle.format.specs.Maps.{classOf, classes}
+use Rattle.format.proofs.Versions.{mark-within}
 use Rattle.quotients.specs.Quotient.{memberHas, bitOf, markAmong, classMark, classByte, quotientTable}
 
 -- a member of class c whose byte passes

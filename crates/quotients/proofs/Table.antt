@@ -11,14 +11,14 @@ use Rattle.lists.specs.Lists.{any, all, upto}
 use Rattle.lists.proofs.Members.{and-true, and-of, getD-mem, any-true, any-of, all-true, all-of, keep-mem}
 use Rattle.lists.proofs.Counts.{keep-le}
 use Rattle.limits.specs.declared.Limits.{Limits}
-use Rattle.table.specs.File.{Table}
-use Rattle.table.specs.Reading.{versionFits, stateByteMost, isInitial, recordFits, ascend, WellFormed}
-use Rattle.table.specs.Language.{count}
-use Rattle.table.specs.Maps.{classOf, classes, numbered}
-use Rattle.table.proofs.Passed.{Wide, Tested, formed-wide, formed-tested, formed-of}
-use Rattle.table.proofs.Facts.{byte-within}
-use Rattle.tops.specs.Tops.{topWords, live, liveReturns}
-use Rattle.maps.proofs.Numbered.{class-below, classes-few}
+use Rattle.format.specs.File.{Table}
+use Rattle.format.specs.Reading.{versionFits, stateByteMost, isInitial, recordFits, ascend, WellFormed}
+use Rattle.format.specs.Language.{count}
+use Rattle.format.specs.Maps.{classOf, classes, numbered}
+use Rattle.format.proofs.Passed.{Wide, Tested, formed-wide, formed-tested, formed-of}
+use Rattle.format.proofs.Facts.{byte-within}
+use Rattle.reach.specs.Tops.{topWords, live, liveReturns}
+use Rattle.relations.proofs.Numbered.{class-below, classes-few}
 use Rattle.quotients.specs.Quotient.{image, images, classByte, quotientTable}
 use Rattle.quotients.proofs.Ascending.{ascending-ascends}
 use Rattle.quotients.proofs.Image.{images-mem, images-length, image-length}

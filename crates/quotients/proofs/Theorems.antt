@@ -14,18 +14,18 @@ use Rattle.vpa.specs.Quotients.{quotient}
 use Rattle.vpa.proofs.Correspondence.{quotient-words, quotient-marks, every-step}
 use Rattle.vpa.proofs.Equal.{Same, same-words, same-marks}
 use Rattle.limits.specs.declared.Limits.{Limits}
-use Rattle.table.specs.File.{Table, tableOf}
-use Rattle.table.specs.Reading.{Readable, WellFormed}
-use Rattle.table.specs.Language.{count, automaton, automatonOf, SameWords, SameMarks, OpenByNeither}
-use Rattle.table.specs.Maps.{classOf, Proper, RaqMap}
-use Rattle.table.proofs.Passed.{formed-wide}
-use Rattle.table.proofs.Bytes.{read-well-formed, table-of-bytes, read-bytes}
-use Rattle.table.proofs.Open.{open-refused}
-use Rattle.tops.proofs.Bounded.{lawful}
-use Rattle.tops.proofs.Formed.{bounded}
-use Rattle.tops.proofs.Exact.{live-exact}
-use Rattle.maps.specs.Check.{checkNumber}
-use Rattle.maps.proofs.Accepted.{Accepted, accepted}
+use Rattle.format.specs.File.{Table, tableOf}
+use Rattle.format.specs.Reading.{Readable, WellFormed}
+use Rattle.format.specs.Language.{count, automaton, automatonOf, SameWords, SameMarks, OpenByNeither}
+use Rattle.format.specs.Maps.{classOf, Proper, RaqMap}
+use Rattle.format.proofs.Passed.{formed-wide}
+use Rattle.format.proofs.Bytes.{read-well-formed, table-of-bytes, read-bytes}
+use Rattle.format.proofs.Open.{open-refused}
+use Rattle.reach.proofs.Bounded.{lawful}
+use Rattle.reach.proofs.Formed.{bounded}
+use Rattle.reach.proofs.Exact.{live-exact}
+use Rattle.relations.specs.Check.{checkNumber}
+use Rattle.relations.proofs.Accepted.{Accepted, accepted}
 use Rattle.scripts.specs.Demands.{SameScripts}
 use Rattle.scripts.proofs.Promises.{scripts-same}
 use Rattle.quotients.specs.Quotient.{quotientTable, quotientBytes, quotientNumber, QuotientDone, quotientOf}

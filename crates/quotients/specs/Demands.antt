@@ -7,10 +7,10 @@ use Prim.Native.Nat.{ℕ}
 use lib.ListN.{take}
 use Rattle.vpa.specs.Quotients.{quotient, EveryStep}
 use Rattle.limits.specs.declared.Limits.{Limits}
-use Rattle.table.specs.File.{tableOf}
-use Rattle.table.specs.Reading.{Readable}
-use Rattle.table.specs.Language.{count, automatonOf, SameWords, SameMarks, OpenByNeither}
-use Rattle.table.specs.Maps.{classOf, classes}
+use Rattle.format.specs.File.{tableOf}
+use Rattle.format.specs.Reading.{Readable}
+use Rattle.format.specs.Language.{count, automatonOf, SameWords, SameMarks, OpenByNeither}
+use Rattle.format.specs.Maps.{classOf, classes}
 use Rattle.scripts.specs.Demands.{SameScripts}
 use Rattle.quotients.specs.declared.Written.{Written}
 use Rattle.quotients.specs.declared.Written.the-variants.{Length, Refused}

@@ -6,12 +6,12 @@ use lib.ListN.{length, getD}
 use lib.Dec.{eqb, leb}
 use Rattle.lists.specs.Lists.{any, upto, over}
 use Rattle.limits.specs.declared.Limits.{Limits}
-use Rattle.table.specs.File.{Table, tableOf, bytesOf}
-use Rattle.table.specs.Reading.{before, isInitial, isAccepting}
-use Rattle.table.specs.Language.{count, byteOf, markOf}
-use Rattle.table.specs.Maps.{classOf, classes}
-use Rattle.tops.specs.Tops.{liveReturns}
-use Rattle.maps.specs.Check.{checkNumber}
+use Rattle.format.specs.File.{Table, tableOf, bytesOf}
+use Rattle.format.specs.Reading.{before, isInitial, isAccepting}
+use Rattle.format.specs.Language.{count, byteOf, markOf}
+use Rattle.format.specs.Maps.{classOf, classes}
+use Rattle.reach.specs.Tops.{liveReturns}
+use Rattle.relations.specs.Check.{checkNumber}
 use Rattle.quotients.specs.declared.Written.{Written}
 use Rattle.quotients.specs.declared.Written.the-variants.{Length, Refused}
 

@@ -12,24 +12,24 @@ use Rattle.lists.specs.Lists.{over, firstFailed}
 use Rattle.limits.specs.declared.Limits.{Limits}
 use Rattle.limits.specs.Limits.{symbolMost}
 use Rattle.limits.proofs.Within.{limits-within}
-use Rattle.table.specs.File.{Table, records, tableOf}
-use Rattle.table.specs.Reading.{ascend, WellFormed}
-use Rattle.table.specs.Language.{count}
-use Rattle.table.specs.Maps.{Proper}
+use Rattle.format.specs.File.{Table, records, tableOf}
+use Rattle.format.specs.Reading.{ascend, WellFormed}
+use Rattle.format.specs.Language.{count}
+use Rattle.format.specs.Maps.{Proper}
+use Rattle.format.specs.declared.Starts.{Starts}
+use Rattle.format.proofs.Bytes.{records-wide, read-well-formed}
+use Rattle.format.proofs.Passed.{formed-tested}
+use Rattle.format.proofs.Facts.{Fit, internals-fit, calls-fit, returns-fit, most-states}
 use Rattle.table.specs.Sections.{partOf}
-use Rattle.table.specs.declared.Starts.{Starts}
 use Rattle.table.specs.declared.view.Section.the-variants.{Internals, Calls, Returns}
-use Rattle.table.proofs.Bytes.{records-wide, read-well-formed}
 use Rattle.table.proofs.Parts.{internals-read, calls-read, returns-read}
-use Rattle.table.proofs.Passed.{formed-tested}
-use Rattle.table.proofs.Facts.{Fit, internals-fit, calls-fit, returns-fit, most-states}
-use Rattle.tops.specs.Tops.{live}
-use Rattle.maps.specs.Check.{mapTests, checkNumber}
+use Rattle.reach.specs.Tops.{live}
+use Rattle.relations.specs.Check.{mapTests, checkNumber}
+use Rattle.relations.proofs.Accepted.{accepted}
+use Rattle.relations.proofs.Answers.{tested}
+use Rattle.relations.proofs.Numbered.{classes-few}
 use Rattle.maps.specs.Sections.{kept, Known}
-use Rattle.maps.proofs.Accepted.{accepted}
-use Rattle.maps.proofs.Checking.{tested}
 use Rattle.maps.proofs.Matched.{move-kept, return-kept}
-use Rattle.maps.proofs.Numbered.{classes-few}
 use Rattle.fates.specs.declared.Recorded.the-variants.{Counts, Refused}
 use Rattle.fates.specs.Fates.{keptMark, foldedMark, deadMark, sectionFates, having, fatesOf, countsOf, recordsOf}
 use Rattle.fates.proofs.Counts.{one-each}

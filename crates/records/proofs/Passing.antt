@@ -13,11 +13,11 @@ use Rattle.lists.specs.Lists.{any, same, over}
 use Rattle.lists.proofs.Members.{not-so, and-true, and-of, any-true, any-of, getD-mem, same-true, same-of}
 use Rattle.lists.proofs.Copying.{length-over}
 use Rattle.limits.specs.Limits.{stateMost}
-use Rattle.table.specs.File.{records}
-use Rattle.table.specs.Maps.{classOf, classes}
-use Rattle.table.proofs.Bytes.{records-wide}
+use Rattle.format.specs.File.{records}
+use Rattle.format.specs.Maps.{classOf, classes}
+use Rattle.format.proofs.Bytes.{records-wide}
+use Rattle.relations.proofs.Numbered.{class-below, class-under}
 use Rattle.maps.specs.Sections.{kept}
-use Rattle.maps.proofs.Numbered.{class-below, class-under}
 use Rattle.quotients.specs.Quotient.{image}
 use Rattle.fates.specs.Fates.{taken, fate, sectionFates}
 use Rattle.fates.proofs.Counts.{length-fates}

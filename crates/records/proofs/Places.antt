@@ -9,7 +9,7 @@ use lib.ListN.{length, getD}
 use lib.Seq.{ext-getD}
 use Rattle.lists.proofs.Members.{getD-map}
 use Rattle.limits.specs.Limits.{stateMost, symbolMost}
-use Rattle.table.specs.Maps.{classOf}
+use Rattle.format.specs.Maps.{classOf}
 use Rattle.quotients.specs.Quotient.{image}
 use Rattle.quotients.proofs.Image.{image-length}
 use Rattle.records.specs.Marks.{placeOf, Placed}

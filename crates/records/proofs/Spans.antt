@@ -13,9 +13,9 @@ use Rattle.lists.specs.Lists.{parts}
 use Rattle.lists.proofs.Members.{zeros}
 use Rattle.lists.proofs.Parts.{length-parts, getD-parts}
 use Rattle.limits.specs.Limits.{stateMost}
-use Rattle.table.specs.File.{records}
-use Rattle.table.specs.Reading.{before, ascend}
-use Rattle.table.proofs.Order.{first-cases, ascend-before}
+use Rattle.format.specs.File.{records}
+use Rattle.format.specs.Reading.{before, ascend}
+use Rattle.format.proofs.Order.{first-cases, ascend-before}
 use Rattle.records.specs.Marks.{recordAt, stateAt, recordsIn, Ends}
 
 -- ---- a record by its index

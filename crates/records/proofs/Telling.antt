@@ -9,7 +9,7 @@ use borrow.Author.Tests.{le-leb, lt-leb}
 use Rattle.lists.specs.Lists.{over}
 use Rattle.lists.proofs.Members.{zeros}
 use Rattle.lists.proofs.Copying.{length-over}
-use Rattle.table.specs.File.{records}
+use Rattle.format.specs.File.{records}
 use Rattle.maps.specs.Sections.{kept}
 use Rattle.quotient.proofs.Writing.{Writing, begun, written, part-room, part-put, finished}
 use Rattle.fates.specs.declared.Recorded.the-variants.{Counts, Refused}

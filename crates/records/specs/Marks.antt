@@ -8,9 +8,9 @@ use lib.ListN.{length, getD, set}
 use lib.Dec.{leb}
 use Rattle.lists.specs.Lists.{over}
 use Rattle.limits.specs.Limits.{stateMost, symbolMost}
-use Rattle.table.specs.File.{records}
-use Rattle.table.specs.Reading.{ascend}
-use Rattle.table.specs.Maps.{classOf, classes}
+use Rattle.format.specs.File.{records}
+use Rattle.format.specs.Reading.{ascend}
+use Rattle.format.specs.Maps.{classOf, classes}
 use Rattle.maps.specs.Sections.{kept}
 use Rattle.fates.specs.declared.Recorded.the-variants.{Counts, Refused}
 use Rattle.fates.specs.Fates.{keptMark, foldedMark, deadMark, sectionFates, having, RecordsDone}

@@ -5,9 +5,9 @@ ghost use lib.ListN.{length};
 ghost use Rattle.lists.specs.Lists.{over, firstFailed};
 ghost use Rattle.limits.specs.Limits.{standard};
 ghost use Rattle.limits.specs.declared.Limits.{Limits};
-ghost use Rattle.table.specs.File.{tableOf};
-ghost use Rattle.table.specs.Reading.{Readable};
-ghost use Rattle.maps.specs.Check.{mapTests};
+ghost use Rattle.format.specs.File.{tableOf};
+ghost use Rattle.format.specs.Reading.{Readable};
+ghost use Rattle.relations.specs.Check.{mapTests};
 ghost use Rattle.maps.specs.Sections.{Known};
 ghost use Rattle.fates.specs.Fates.{fatesOf, recordsOf};
 ghost use Rattle.fates.specs.Demands.{AddUp, KeptAreQuotients, AllAreInputs};
@@ -16,11 +16,11 @@ ghost use Rattle.records.specs.Marks.{FittingParts, partedFates, toldFor
 mod marks;
 
 use fates::Recorded;
+use format::Starts;
 use limits::Limits;
 use marks::count_of;
 use marks::mark_section;
 use table::Section;
-use table::Starts;
 
 // The marks of the parts' records, one section behind the other.
 fn mark_parts(

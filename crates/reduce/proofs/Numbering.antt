@@ -15,8 +15,8 @@ use Rattle.lists.proofs.Counts.{keep-append}
 use Rattle.cnf.specs.Clauses.{valueOf}
 use Rattle.pairs.specs.Pairs.{pairs, variableOf}
 use Rattle.pairs.proofs.Pairs.{variable-below}
-use Rattle.table.specs.Maps.{classes}
-use Rattle.maps.proofs.Numbered.{class-below}
+use Rattle.format.specs.Maps.{classes}
+use Rattle.relations.proofs.Numbered.{class-below}
 use Rattle.limits.specs.Limits.{stateMost}
 use Rattle.encoding.specs.Maps.{joinedBy, nextClass, mapOf}
 use Rattle.reduce.specs.Lowest.{Lowest, LowestJoined, MapOf}

@@ -22,15 +22,15 @@ use Rattle.limits.specs.Limits.{stateMost}
 use Rattle.pairs.specs.Pairs.{pairs}
 use Rattle.pairs.specs.Triangles.{triangles}
 use Rattle.pairs.proofs.Pairs.{most-pairs}
-use Rattle.table.specs.File.{tableOf}
-use Rattle.table.specs.Reading.{readNumber, Readable, WellFormed}
-use Rattle.table.specs.Language.{count}
-use Rattle.table.specs.Maps.{classes}
+use Rattle.format.specs.File.{tableOf}
+use Rattle.format.specs.Reading.{readNumber, Readable, WellFormed}
+use Rattle.format.specs.Language.{count}
+use Rattle.format.specs.Maps.{classes}
+use Rattle.format.specs.declared.Starts.{Starts}
+use Rattle.format.proofs.Bytes.{read-well-formed}
+use Rattle.format.proofs.Facts.{most-states}
 use Rattle.table.specs.Sections.{ReadAs, partOf}
-use Rattle.table.specs.declared.Starts.{Starts}
 use Rattle.table.specs.declared.view.Section.the-variants.{States}
-use Rattle.table.proofs.Bytes.{read-well-formed}
-use Rattle.table.proofs.Facts.{most-states}
 use Rattle.table.proofs.Parts.{states-read}
 use Rattle.maps.specs.Sections.{Known}
 use Rattle.encoding.specs.Clauses.{clauseList, shortList, shortWords, ClausesDone}

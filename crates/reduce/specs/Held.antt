@@ -6,8 +6,8 @@ use Prim.Native.Nat.{ℕ}
 use lib.ListN.{length}
 use Rattle.cnf.specs.Trials.{notFalse}
 use Rattle.pairs.specs.Pairs.{pairs}
-use Rattle.table.specs.File.{Table}
-use Rattle.table.specs.Language.{count}
+use Rattle.format.specs.File.{Table}
+use Rattle.format.specs.Language.{count}
 use Rattle.encoding.specs.Maps.{mapOf}
 use Rattle.search.specs.declared.engine.Ending.{Ending}
 use Rattle.search.specs.declared.engine.Ending.the-variants.{Found, Absent, Spent}

@@ -7,7 +7,7 @@ use lib.ListN.{length, getD, take}
 use Rattle.cnf.specs.Clauses.{valueOf}
 use Rattle.limits.specs.Limits.{stateMost}
 use Rattle.pairs.specs.Pairs.{variableOf}
-use Rattle.table.specs.Maps.{classes}
+use Rattle.format.specs.Maps.{classes}
 use Rattle.encoding.specs.Maps.{mapOf}
 use Rattle.reduce.specs.declared.map.Classes.{Classes}
 

@@ -6,9 +6,9 @@ ghost use lib.ListN.{length};
 ghost use Rattle.lists.specs.Lists.{over};
 ghost use Rattle.limits.specs.declared.Limits.{Limits};
 ghost use Rattle.limits.specs.Limits.{standard};
-ghost use Rattle.table.specs.File.{tableOf};
-ghost use Rattle.table.specs.Reading.{Readable};
-ghost use Rattle.table.specs.Language.{count};
+ghost use Rattle.format.specs.File.{tableOf};
+ghost use Rattle.format.specs.Reading.{Readable};
+ghost use Rattle.format.specs.Language.{count};
 ghost use Rattle.maps.specs.Sections.{Known};
 ghost use Rattle.encoding.specs.Clauses.{shortWords};
 ghost use Rattle.encoding.specs.Maps.{mapOf};
@@ -16,13 +16,13 @@ ghost use Rattle.reductions.specs.Reduce.{Reduced, triedOfTable, deliver, after
 ghost use Rattle.reductions.specs.Demands.{KeepsWords, DeliversQuotient, DeliversChecked, DeliversMaximal, FewGuesses, DeliversCeiling, SameSearch, SpentSaid, DeliversNoneOpen, DeliversSteps, KeepsMarks, KeepsScripts};
 ghost use Rattle.reduce.specs.Held.{MadeBy, HeldFor};
 use encoding::Listed;
+use format::Starts;
 use limits::Limits;
 use map::map_of;
 use quotients::Written;
 use reductions::Reduction;
 use search::Ending;
 use table::Section;
-use table::Starts;
 
 mod map;
 

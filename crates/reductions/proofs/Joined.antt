@@ -18,10 +18,10 @@ use Rattle.cnf.proofs.Trials.{true-count, nested-count, nested-same, ceiling-mo
 use Rattle.pairs.specs.Pairs.{pairs, pairOf}
 use Rattle.pairs.proofs.Pairs.{pairs-suc, variable-lt, variable-pair, pair-ordered, pair-variable, pair-below}
 use Rattle.limits.specs.declared.Limits.{Limits}
-use Rattle.table.specs.File.{Table}
-use Rattle.table.specs.Reading.{WellFormed}
-use Rattle.table.specs.Language.{count}
-use Rattle.table.specs.Maps.{classOf, joins, RaqMap}
+use Rattle.format.specs.File.{Table}
+use Rattle.format.specs.Reading.{WellFormed}
+use Rattle.format.specs.Language.{count}
+use Rattle.format.specs.Maps.{classOf, joins, RaqMap}
 use Rattle.encoding.specs.Clauses.{clauseList}
 use Rattle.encoding.specs.Maps.{mapOf}
 use Rattle.encoding.proofs.Related.{Related, related-true}

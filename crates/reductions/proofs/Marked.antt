@@ -13,16 +13,16 @@ use Rattle.cnf.specs.Trials.{onlyTrue, satisfied, trueCount, notFalse, better, 
 use Rattle.limits.specs.Limits.{standard, limitsFit}
 use Rattle.pairs.specs.Pairs.{pairs, variableOf}
 use Rattle.pairs.specs.Triangles.{past, triangle, triangles}
-use Rattle.table.specs.Limits.{longest}
-use Rattle.table.specs.File.{word16, trailer, distance, version, start, records, tableOf, bytes16, fromReturns, fromCalls, fromInternals, fromStates, fromSymbols, trailerOf, bytesOf}
-use Rattle.table.specs.Reading.{lengthFits, versionFits, distancesFit, countsFit, stateByteMost, bytesFit, isInitial, isAccepting, startFits, recordFits, recordsFit, before, ascendFrom, ascend, orderFits, tableTests, readNumber}
-use Rattle.table.specs.Language.{markOf, look, targets}
-use Rattle.table.specs.Maps.{joins, classes, numberedFrom, numbered}
-use Rattle.tops.specs.Tops.{add, byInternals, byCalls, live, byReturns, round, rounds, startWords, topWordsAt, topCount, topsOf, liveReturns}
+use Rattle.format.specs.Limits.{longest}
+use Rattle.format.specs.File.{word16, trailer, distance, version, start, records, tableOf, bytes16, fromReturns, fromCalls, fromInternals, fromStates, fromSymbols, trailerOf, bytesOf}
+use Rattle.format.specs.Reading.{lengthFits, versionFits, distancesFit, countsFit, stateByteMost, bytesFit, isInitial, isAccepting, startFits, recordFits, recordsFit, before, ascendFrom, ascend, orderFits, tableTests, readNumber}
+use Rattle.format.specs.Language.{markOf, look, targets}
+use Rattle.format.specs.Maps.{joins, classes, numberedFrom, numbered}
+use Rattle.reach.specs.Tops.{add, byInternals, byCalls, live, byReturns, round, rounds, startWords, topWordsAt, topCount, topsOf, liveReturns}
 use Rattle.encoding.specs.Clauses.{opposite, once, tidy, lookClauses, transitivity, premise, matching, moveClause, moveClauses, returnClause, topStates, returnClauses, clauseList, clauseWords, shortList, shortWords, clausesNumber, clausesOf, listedNumber, listedValues}
 use Rattle.encoding.specs.Maps.{joinedBy, nextClass, mapOf}
 use Rattle.search.specs.Answers.{listFits, searchNumber, searched, searchAt, searchOf, solutionNumber, solutionValues}
-use Rattle.maps.specs.Check.{looksAgree, moveMatched, movesMatched, returnMatched, returnsMatched, mapTests, checkNumber, checkOf, checkedNumber, checkedValues}
+use Rattle.relations.specs.Check.{looksAgree, moveMatched, movesMatched, returnMatched, returnsMatched, mapTests, checkNumber, checkOf, checkedNumber, checkedValues}
 use Rattle.quotients.specs.Quotient.{image, insert, ascending, images, memberHas, bitOf, markAmong, classMark, classByte, quotientTable, quotientBytes, quotientNumber, quotientOf, writtenNumber, writtenValues}
 use Rattle.reductions.specs.Reduce.{beforeSearch, triedOfTable, joinedPairs, deliver, afterSearch, reduceOf, reductionNumber, reductionValues}
 

@@ -14,12 +14,12 @@ use Rattle.cnf.proofs.Theorems.{horn}
 use Rattle.cnf.proofs.Trials.{spent-budget}
 use Rattle.limits.specs.declared.Limits.{Limits}
 use Rattle.pairs.specs.Pairs.{pairs}
-use Rattle.table.specs.File.{tableOf}
-use Rattle.table.specs.Language.{count, SameWords, SameMarks, OpenByNeither}
-use Rattle.table.specs.Maps.{classes, NoneCoarser}
-use Rattle.table.proofs.Bytes.{read-well-formed}
-use Rattle.maps.specs.Check.{checkNumber, checkOf}
-use Rattle.maps.specs.declared.Checked.the-variants.{Accepted}
+use Rattle.format.specs.File.{tableOf}
+use Rattle.format.specs.Language.{count, SameWords, SameMarks, OpenByNeither}
+use Rattle.format.specs.Maps.{classes, NoneCoarser}
+use Rattle.format.proofs.Bytes.{read-well-formed}
+use Rattle.relations.specs.Check.{checkNumber, checkOf}
+use Rattle.relations.specs.declared.Checked.the-variants.{Accepted}
 use Rattle.encoding.specs.Clauses.{clauseList}
 use Rattle.encoding.specs.Maps.{mapOf}
 use Rattle.encoding.proofs.Formed.{list-horn}

@@ -20,13 +20,13 @@ use Rattle.cnf.proofs.Trying.{tried-outcome}
 use Rattle.cnf.proofs.Trials.{held-model, solved-held}
 use Rattle.limits.specs.declared.Limits.{Limits}
 use Rattle.pairs.specs.Pairs.{pairs}
-use Rattle.table.specs.File.{Table, tableOf}
-use Rattle.table.specs.Reading.{readNumber, Readable, WellFormed}
-use Rattle.table.specs.Language.{count}
-use Rattle.table.specs.Maps.{classes, RaqMap}
-use Rattle.table.proofs.Passed.{read-within}
-use Rattle.table.proofs.Bytes.{read-well-formed}
-use Rattle.maps.specs.Check.{checkNumber}
+use Rattle.format.specs.File.{Table, tableOf}
+use Rattle.format.specs.Reading.{readNumber, Readable, WellFormed}
+use Rattle.format.specs.Language.{count}
+use Rattle.format.specs.Maps.{classes, RaqMap}
+use Rattle.format.proofs.Passed.{read-within}
+use Rattle.format.proofs.Bytes.{read-well-formed}
+use Rattle.relations.specs.Check.{checkNumber}
 use Rattle.encoding.specs.Clauses.{clauseList, shortWords}
 use Rattle.encoding.specs.Maps.{mapOf}
 use Rattle.encoding.proofs.Formed.{list-fits}

@@ -6,13 +6,13 @@ use Prim.Native.Nat.{ℕ, _-_, _*_, _/_, _≤_}
 use lib.ListN.{take}
 use Rattle.cnf.specs.Search.{spent, madeOf, isSpent}
 use Rattle.limits.specs.declared.Limits.{Limits}
-use Rattle.table.specs.File.{tableOf}
-use Rattle.table.specs.Language.{count, SameWords, SameMarks, OpenByNeither, OneTarget}
-use Rattle.table.specs.Maps.{RaqMap, NoneCoarser}
-use Rattle.maps.specs.Check.{checkOf}
+use Rattle.format.specs.File.{tableOf}
+use Rattle.format.specs.Language.{count, SameWords, SameMarks, OpenByNeither, OneTarget}
+use Rattle.format.specs.Maps.{RaqMap, NoneCoarser}
+use Rattle.relations.specs.Check.{checkOf}
 use Rattle.scripts.specs.Demands.{SameScripts}
 use Rattle.quotients.specs.Demands.{IsQuotient, ShowsSteps}
-use Rattle.maps.specs.declared.Checked.the-variants.{Accepted}
+use Rattle.relations.specs.declared.Checked.the-variants.{Accepted}
 use Rattle.reductions.specs.Reduce.{searchOfTable, joinedPairs}
 use Rattle.reductions.specs.declared.Reduction.{Reduction}
 use Rattle.reductions.specs.declared.Reduction.the-variants.{Delivered, Refused}

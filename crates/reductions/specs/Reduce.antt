@@ -10,10 +10,10 @@ use Rattle.cnf.specs.Search.{Outcome, searchFrom, madeOf, isSpent}
 use Rattle.cnf.specs.Trials.{ceilingOf, Tried, searchTried}
 use Rattle.limits.specs.declared.Limits.{Limits}
 use Rattle.pairs.specs.Pairs.{pairs}
-use Rattle.table.specs.File.{tableOf}
-use Rattle.table.specs.Reading.{readNumber}
-use Rattle.table.specs.Language.{count}
-use Rattle.table.specs.Maps.{joins, classes}
+use Rattle.format.specs.File.{tableOf}
+use Rattle.format.specs.Reading.{readNumber}
+use Rattle.format.specs.Language.{count}
+use Rattle.format.specs.Maps.{joins, classes}
 use Rattle.encoding.specs.Clauses.{clauseList, shortWords}
 use Rattle.encoding.specs.Maps.{mapOf}
 use Rattle.quotients.specs.Quotient.{quotientBytes, quotientNumber}

@@ -9,7 +9,7 @@ use Rattle.lists.specs.Lists.{any, upto}
 use Rattle.lists.specs.Bits.{has, hasBit}
 use Rattle.lists.proofs.Upto.{Counting, counting, any-passed, any-found, any-done}
 use Rattle.limits.specs.Limits.{stateMost}
-use Rattle.table.specs.Reading.{isAccepting}
+use Rattle.format.specs.Reading.{isAccepting}
 use Rattle.table.specs.Sections.{sectioned}
 use Rattle.scripts.specs.Script.{Level, ended}
 

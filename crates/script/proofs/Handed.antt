@@ -11,18 +11,18 @@ use Rattle.lists.specs.Lists.{firstFailed}
 use Rattle.lists.proofs.Refusals.{passed}
 use Rattle.limits.specs.Limits.{symbolMost}
 use Rattle.limits.proofs.Within.{limits-within}
-use Rattle.table.specs.File.{Table, tableOf, records}
-use Rattle.table.specs.Limits.{returnLimit}
-use Rattle.table.specs.Reading.{ascend}
-use Rattle.table.specs.Language.{count}
+use Rattle.format.specs.File.{Table, tableOf, records}
+use Rattle.format.specs.Limits.{returnLimit}
+use Rattle.format.specs.Reading.{ascend}
+use Rattle.format.specs.Language.{count}
+use Rattle.format.specs.declared.Starts.{Starts}
+use Rattle.format.proofs.Bytes.{read-well-formed}
+use Rattle.format.proofs.Passed.{formed-tested}
+use Rattle.format.proofs.Facts.{Fit, internals-fit, calls-fit, returns-fit, most-states}
 use Rattle.table.specs.Sections.{sectioned, partOf, HasRead}
-use Rattle.table.specs.declared.Starts.{Starts}
 use Rattle.table.specs.declared.view.Section.the-variants.{Symbols, States, Internals, Calls, Returns}
-use Rattle.table.proofs.Bytes.{read-well-formed}
-use Rattle.table.proofs.Passed.{formed-tested}
-use Rattle.table.proofs.Facts.{Fit, internals-fit, calls-fit, returns-fit, most-states}
 use Rattle.table.proofs.Parts.{symbols-read, states-read, internals-read, calls-read, returns-read}
-use Rattle.tops.specs.Tops.{startWords}
+use Rattle.reach.specs.Tops.{startWords}
 use Rattle.scripts.specs.Script.{Levels, behind, ended, reads, started, scriptTests}
 use Rattle.script.specs.Sections.{Lent, Sections, Fits, sectionsRead}
 

@@ -12,10 +12,10 @@ use lib.Seq.{getD-set-same, getD-set-other}
 use Rattle.lists.proofs.Members.{getD-mem}
 use Rattle.lists.proofs.Parts.{getD-parts}
 use Rattle.limits.specs.Limits.{stateMost, symbolMost}
-use Rattle.table.specs.File.{records}
-use Rattle.table.specs.Reading.{before}
-use Rattle.table.proofs.Bytes.{records-wide, length-records}
-use Rattle.table.proofs.Order.{first-cases, ascend-before}
+use Rattle.format.specs.File.{records}
+use Rattle.format.specs.Reading.{before}
+use Rattle.format.proofs.Bytes.{records-wide, length-records}
+use Rattle.format.proofs.Order.{first-cases, ascend-before}
 use Rattle.table.proofs.Spanning.{record-inside}
 use Rattle.tops.proofs.Loops.{record-byte}
 use Rattle.script.specs.Sections.{Lent, placeOf, placeMost, Begins, Indexed, Filled}

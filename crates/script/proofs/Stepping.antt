@@ -16,8 +16,8 @@ use borrow.Author.Tests.{eq-eqb, ne-eqb}
 use Rattle.lists.specs.Bits.{hasBit, has}
 use Rattle.lists.proofs.Bits.{no-bit}
 use Rattle.limits.specs.Limits.{stateMost, symbolMost}
-use Rattle.table.specs.File.{records}
-use Rattle.tops.specs.Tops.{add}
+use Rattle.format.specs.File.{records}
+use Rattle.reach.specs.Tops.{add}
 use Rattle.scripts.specs.Script.{Level, gains, gained, gain, byReturn}
 use Rattle.script.specs.Sections.{Lent, placeOf, placeMost, Indexed, allGain, popped}
 use Rattle.script.proofs.Index.{symbol-small, state-small}

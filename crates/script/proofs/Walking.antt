@@ -10,8 +10,8 @@ use native.Mathlib.Decide.{ℕ-discrete}
 use lib.ListN.{length, getD, set, drop, length-set, drop-of-length-le}
 use lib.Seq.{getD-set-same, getD-set-other}
 use Rattle.lists.proofs.Members.{one-on}
-use Rattle.table.specs.File.{Table}
-use Rattle.table.specs.Language.{kindOf}
+use Rattle.format.specs.File.{Table}
+use Rattle.format.specs.Language.{kindOf}
 use Rattle.scripts.specs.Script.{Level, Levels, moved, returned, behind, ended, reads, started, openMost, tooDeep}
 use Rattle.script.proofs.Depths.{deep-internal, deep-call, deep-last, deep-return}
 

@@ -8,11 +8,11 @@ use Prim.Native.Nat.{ℕ, _+_, _*_, _<_, _≤_}
 use lib.ListN.{length, getD}
 use Rattle.lists.specs.Bits.{hasBit}
 use Rattle.limits.specs.Limits.{stateMost, symbolMost}
-use Rattle.table.specs.File.{records}
-use Rattle.table.specs.Limits.{returnLimit}
-use Rattle.table.specs.Reading.{ascend}
+use Rattle.format.specs.File.{records}
+use Rattle.format.specs.Limits.{returnLimit}
+use Rattle.format.specs.Reading.{ascend}
 use Rattle.table.specs.Sections.{sectioned}
-use Rattle.tops.specs.Tops.{add}
+use Rattle.reach.specs.Tops.{add}
 use Rattle.scripts.specs.Script.{Level, reads, started, symbolsFit, tooDeep}
 
 -- records of w bytes in order, which name states below n and possible symbols

@@ -8,16 +8,16 @@ ghost use lib.Seq.{slice};
 ghost use Rattle.lists.specs.Lists.{firstFailed};
 ghost use Rattle.lists.specs.Bits.{hasBit};
 ghost use Rattle.limits.specs.Limits.{standard};
-ghost use Rattle.table.specs.File.{records, tableOf};
+ghost use Rattle.format.specs.File.{records, tableOf};
 ghost use Rattle.table.specs.Sections.{sectioned, HasRead};
 ghost use Rattle.scripts.specs.Script.{gain, moved, returned, ended, symbolsFit, tooDeep, scriptTests, answerBy, scriptOf};
 ghost use Rattle.script.specs.Sections.{Lent, Sections, Indexed, Filled, allGain, popped, Fits, sectionsRead};
 ghost use Rattle.scripts.specs.Demands.{ScriptExact};
+use format::Reading;
+use format::Starts;
 use limits::Limits;
 use scripts::Read;
-use table::Reading;
 use table::Section;
-use table::Starts;
 
 // "up to 64 calls open"
 const OPEN: usize = 64;

@@ -9,8 +9,8 @@ use lib.ListN.{length, getD}
 use lib.Dec.{eqb}
 use borrow.Author.Tests.{eqb-true, eqb-false}
 use Rattle.lists.specs.Bits.{Bit}
-use Rattle.tops.specs.Tops.{add}
-use Rattle.tops.proofs.Walks.{Below, below-refl, below-trans, length-add, add-bit, add-own, add-below}
+use Rattle.reach.specs.Tops.{add}
+use Rattle.reach.proofs.Walks.{Below, below-refl, below-trans, length-add, add-bit, add-own, add-below}
 use Rattle.scripts.specs.Script.{Level, gains, gained}
 
 module _ (gain : List ℕ → ℕ) (to a : ℕ) where

@@ -6,8 +6,8 @@ use Prim.Native.Nat.{ℕ}
 use borrow.Author.Tests.{eq-eqb, ne-eqb}
 use Rattle.lists.specs.Lists.{firstFailed}
 use Rattle.limits.specs.declared.Limits.{Limits}
-use Rattle.table.specs.File.{Table, tableOf}
-use Rattle.table.specs.Reading.{readNumber, Readable}
+use Rattle.format.specs.File.{Table, tableOf}
+use Rattle.format.specs.Reading.{readNumber, Readable}
 use Rattle.scripts.specs.declared.Read.{Read}
 use Rattle.scripts.specs.declared.Read.the-variants.{Answer, Refused}
 use Rattle.scripts.specs.Script.{reads, started, scriptTests, scriptNumber, answerBy, scriptOf}

@@ -7,10 +7,10 @@ use Rattle.lists.specs.Lists.{any, all, upto, parts, firstFailed}
 use Rattle.lists.specs.Bits.{hasBit, has}
 use Rattle.limits.specs.Limits.{limitsFit, standard}
 use Rattle.vpa.specs.Automata.{openBehind}
-use Rattle.table.specs.Limits.{longest}
-use Rattle.table.specs.File.{word16, trailer, distance, version, start, records, tableOf}
-use Rattle.table.specs.Reading.{lengthFits, versionFits, distancesFit, countsFit, stateByteMost, bytesFit, isInitial, isAccepting, startFits, recordFits, recordsFit, before, ascendFrom, ascend, orderFits, tableTests, readNumber}
-use Rattle.tops.specs.Tops.{add, startWords}
+use Rattle.format.specs.Limits.{longest}
+use Rattle.format.specs.File.{word16, trailer, distance, version, start, records, tableOf}
+use Rattle.format.specs.Reading.{lengthFits, versionFits, distancesFit, countsFit, stateByteMost, bytesFit, isInitial, isAccepting, startFits, recordFits, recordsFit, before, ascendFrom, ascend, orderFits, tableTests, readNumber}
+use Rattle.reach.specs.Tops.{add, startWords}
 use Rattle.scripts.specs.Script.{gains, gained, gain, byReturn, moved, returned, behind, ended, reads, started, symbolsFit, tooDeep, scriptTests, scriptNumber, answerBy, scriptOf, readNumberOf, readValues}
 
 -- "Table T"

@@ -18,12 +18,12 @@ use Rattle.lists.proofs.Words.{getD-padded}
 use Rattle.limits.specs.Limits.{stateMost}
 use Rattle.limits.specs.declared.Limits.{Limits}
 use Rattle.vpa.specs.Automata.{Configuration, _at_, Run, Ended, Accepts}
-use Rattle.table.specs.File.{Table}
-use Rattle.table.specs.Reading.{WellFormed, isInitial, isAccepting}
-use Rattle.table.specs.Language.{count, byteOf, automaton, kindOf}
-use Rattle.table.proofs.Facts.{Fit, internals-fit, calls-fit, returns-fit, most-states, three-bytes, four-bytes}
-use Rattle.table.proofs.Open.{moves-kinded}
-use Rattle.tops.specs.Tops.{startWords}
+use Rattle.format.specs.File.{Table}
+use Rattle.format.specs.Reading.{WellFormed, isInitial, isAccepting}
+use Rattle.format.specs.Language.{count, byteOf, automaton, kindOf}
+use Rattle.format.proofs.Facts.{Fit, internals-fit, calls-fit, returns-fit, most-states, three-bytes, four-bytes}
+use Rattle.format.proofs.Open.{moves-kinded}
+use Rattle.reach.specs.Tops.{startWords}
 use Rattle.scripts.specs.Script.{Level, Levels, nowhere, gain, byReturn, moved, returned, behind, ended, reads, started}
 use Rattle.scripts.proofs.Levels.{Held, floor, From, Along, Pushed, Popped, along, pushed, popped, no-pop, at-end, still-open}
 use Rattle.scripts.proofs.Adding.{Gains, gained-forth, gained-back}

@@ -6,10 +6,10 @@ use Prim.Native.Nat.{ℕ}
 use native.Mathlib.Decide.{ℕ-discrete}
 use Rattle.lists.specs.Lists.{firstFailed}
 use Rattle.limits.specs.declared.Limits.{Limits}
-use Rattle.table.specs.File.{tableOf}
-use Rattle.table.specs.Reading.{readNumber, Readable}
-use Rattle.table.specs.Language.{SameWords}
-use Rattle.table.proofs.Bytes.{read-well-formed}
+use Rattle.format.specs.File.{tableOf}
+use Rattle.format.specs.Reading.{readNumber, Readable}
+use Rattle.format.specs.Language.{SameWords}
+use Rattle.format.proofs.Bytes.{read-well-formed}
 use Rattle.scripts.specs.declared.Read.{Read}
 use Rattle.scripts.specs.declared.Read.the-variants.{Answer, Refused}
 use Rattle.scripts.specs.Script.{reads, started, scriptTests, scriptNumber, answerBy, scriptOf}

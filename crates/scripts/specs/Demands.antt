@@ -5,7 +5,7 @@ use mathlib.Core.Bool.{true}
 use mathlib.Core.List.{List}
 use Prim.Native.Nat.{ℕ}
 use Rattle.limits.specs.declared.Limits.{Limits}
-use Rattle.table.specs.Language.{AcceptsWord}
+use Rattle.format.specs.Language.{AcceptsWord}
 use Rattle.scripts.specs.declared.Read.{Read}
 use Rattle.scripts.specs.declared.Read.the-variants.{Answer}
 use Rattle.scripts.specs.Script.{scriptNumber, scriptOf}

@@ -12,10 +12,10 @@ use Rattle.lists.specs.Bits.{has}
 use Rattle.limits.specs.declared.Limits.{Limits}
 use Rattle.limits.specs.Limits.{stateMost}
 use Rattle.vpa.specs.Automata.{openBehind}
-use Rattle.table.specs.File.{Table, tableOf}
-use Rattle.table.specs.Reading.{isAccepting, readNumber}
-use Rattle.table.specs.Language.{count, byteOf, kindOf}
-use Rattle.tops.specs.Tops.{add, startWords}
+use Rattle.format.specs.File.{Table, tableOf}
+use Rattle.format.specs.Reading.{isAccepting, readNumber}
+use Rattle.format.specs.Language.{count, byteOf, kindOf}
+use Rattle.reach.specs.Tops.{add, startWords}
 use Rattle.scripts.specs.declared.Read.{Read}
 use Rattle.scripts.specs.declared.Read.the-variants.{Answer, Refused}
 

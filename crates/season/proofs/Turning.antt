@@ -5,9 +5,9 @@ use mathlib.Core.List.{List, [], _∷_}
 use Prim.Native.Nat.{ℕ}
 use native.Mathlib.Omega.{arith}
 use Rattle.limits.specs.declared.Limits.{Limits}
-use Rattle.table.specs.File.{tableOf}
-use Rattle.table.specs.Reading.{Readable}
-use Rattle.table.specs.Language.{count}
+use Rattle.format.specs.File.{tableOf}
+use Rattle.format.specs.Reading.{Readable}
+use Rattle.format.specs.Language.{count}
 use Rattle.reductions.specs.Reduce.{Reduced, reduceOf, spentValue}
 use Rattle.reductions.specs.declared.Reduction.{Reduction}
 use Rattle.reductions.specs.declared.Reduction.the-variants.{Delivered, Refused}

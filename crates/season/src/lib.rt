@@ -5,17 +5,17 @@ ghost use Prim.Native.Nat.{_*_, _<_, _≤_, _^_};
 ghost use lib.ListN.{length};
 ghost use lib.Seq.{paste};
 ghost use Rattle.limits.specs.Limits.{standard};
-ghost use Rattle.table.specs.File.{tableOf};
-ghost use Rattle.table.specs.Reading.{Readable};
-ghost use Rattle.table.specs.Language.{count};
+ghost use Rattle.format.specs.File.{tableOf};
+ghost use Rattle.format.specs.Reading.{Readable};
+ghost use Rattle.format.specs.Language.{count};
 ghost use Rattle.reductions.specs.Reduce.{spentValue};
 ghost use Rattle.seasons.specs.Seasons.{lengthsFit, SeasonDone, refusedBy, seasonOf};
 ghost use Rattle.seasons.specs.Demands.{Alone, WithinAll, SolvedWithin, EachPromised};
 ghost use Rattle.season.specs.Turns.{Turned, Ran};
+use format::Reading;
 use limits::Limits;
 use reductions::Reduction;
 use seasons::Season;
-use table::Reading;
 use table::Section;
 
 // One table's turn: its row of numbers, how many bytes of the maps and of the reduced tables it took, and its guesses.

@@ -15,11 +15,11 @@ use Rattle.cnf.specs.Search.{madeOf, isSpent}
 use Rattle.cnf.proofs.Budgets.{made-within}
 use Rattle.limits.specs.declared.Limits.{Limits}
 use Rattle.pairs.specs.Pairs.{pairs}
-use Rattle.table.specs.File.{tableOf}
-use Rattle.table.specs.Reading.{readNumber}
-use Rattle.table.specs.Language.{count}
-use Rattle.table.specs.Maps.{classes}
-use Rattle.table.proofs.Bytes.{read-well-formed}
+use Rattle.format.specs.File.{tableOf}
+use Rattle.format.specs.Reading.{readNumber}
+use Rattle.format.specs.Language.{count}
+use Rattle.format.specs.Maps.{classes}
+use Rattle.format.proofs.Bytes.{read-well-formed}
 use Rattle.encoding.specs.Clauses.{clauseList, shortWords}
 use Rattle.encoding.specs.Maps.{mapOf}
 use Rattle.encoding.proofs.Theorems.{map-proper}

@@ -17,13 +17,13 @@ use Rattle.cnf.specs.Search.{madeOf, isSpent}
 use Rattle.cnf.proofs.Budgets.{enough}
 use Rattle.limits.specs.declared.Limits.{Limits}
 use Rattle.pairs.specs.Pairs.{pairs}
-use Rattle.table.specs.File.{tableOf}
-use Rattle.table.specs.Language.{count, SameWords, SameMarks, OpenByNeither}
-use Rattle.table.specs.Maps.{NoneCoarser}
-use Rattle.table.proofs.Bytes.{read-well-formed}
-use Rattle.maps.specs.Check.{checkOf}
+use Rattle.format.specs.File.{tableOf}
+use Rattle.format.specs.Language.{count, SameWords, SameMarks, OpenByNeither}
+use Rattle.format.specs.Maps.{NoneCoarser}
+use Rattle.format.proofs.Bytes.{read-well-formed}
+use Rattle.relations.specs.Check.{checkOf}
 use Rattle.scripts.specs.Demands.{SameScripts}
-use Rattle.maps.specs.declared.Checked.the-variants.{Accepted}
+use Rattle.relations.specs.declared.Checked.the-variants.{Accepted}
 use Rattle.encoding.specs.Clauses.{clauseList}
 use Rattle.quotients.specs.Demands.{IsQuotient, ShowsSteps}
 use Rattle.reductions.specs.Reduce.{Reduced, searchOfTable, joinedPairs, reduceOf}

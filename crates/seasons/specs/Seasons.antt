@@ -7,8 +7,8 @@ use lib.Dec.{eqb, leb}
 use Rattle.lists.specs.Lists.{gather, sum, over, firstFailed}
 use Rattle.limits.specs.declared.Limits.{Limits}
 use Rattle.limits.specs.Limits.{limitsFit}
-use Rattle.table.specs.File.{tableOf}
-use Rattle.table.specs.Language.{count}
+use Rattle.format.specs.File.{tableOf}
+use Rattle.format.specs.Language.{count}
 use Rattle.reductions.specs.Reduce.{reduceOf, spentValue}
 use Rattle.reductions.specs.declared.Reduction.{Reduction}
 use Rattle.reductions.specs.declared.Reduction.the-variants.{Delivered, Refused}

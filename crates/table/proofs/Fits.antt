@@ -9,8 +9,8 @@ use lib.Seq.{take-all}
 use lib.Dec.{ltb, eqb}
 use borrow.Author.Tests.{lt-ltb, le-ltb, eq-eqb, ne-eqb}
 use Rattle.lists.specs.Lists.{all}
-use Rattle.table.specs.File.{Table}
-use Rattle.table.specs.Reading.{recordFits}
+use Rattle.format.specs.File.{Table}
+use Rattle.format.specs.Reading.{recordFits}
 use Rattle.table.specs.Sections.{sectioned}
 
 -- a record is judged by the symbols and the states alone

@@ -7,11 +7,11 @@ use native.Mathlib.Omega.{arith}
 use lib.Dec.{eqb}
 use borrow.Author.Tests.{eqb-true, eqb-false}
 use Rattle.limits.specs.declared.Limits.{Limits}
-use Rattle.table.specs.Reading.{readNumber, startsOf, readOf}
+use Rattle.format.specs.Reading.{readNumber, startsOf, readOf}
+use Rattle.format.specs.declared.Starts.{Starts}
+use Rattle.format.specs.declared.Reading.{Reading}
+use Rattle.format.specs.declared.Reading.the-variants.{Sections, Refused}
 use Rattle.table.specs.Sections.{ReadAs}
-use Rattle.table.specs.declared.Starts.{Starts}
-use Rattle.table.specs.declared.Reading.{Reading}
-use Rattle.table.specs.declared.Reading.the-variants.{Sections, Refused}
 
 pub read-as : (L : Limits) (b : List ℕ) (s : Starts) → readOf L b ≡ Sections s → ReadAs L b s
 unfolding readOf

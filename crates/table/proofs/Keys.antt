@@ -13,10 +13,10 @@ use lib.Dec.{eqb, ltb}
 use borrow.Author.Tests.{lt-ltb, le-ltb, eq-eqb, ne-eqb, ltb-true}
 use Rattle.lists.specs.Lists.{same}
 use Rattle.lists.proofs.Members.{same-true, same-of}
-use Rattle.table.specs.Reading.{before}
+use Rattle.format.specs.Reading.{before}
+use Rattle.format.proofs.Bytes.{Bytes}
 use Rattle.table.specs.Spans.{startsWith}
 use Rattle.table.specs.Keys.{keyFrom, key, Keyed}
-use Rattle.table.proofs.Bytes.{Bytes}
 
 -- ---- bytes as a number, byte by byte
 

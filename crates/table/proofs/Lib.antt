@@ -1,15 +1,8 @@
-pub mod Versions
-pub mod Passed
-pub mod Bytes
-pub mod Order
 pub mod Keys
-pub mod Facts
 pub mod Spans
-pub mod Examples
 pub mod Walks
 pub mod Fits
 pub mod Numbers
 pub mod Handed
 pub mod Parts
 pub mod Spanning
-pub mod Open

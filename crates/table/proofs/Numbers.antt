@@ -16,15 +16,15 @@ use Rattle.lists.proofs.Refusals.{passes, fails, no-test}
 use Rattle.limits.specs.Limits.{limitsFit}
 use Rattle.limits.proofs.Within.{limits-within}
 use Rattle.limits.specs.declared.Limits.{Limits}
-use Rattle.table.specs.Limits.{longest}
-use Rattle.table.specs.File.{Table, word16, trailer, distance, version, start, records, tableOf}
-use Rattle.table.specs.Reading.{lengthFits, versionFits, distancesFit, countsFit, stateByteMost, bytesFit, isInitial, startFits, recordFits, recordsFit, ascend, orderFits, tableTests, readNumber, startsOf, readOf}
+use Rattle.format.specs.Limits.{longest}
+use Rattle.format.specs.File.{Table, word16, trailer, distance, version, start, records, tableOf}
+use Rattle.format.specs.Reading.{lengthFits, versionFits, distancesFit, countsFit, stateByteMost, bytesFit, isInitial, startFits, recordFits, recordsFit, ascend, orderFits, tableTests, readNumber, startsOf, readOf}
+use Rattle.format.specs.declared.Starts.{Starts}
+use Rattle.format.specs.declared.Reading.{Reading}
+use Rattle.format.specs.declared.Reading.the-variants.{Sections, Refused}
+use Rattle.format.proofs.Passed.{distances-framed}
+use Rattle.format.proofs.Bytes.{length-records}
 use Rattle.table.specs.Sections.{sectioned}
-use Rattle.table.specs.declared.Starts.{Starts}
-use Rattle.table.specs.declared.Reading.{Reading}
-use Rattle.table.specs.declared.Reading.the-variants.{Sections, Refused}
-use Rattle.table.proofs.Passed.{distances-framed}
-use Rattle.table.proofs.Bytes.{length-records}
 use Rattle.table.proofs.Fits.{fits-by}
 
 -- ---- 4: counts

@@ -6,10 +6,10 @@ use native.Mathlib.Omega.{arith}
 use lib.ListN.{length, getD, take, drop, length-take, drop-of-length-le, List·getD-eq-default}
 use lib.Seq.{slice, take-nil, take-all, drop-length}
 use Rattle.limits.specs.declared.Limits.{Limits}
-use Rattle.table.specs.File.{trailer, start, records, tableOf}
-use Rattle.table.specs.Reading.{startsOf}
+use Rattle.format.specs.File.{trailer, start, records, tableOf}
+use Rattle.format.specs.Reading.{startsOf}
+use Rattle.format.specs.declared.Starts.{Starts}
 use Rattle.table.specs.Sections.{ReadAs, partOf, stateByte}
-use Rattle.table.specs.declared.Starts.{Starts}
 use Rattle.table.specs.declared.view.Section.{Section}
 use Rattle.table.specs.declared.view.Section.the-variants.{Symbols, States, Internals, Calls, Returns}
 use Rattle.table.proofs.Numbers.{part}

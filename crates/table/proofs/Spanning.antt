@@ -15,14 +15,14 @@ use borrow.Author.Tests.{lt-ltb, le-ltb, eq-eqb, ne-eqb}
 use Rattle.lists.specs.Lists.{keep, parts}
 use Rattle.lists.proofs.Members.{getD-mem}
 use Rattle.lists.proofs.Parts.{getD-parts}
-use Rattle.table.specs.File.{records}
-use Rattle.table.specs.Reading.{before, ascend}
+use Rattle.format.specs.File.{records}
+use Rattle.format.specs.Reading.{before, ascend}
+use Rattle.format.proofs.Bytes.{Bytes, length-records}
+use Rattle.format.proofs.Order.{before-transitive, ascend-behind, ascend-rest}
 use Rattle.table.specs.Sections.{firstAt}
 use Rattle.table.specs.Spans.{startsWith, leading}
 use Rattle.table.specs.Keys.{key, Keyed}
-use Rattle.table.proofs.Bytes.{Bytes, length-records}
 use Rattle.table.proofs.Keys.{part-bytes, but-last, before-key, starts-key}
-use Rattle.table.proofs.Order.{before-transitive, ascend-behind, ascend-rest}
 use Rattle.table.proofs.Spans.{kept-span}
 
 -- ---- record i

@@ -10,11 +10,11 @@ use lib.Dec.{eqb, ltb}
 use borrow.Author.Tests.{eqb-true, eq-eqb, ltb-true, le-ltb, ltb-false}
 use Rattle.lists.specs.Lists.{keep, same}
 use Rattle.lists.proofs.Members.{and-true, and-of, or-true, or-false}
-use Rattle.table.specs.Reading.{before, ascendFrom, ascend}
-use Rattle.table.specs.Language.{targets}
+use Rattle.format.specs.Reading.{before, ascendFrom, ascend}
+use Rattle.format.specs.Language.{targets}
+use Rattle.format.proofs.Order.{before-transitive, ascend-behind, ascend-rest}
 use Rattle.table.specs.Sections.{firstAt}
 use Rattle.table.specs.Spans.{startsWith, leading}
-use Rattle.table.proofs.Order.{before-transitive, ascend-behind, ascend-rest}
 
 -- what starts with the key does not stand before it
 starts-not-before : (key r : List ℕ) → startsWith key r ≡ true → before r key ≡ false

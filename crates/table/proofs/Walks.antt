@@ -13,10 +13,10 @@ use lib.Dec.{ltb}
 use borrow.Author.Tests.{lt-ltb, le-ltb}
 use Rattle.lists.specs.Lists.{any, all, parts}
 use Rattle.lists.proofs.Members.{one-on}
-use Rattle.table.specs.File.{records}
-use Rattle.table.specs.Reading.{before, ascendFrom, ascend}
+use Rattle.format.specs.File.{records}
+use Rattle.format.specs.Reading.{before, ascendFrom, ascend}
+use Rattle.format.proofs.Bytes.{Bytes}
 use Rattle.table.specs.Keys.{key}
-use Rattle.table.proofs.Bytes.{Bytes}
 use Rattle.table.proofs.Keys.{part-bytes, order-key}
 
 -- the answer over the whole list is the answer over what is still to come

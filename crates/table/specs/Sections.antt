@@ -7,9 +7,9 @@ use Prim.Native.Nat.{ℕ, suc}
 use lib.ListN.{getD}
 use lib.Seq.{slice}
 use Rattle.limits.specs.declared.Limits.{Limits}
-use Rattle.table.specs.File.{Table, trailer, records}
-use Rattle.table.specs.Reading.{before, Readable, startsOf}
-use Rattle.table.specs.declared.Starts.{Starts}
+use Rattle.format.specs.File.{Table, trailer, records}
+use Rattle.format.specs.Reading.{before, Readable, startsOf}
+use Rattle.format.specs.declared.Starts.{Starts}
 use Rattle.table.specs.declared.view.Section.{Section}
 use Rattle.table.specs.declared.view.Section.the-variants.{Symbols, States, Internals, Calls, Returns}
 

@@ -7,10 +7,12 @@ ghost use lib.ListN.{length};
 ghost use lib.Dec.{ltb};
 ghost use Rattle.lists.specs.Lists.{any, all, firstFailed};
 ghost use Rattle.limits.specs.Limits.{standard, limitsFit};
-ghost use Rattle.table.specs.Limits.{longest};
-ghost use Rattle.table.specs.File.{word16, version, records, tableOf};
-ghost use Rattle.table.specs.Reading.{versionFits, distancesFit, countsFit, stateByteMost, bytesFit, isInitial, recordFits, recordsFit, ascend, orderFits, tableTests, startsOf, readOf};
+ghost use Rattle.format.specs.Limits.{longest};
+ghost use Rattle.format.specs.File.{word16, version, records, tableOf};
+ghost use Rattle.format.specs.Reading.{versionFits, distancesFit, countsFit, stateByteMost, bytesFit, isInitial, recordFits, recordsFit, ascend, orderFits, tableTests, startsOf, readOf};
 ghost use Rattle.table.specs.Sections.{sectioned};
+use format::Reading;
+use format::Starts;
 use limits::Limits;
 use limits::limits_fit;
 
@@ -27,22 +29,6 @@ pub use view::part;
 pub use view::view_of;
 pub use view::view_part;
 pub use view::view_state;
-
-// "Reading answers the five section starts."
-pub struct Starts {
-    pub symbols: usize,
-    pub states: usize,
-    pub internals: usize,
-    pub calls: usize,
-    pub returns: usize,
-}
-
-// What reading a table answers.
-pub enum Reading {
-    Sections(Starts),
-    // 39, 1 to 8
-    Refused(u8),
-}
 
 // The longest file's bytes but for its symbols and states: every record section full, and the trailer.
 const RECORDS_AND_TRAILER: usize = 22540;

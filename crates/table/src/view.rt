@@ -3,9 +3,9 @@
 // Nothing is asked of the starts: bytes that are not there are left out of a section.
 ghost use mathlib.Core.Path.{_≡_};
 ghost use lib.Seq.{slice};
-ghost use Rattle.table.specs.File.{trailer};
+ghost use Rattle.format.specs.File.{trailer};
 ghost use Rattle.table.specs.Sections.{partOf, stateByte};
-use crate::Starts;
+use format::Starts;
 
 // Which of the five sections.
 pub enum Section {

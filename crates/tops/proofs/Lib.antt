@@ -1,8 +1,3 @@
-pub mod Bounded
-pub mod Walks
-pub mod Exact
-pub mod Count
-pub mod Formed
 pub mod Padded
 pub mod Loops
 pub mod Sums

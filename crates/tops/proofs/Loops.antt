@@ -17,13 +17,13 @@ use Rattle.lists.specs.Lists.{same}
 use Rattle.lists.specs.Bits.{onesOver}
 use Rattle.lists.proofs.Members.{same-true}
 use Rattle.limits.specs.Limits.{stateMost}
-use Rattle.table.specs.File.{Table, records}
+use Rattle.format.specs.File.{Table, records}
+use Rattle.format.specs.Reading.{isInitial}
 use Rattle.table.specs.Sections.{sectioned}
-use Rattle.table.specs.Reading.{isInitial}
 use Rattle.table.proofs.Walks.{records-cons, records-end}
+use Rattle.reach.specs.Tops.{live, byInternals, byCalls, byReturns, round, rounds, startWords}
 use Rattle.tops.specs.declared.Kind.{Kind}
 use Rattle.tops.specs.declared.Kind.the-variants.{Internal, Call, Return}
-use Rattle.tops.specs.Tops.{live, byInternals, byCalls, byReturns, round, rounds, startWords}
 use Rattle.tops.specs.Sections.{Section, widthOf, stepBy, byRecords, total}
 
 -- ---- records

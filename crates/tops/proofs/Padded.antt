@@ -13,15 +13,15 @@ use Rattle.lists.specs.Bits.{has, hasBit, onesOver}
 use Rattle.lists.proofs.Members.{same-refl}
 use Rattle.lists.proofs.Words.{getD-padded}
 use Rattle.limits.specs.Limits.{stateMost}
-use Rattle.table.specs.File.{Table, records}
+use Rattle.format.specs.File.{Table, records}
+use Rattle.format.specs.Language.{count}
+use Rattle.format.proofs.Bytes.{records-wide}
 use Rattle.table.specs.Sections.{sectioned}
-use Rattle.table.specs.Language.{count}
-use Rattle.table.proofs.Bytes.{records-wide}
-use Rattle.tops.specs.Tops.{add, live, byInternals, byCalls, byReturns, round, rounds, startWords, topWords, topWordsAt}
+use Rattle.reach.specs.Tops.{add, live, byInternals, byCalls, byReturns, round, rounds, startWords, topWords, topWordsAt}
+use Rattle.reach.proofs.Bounded.{Bounded, Moves, Pops}
+use Rattle.reach.proofs.Count.{count-ones, ones-first}
+use Rattle.reach.proofs.Walks.{internalStep, callStep, returnStep, walk, round-walk, Grows, internal-grows, call-grows, return-grows, walk-wide}
 use Rattle.tops.specs.Sections.{Section, Sections, topsFound}
-use Rattle.tops.proofs.Bounded.{Bounded, Moves, Pops}
-use Rattle.tops.proofs.Count.{count-ones, ones-first}
-use Rattle.tops.proofs.Walks.{internalStep, callStep, returnStep, walk, round-walk, Grows, internal-grows, call-grows, return-grows, walk-wide}
 
 same-append : (f g z : List ℕ) → length f ≡ length g → same (f ++ z) (g ++ z) ≡ same f g
 unfolding same

@@ -13,24 +13,23 @@ use Rattle.lists.specs.Lists.{same}
 use Rattle.lists.specs.Bits.{onesOver}
 use Rattle.limits.specs.declared.Limits.{Limits}
 use Rattle.limits.specs.Limits.{stateMost}
-use Rattle.table.specs.File.{Table, trailer, start, tableOf}
+use Rattle.format.specs.File.{Table, trailer, start, tableOf}
+use Rattle.format.specs.Reading.{readNumber, Readable, startsOf, readOf}
+use Rattle.format.specs.declared.Starts.{Starts}
+use Rattle.format.specs.declared.Reading.{Reading}
+use Rattle.format.specs.declared.Reading.the-variants.{Sections as SectionsAt, Refused as RefusedBy}
+use Rattle.format.proofs.Passed.{Passed, read-passed}
+use Rattle.format.proofs.Bytes.{length-between, length-from, read-well-formed}
+use Rattle.format.proofs.Facts.{internals-fit, calls-fit, returns-fit, most-states}
 use Rattle.table.specs.Sections.{sectioned, partOf, HasRead}
-use Rattle.table.specs.Reading.{readNumber, Readable, startsOf, readOf}
-use Rattle.table.specs.declared.Starts.{Starts}
 use Rattle.table.specs.declared.view.Section.the-variants.{States, Internals, Calls, Returns}
-use Rattle.table.specs.declared.Reading.{Reading}
-use Rattle.table.specs.declared.Reading.the-variants.{Sections as SectionsAt, Refused as RefusedBy}
-use Rattle.table.proofs.Passed.{Passed, read-passed}
 use Rattle.table.proofs.Parts.{states-at, internals-at, calls-at, returns-at}
-use Rattle.table.proofs.Bytes.{length-between, length-from, read-well-formed}
-use Rattle.table.proofs.Facts.{internals-fit, calls-fit, returns-fit, most-states}
-use Rattle.tops.specs.Tops.{round, rounds, startWords, topWords, topWordsAt, topCount, topsOf}
-use Rattle.tops.specs.Sections.{Sections, topsFound}
-use Rattle.tops.specs.Demands.{TopsExact, examinedOf}
-use Rattle.tops.specs.declared.TopWords.{TopWords}
+use Rattle.reach.specs.Tops.{round, rounds, startWords, topWords, topWordsAt, topCount, topsOf}
+use Rattle.reach.specs.Demands.{TopsExact}
+use Rattle.reach.specs.declared.TopWords.{TopWords}
+use Rattle.reach.proofs.Theorems.{tops-exact}
+use Rattle.tops.specs.Sections.{Sections, topsFound, examinedOf}
 use Rattle.tops.specs.declared.Examined.{Examined}
-use Rattle.tops.proofs.Exact.{top-bit}
-use Rattle.tops.proofs.Formed.{bounded}
 
 -- ---- the tops do not look at the version and the symbols
 
@@ -131,12 +130,7 @@ module _ (L : Limits) (b : List ℕ) where
       go true p = rw (p, examinedOf, topsOf)
       go false p = rw (p, examinedOf, topsOf)
 
-  -- demand 2
-  pub tops-exact : TopsExact L b (topsOf L b)
-  unfolding topsOf
-  tops-exact readable q x = rw (eq-eqb (readNumber L b) 0 readable, topsOf) (top-bit (bounded (read-well-formed L b readable)) q x)
-
   pub tops-answer : {x : Examined} → x ≡ examinedOf L b → (record { number = x .number; words = x .words; found = x .found } ≡ topsOf L b) × TopsExact L b (record { number = x .number; words = x .words; found = x .found })
   tops-answer {x} e =
       let f : record { number = x .number; words = x .words; found = x .found } ≡ topsOf L b = (λ i. record { number = e i .number; words = e i .words; found = e i .found }) ∙ examined-tops in
-      (f, subst (λ (t : TopWords). TopsExact L b t) (sym f) tops-exact)
+      (f, subst (λ (t : TopWords). TopsExact L b t) (sym f) (tops-exact L b))

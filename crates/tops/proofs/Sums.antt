@@ -15,13 +15,13 @@ use Rattle.lists.specs.Lists.{same}
 use Rattle.lists.proofs.Members.{same-refl, same-true}
 use Rattle.lists.proofs.Words.{getD-padded}
 use Rattle.limits.specs.Limits.{stateMost}
-use Rattle.table.specs.File.{Table}
+use Rattle.format.specs.File.{Table}
+use Rattle.format.specs.Reading.{isInitial}
 use Rattle.table.specs.Sections.{sectioned}
-use Rattle.table.specs.Reading.{isInitial}
-use Rattle.tops.specs.Tops.{add, live, byInternals, byCalls, byReturns, round, startWords}
+use Rattle.reach.specs.Tops.{add, live, byInternals, byCalls, byReturns, round, startWords}
+use Rattle.reach.proofs.Bounded.{Bounded}
+use Rattle.reach.proofs.Walks.{internalStep, callStep, returnStep, round-walk, walk-keeps, length-add}
 use Rattle.tops.specs.Sections.{Sections, Small, total, sumOf}
-use Rattle.tops.proofs.Bounded.{Bounded}
-use Rattle.tops.proofs.Walks.{internalStep, callStep, returnStep, round-walk, walk-keeps, length-add}
 use Rattle.tops.proofs.Padded.{sections-bounded, round-told}
 use Rattle.tops.proofs.Loops.{Resting, rest-on, rested}
 

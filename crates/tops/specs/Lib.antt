@@ -1,3 +1,1 @@
-pub mod Tops
 pub mod Sections
-pub mod Demands

@@ -1,18 +1,21 @@
--- The sections of a table that the tops are worked out from, as parts of the file. Assumes nothing.
+-- The sections of a table that the tops are worked out from, as parts of the file, and what is handed on with them. Assumes nothing.
 use mathlib.Core.Path.{_≡_}
 use mathlib.Core.Logic.{_≢_}
 use mathlib.Core.Bool.{true, false}
 use mathlib.Core.List.{List, [], _∷_, List·Memᴰ}
 use Prim.Native.Nat.{ℕ, suc, _+_, _%_, _^_, _<_, _≤_}
-use lib.ListN.{length, getD}
+use lib.ListN.{length, getD, replicate}
 use lib.Dec.{eqb}
 use Rattle.lists.specs.Bits.{has}
+use Rattle.limits.specs.declared.Limits.{Limits}
 use Rattle.limits.specs.Limits.{stateMost}
-use Rattle.table.specs.File.{Table, records}
-use Rattle.tops.specs.declared.TopWords.{TopWords}
+use Rattle.format.specs.File.{Table, records, tableOf}
+use Rattle.format.specs.Reading.{readNumber, startsOf}
+use Rattle.reach.specs.declared.TopWords.{TopWords}
+use Rattle.reach.specs.Tops.{add, byInternals, byCalls, byReturns, topWords, topCount}
+use Rattle.tops.specs.declared.Examined.{Examined}
 use Rattle.tops.specs.declared.Kind.{Kind}
 use Rattle.tops.specs.declared.Kind.the-variants.{Internal, Call, Return}
-use Rattle.tops.specs.Tops.{add, byInternals, byCalls, byReturns, topWords, topCount}
 
 -- a whole number of records of w bytes, of which all but the second are below n
 pub record Section (w n : ℕ) (s : List ℕ) : Type 0 where
@@ -61,3 +64,10 @@ sumOf ws = total (λ w. w) ws
 -- the answer of a table that was read
 unfoldable pub topsFound : Table → TopWords
 topsFound t = record { number = 0; words = topWords t; found = topCount t }
+
+-- the answer that other operations go on with: the section starts and the tops, or the refusal's number and zeros
+unfoldable pub examinedOf : Limits → List ℕ → Examined
+examinedOf L b = elim (eqb (readNumber L b) 0) [
+  | true ↦ record { number = 0; starts = startsOf b; words = topWords (tableOf b); found = topCount (tableOf b) }
+  | false ↦ record { number = readNumber L b; starts = record { symbols = 0; states = 0; internals = 0; calls = 0; returns = 0 }; words = replicate stateMost 0; found = 0 }
+]

@@ -6,21 +6,15 @@ ghost use lib.ListN.{length, take, replicate};
 ghost use lib.Count.{onesIn};
 ghost use Rattle.lists.specs.Bits.{has, onesOver};
 ghost use Rattle.limits.specs.Limits.{standard, stateMost};
-ghost use Rattle.table.specs.File.{records, tableOf};
+ghost use Rattle.format.specs.File.{records, tableOf};
 ghost use Rattle.table.specs.Sections.{sectioned, HasRead};
-ghost use Rattle.tops.specs.Tops.{add, startWords, rounds, topWords, topsOf};
-ghost use Rattle.tops.specs.Demands.{examinedOf, TopsExact};
-ghost use Rattle.tops.specs.Sections.{Section, Sections, Small, sumOf, widthOf, stepBy, byRecords, topsFound};
+ghost use Rattle.reach.specs.Tops.{add, startWords, rounds, topWords, topsOf};
+ghost use Rattle.reach.specs.Demands.{TopsExact};
+ghost use Rattle.tops.specs.Sections.{Section, Sections, Small, sumOf, widthOf, stepBy, byRecords, topsFound, examinedOf};
+use format::Reading;
+use format::Starts;
 use limits::Limits;
-use table::Reading;
-use table::Starts;
-
-// What tops answers: the refusal's number or 0, a word for each possible state, and the number of tops found.
-pub struct TopWords {
-    pub number: u8,
-    pub words: [u64; 40],
-    pub found: u32,
-}
+use reach::TopWords;
 
 // A table that was read, with its tops: what the other operations on a table go on with.
 pub struct Examined {
@@ -151,7 +145,7 @@ fn sum_of(words: &[u64; 40], n: usize) -> u64
 }
 
 // All records pass until a round changes nothing: words only gain tops, so the sum of the states' words tells. So many rounds are enough
-// (proofs/Exact).
+// (reach/proofs/Exact).
 fn rest(states: &[u8], internals: &[u8], calls: &[u8], returns: &[u8], words: &mut [u64; 40])
     requires { ⌜ Sections (now states) (now internals) (now calls) (now returns) × Small (now words) ⌝ }
     ensures { λ _. ⌜ now (words .exit) ≡ rounds (suc (length (now (states .entry)) * suc (length (now (states .entry))))) (sectioned 0 [] (now (states .entry)) (now (internals .entry)) (now (calls .entry)) (now (returns .entry))) (now (words .entry)) ⌝ }

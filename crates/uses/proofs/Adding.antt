@@ -11,8 +11,8 @@ use borrow.Author.Tests.{eqb-true, eqb-false}
 use Rattle.lists.specs.Lists.{all, keep, upto, sum}
 use Rattle.lists.proofs.Members.{getD-map, getD-upto, length-upto, zeros}
 use Rattle.limits.specs.Limits.{stateMost}
-use Rattle.table.specs.File.{records}
-use Rattle.table.specs.Maps.{classOf}
+use Rattle.format.specs.File.{records}
+use Rattle.format.specs.Maps.{classOf}
 use Rattle.table.proofs.Walks.{record-on, records-end}
 use Rattle.uses.specs.Uses.{Line, lineOf, linesOf, usesIn, classSum, classSums, statesFit, counted}
 use Rattle.uses.specs.Demands.{Fits}

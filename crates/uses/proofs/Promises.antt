@@ -13,14 +13,14 @@ use Rattle.lists.proofs.Members.{and-true, all-true, zeros}
 use Rattle.lists.proofs.Refusals.{passed, passes, fails, no-test}
 use Rattle.limits.specs.declared.Limits.{Limits}
 use Rattle.limits.specs.Limits.{stateMost}
-use Rattle.table.specs.File.{tableOf}
-use Rattle.table.specs.Language.{count}
-use Rattle.table.specs.Maps.{classOf, classes}
-use Rattle.table.proofs.Bytes.{read-well-formed}
-use Rattle.table.proofs.Facts.{most-states}
-use Rattle.maps.specs.Check.{checkNumber}
-use Rattle.maps.proofs.Accepted.{accepted}
-use Rattle.maps.proofs.Numbered.{class-below, classes-few, class-under}
+use Rattle.format.specs.File.{tableOf}
+use Rattle.format.specs.Language.{count}
+use Rattle.format.specs.Maps.{classOf, classes}
+use Rattle.format.proofs.Bytes.{read-well-formed}
+use Rattle.format.proofs.Facts.{most-states}
+use Rattle.relations.specs.Check.{checkNumber}
+use Rattle.relations.proofs.Accepted.{accepted}
+use Rattle.relations.proofs.Numbered.{class-below, classes-few, class-under}
 use Rattle.uses.specs.declared.Counted.{Counted}
 use Rattle.uses.specs.Uses.{Line, linesOf, usesIn, classSum, stateSum, classSums, linesFit, statesFit, linesTests, usesNumber, counted, refusedBy, answerBy, usesOf}
 use Rattle.uses.specs.Demands.{AnyOrder, ByStates, ZeroPast, Fits}

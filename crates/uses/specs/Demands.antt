@@ -8,9 +8,9 @@ use lib.Dec.{eqb}
 use Rattle.lists.specs.Lists.{keep, upto, sum}
 use Rattle.limits.specs.declared.Limits.{Limits}
 use Rattle.limits.specs.Limits.{stateMost}
-use Rattle.table.specs.File.{tableOf}
-use Rattle.table.specs.Language.{count}
-use Rattle.table.specs.Maps.{classOf, classes}
+use Rattle.format.specs.File.{tableOf}
+use Rattle.format.specs.Language.{count}
+use Rattle.format.specs.Maps.{classOf, classes}
 use Rattle.uses.specs.declared.Counted.{Counted}
 use Rattle.uses.specs.Uses.{linesOf, stateSum, usesOf}
 

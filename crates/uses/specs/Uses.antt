@@ -7,10 +7,10 @@ use lib.Dec.{eqb, leb, ltb}
 use Rattle.lists.specs.Lists.{all, keep, upto, sum, firstFailed}
 use Rattle.limits.specs.declared.Limits.{Limits}
 use Rattle.limits.specs.Limits.{stateMost}
-use Rattle.table.specs.File.{records, tableOf}
-use Rattle.table.specs.Language.{count}
-use Rattle.table.specs.Maps.{classOf}
-use Rattle.maps.specs.Check.{checkNumber}
+use Rattle.format.specs.File.{records, tableOf}
+use Rattle.format.specs.Language.{count}
+use Rattle.format.specs.Maps.{classOf}
+use Rattle.relations.specs.Check.{checkNumber}
 use Rattle.uses.specs.declared.Counted.{Counted}
 
 -- "lines of a state (one byte) and a use count (32 bits, little-endian)"

@@ -4,11 +4,11 @@ ghost use Prim.Native.Nat.{ℕ, _*_, _<_, _≤_};
 ghost use lib.ListN.{length};
 ghost use Rattle.lists.specs.Lists.{sum, firstFailed};
 ghost use Rattle.limits.specs.Limits.{standard};
-ghost use Rattle.table.specs.Maps.{classOf};
+ghost use Rattle.format.specs.Maps.{classOf};
 ghost use Rattle.uses.specs.Uses.{lineOf, statesFit, linesTests, counted, refusedBy, answerBy, usesOf};
 ghost use Rattle.uses.specs.Demands.{AnyOrder, ByStates, ZeroPast, Fits};
 use limits::Limits;
-use maps::Checked;
+use relations::Checked;
 
 // What counting answers: the refusal's number or 0, a sum for each possible state by its number as a class, and the total.
 pub struct Counted {

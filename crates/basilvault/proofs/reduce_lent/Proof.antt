@@ -4,9 +4,9 @@ use Prim.Native.Nat.{ℕ, _≤_}
 use native.Mathlib.Omega.{arith}
 use lib.ListN.{length, take, length-take, length-replicate}
 use lib.Seq.{length-take-le}
-use Rattle.table.specs.File.{tableOf}
-use Rattle.table.specs.Language.{count}
-use Rattle.maps.specs.Check.{checkNumber}
+use Rattle.format.specs.File.{tableOf}
+use Rattle.format.specs.Language.{count}
+use Rattle.relations.specs.Check.{checkNumber}
 use Rattle.reductions.proofs.Theorems.{delivered-fits}
 use Rattle.basilvault.specs.Program.{widest}
 use Rattle.basilvault.specs.Text.{refusedText}

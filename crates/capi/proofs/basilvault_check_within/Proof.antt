@@ -1,7 +1,7 @@
 -- `capi::basilvault_check_within` meets its contract: the answer as a number, buffers and values. Assumes nothing.
 use borrow.Author.Needs.{needs}
 use mathlib.Core.Path.{ap, _∙_}
-use Rattle.maps.specs.Check.{checkedNumber, checkedValues}
+use Rattle.relations.specs.Check.{checkedNumber, checkedValues}
 use Rattle.capi.specs.Answers.{checkOut}
 use Rattle.capi.proofs.Answering.{answered, refused}
 use Rattle.capi.proofs.basilvault_check_within.Statement.{statement}

@@ -1,7 +1,7 @@
 -- `capi::basilvault_read_within` meets its contract: the answer as a number, buffers and values. Assumes nothing.
 use borrow.Author.Needs.{needs}
 use mathlib.Core.Path.{ap, _∙_}
-use Rattle.table.specs.Reading.{readingNumber, readingValues}
+use Rattle.format.specs.Reading.{readingNumber, readingValues}
 use Rattle.capi.specs.Answers.{readOut}
 use Rattle.capi.proofs.Answering.{answered, refused}
 use Rattle.capi.proofs.basilvault_read_within.Statement.{statement}

@@ -1,5 +1,6 @@
 -- `maps::check_within` meets its contract: refused by reading, by the map's tests, or accepted. Assumes nothing.
-use Rattle.maps.proofs.Checking.{read-readable, read-known, unread, tested, check-refused, check-accepted, checked}
+use Rattle.relations.proofs.Answers.{tested, check-refused, check-accepted, checked}
+use Rattle.maps.proofs.Checking.{read-readable, read-known, unread}
 use borrow.Author.Needs.{needs}
 use Rattle.maps.proofs.check_within.Statement.{statement}
 use Rattle.maps.proofs.check_within.Tie as tie

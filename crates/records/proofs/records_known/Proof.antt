@@ -1,6 +1,6 @@
 -- `records::records_known` meets its contract: refused by the map's tests, or told. Assumes nothing.
 use mathlib.Core.Path.{_∙_}
-use Rattle.maps.proofs.Checking.{tested}
+use Rattle.relations.proofs.Answers.{tested}
 use Rattle.fates.proofs.Answers.{records-refused}
 use Rattle.records.proofs.Handed.{told-known}
 use borrow.Author.Needs.{needs}

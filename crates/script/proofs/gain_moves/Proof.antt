@@ -4,9 +4,9 @@ use Prim.Native.Nat.{_<_}
 use native.Mathlib.Omega.{arith}
 use mathlib.Core.Path.{sym, ap, _∙_}
 use lib.ListN.{length}
-use Rattle.tops.specs.Tops.{add}
+use Rattle.reach.specs.Tops.{add}
 use Prim.Native.Nat.{_-_}
-use Rattle.table.specs.File.{records}
+use Rattle.format.specs.File.{records}
 use Rattle.script.proofs.Stepping.{Running, running, run-on, run-end}
 use Rattle.script.proofs.Index.{record-there, byte-at, state-small}
 use Rattle.script.proofs.gain_moves.Statement.{statement}

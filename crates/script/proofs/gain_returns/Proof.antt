@@ -6,9 +6,9 @@ use mathlib.Core.Path.{sym, _∙_}
 use mathlib.Core.Logic.{⊎-elim}
 use mathlib.Core.List.{[]}
 use lib.ListN.{length, getD}
-use Rattle.tops.specs.Tops.{add}
+use Rattle.reach.specs.Tops.{add}
 use Prim.Native.Nat.{_-_}
-use Rattle.table.specs.File.{records}
+use Rattle.format.specs.File.{records}
 use Rattle.script.specs.Sections.{popped}
 use Rattle.script.proofs.Stepping.{Running, running, run-on, run-end, popped-yes, popped-no}
 use Rattle.script.proofs.Index.{record-there, byte-at, state-small}

@@ -6,7 +6,7 @@ use mathlib.Core.Logic.{⊎-elim}
 use Prim.Native.Nat.{_+_, _*_}
 use Prim.Native.Nat.{_-_}
 use lib.ListN.{getD}
-use Rattle.table.specs.File.{records}
+use Rattle.format.specs.File.{records}
 use Rattle.scripts.specs.Script.{gain, moved}
 use Rattle.script.proofs.Index.{lent-more}
 use Rattle.script.proofs.Stepping.{Stepping, stepping, step-over, step-by, stepped-all}

@@ -1,10 +1,10 @@
 -- `script::reads` meets its contract. Assumes nothing.
 use borrow.Author.Needs.{needs}
-use Rattle.tops.specs.Tops.{startWords}
+use Rattle.reach.specs.Tops.{startWords}
 use native.Mathlib.Omega.{arith}
 use mathlib.Core.Bool.{true, false}
 use mathlib.Core.List.{[]}
-use Rattle.table.specs.File.{records}
+use Rattle.format.specs.File.{records}
 use Rattle.scripts.specs.Script.{moved, returned, started, ended}
 use Rattle.script.proofs.Index.{lent-more}
 use Rattle.script.proofs.Walking.{Walking, walking, walked, walked-open, room, walk-internal, walk-call, walk-none, walk-return}

@@ -5,12 +5,12 @@ use native.Mathlib.Omega.{arith}
 use mathlib.Core.Path.{_≡_, refl}
 use mathlib.Core.List.{[]}
 use lib.ListN.{getD}
-use Rattle.table.proofs.Bytes.{length-records}
+use Rattle.format.proofs.Bytes.{length-records}
 use Rattle.script.specs.Sections.{placeOf}
 use Rattle.script.proofs.Index.{byte-first, symbol-small, state-small}
 use Prim.Native.Nat.{_-_, _/_}
 use lib.ListN.{length}
-use Rattle.table.specs.File.{records}
+use Rattle.format.specs.File.{records}
 use Rattle.script.proofs.Index.{Indexing, indexing, indexed, place-room, index-on, record-there, byte-at}
 use Rattle.script.proofs.starts_of.Statement.{statement}
 use Rattle.script.proofs.starts_of.Tie as tie

@@ -3,7 +3,7 @@ use Prim.Native.Nat.{_-_}
 use lib.ListN.{length}
 use borrow.Author.Tests.{eq-eqb, ne-eqb}
 use Rattle.lists.specs.Lists.{any}
-use Rattle.table.specs.Reading.{isInitial}
+use Rattle.format.specs.Reading.{isInitial}
 use Rattle.table.proofs.Walks as walks
 use borrow.Author.Needs.{needs}
 use Rattle.table.proofs.any_initial.Statement.{statement}

@@ -5,8 +5,8 @@ use native.Mathlib.Omega.{arith}
 use lib.Dec.{ltb}
 use Rattle.lists.specs.Lists.{all}
 use borrow.Author.Tests.{not-true, not-false}
+use Rattle.format.proofs.Versions.{byte-most}
 use Rattle.table.proofs.Numbers as numbers
-use Rattle.table.proofs.Versions.{byte-most}
 use borrow.Author.Needs.{needs}
 use Rattle.table.proofs.bytes_fit.Statement.{statement}
 use Rattle.table.proofs.bytes_fit.Tie as tie

@@ -2,7 +2,7 @@
 use mathlib.Core.Path.{sym, ap, _∙_}
 use native.Mathlib.Omega.{arith}
 use borrow.Author.Tests.{not-true, not-false}
-use Rattle.table.specs.Reading.{versionFits}
+use Rattle.format.specs.Reading.{versionFits}
 use Rattle.table.proofs.Numbers as numbers
 use borrow.Author.Needs.{needs}
 use Rattle.table.proofs.read_fit.Statement.{statement}

@@ -5,8 +5,8 @@ use mathlib.Core.List.{[]}
 use lib.ListN.{length}
 use borrow.Author.Tests.{not-true, not-false}
 use Rattle.lists.specs.Lists.{all}
-use Rattle.table.specs.File.{records}
-use Rattle.table.specs.Reading.{recordFits}
+use Rattle.format.specs.File.{records}
+use Rattle.format.specs.Reading.{recordFits}
 use Rattle.table.specs.Sections.{sectioned}
 use Rattle.table.proofs.Walks as walks
 use borrow.Author.Needs.{needs}

@@ -2,7 +2,7 @@
 use mathlib.Core.Path.{ap, _∙_}
 use native.Mathlib.Omega.{arith}
 use Rattle.lists.specs.Lists.{firstFailed}
-use Rattle.table.specs.Reading.{tableTests}
+use Rattle.format.specs.Reading.{tableTests}
 use Rattle.table.proofs.Numbers as numbers
 use borrow.Author.Needs.{needs}
 use Rattle.table.proofs.sections_number.Statement.{statement}

@@ -1,5 +1,5 @@
 -- `table::state_byte_most` meets its contract. Assumes nothing.
-use Rattle.table.proofs.Versions.{later-most, other-most}
+use Rattle.format.proofs.Versions.{later-most, other-most}
 use Rattle.table.proofs.state_byte_most.Statement.{statement}
 use Rattle.table.proofs.state_byte_most.Tie as tie
 

@@ -1,5 +1,5 @@
 -- `table::version_fits` meets its contract. Assumes nothing.
-use Rattle.table.proofs.Versions.{version-first, version-later}
+use Rattle.format.proofs.Versions.{version-first, version-later}
 use Rattle.table.proofs.version_fits.Statement.{statement}
 use Rattle.table.proofs.version_fits.Tie as tie
 

@@ -1,7 +1,7 @@
 -- `table::word_at` meets its contract: the two bytes are below 256, so that the number fits. Assumes nothing.
 use Prim.Native.Nat.{_+_}
 use native.Mathlib.Omega.{arith}
-use Rattle.table.specs.File.{word16}
+use Rattle.format.specs.File.{word16}
 use borrow.Author.Needs.{needs}
 use Rattle.table.proofs.word_at.Statement.{statement}
 use Rattle.table.proofs.word_at.Tie as tie

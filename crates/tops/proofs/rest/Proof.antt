@@ -4,7 +4,7 @@ use Prim.Native.Nat.{suc, _*_}
 use native.Mathlib.Omega.{arith}
 use mathlib.Core.List.{[]}
 use lib.ListN.{length}
-use Rattle.tops.specs.Tops.{rounds}
+use Rattle.reach.specs.Tops.{rounds}
 use Rattle.table.specs.Sections.{sectioned}
 use Rattle.tops.proofs.Loops.{resting, rounded, spent, few-rounds, section-within}
 use Rattle.tops.proofs.Sums.{Told, told-small, told-on, told-end}

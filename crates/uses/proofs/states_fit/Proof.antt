@@ -7,7 +7,7 @@ use lib.ListN.{length}
 use lib.Dec.{ltb}
 use borrow.Author.Tests.{lt-ltb, le-ltb}
 use Rattle.lists.specs.Lists.{all}
-use Rattle.table.specs.File.{records}
+use Rattle.format.specs.File.{records}
 use Rattle.table.proofs.Walks.{Still, begin, records-passed, records-failed, records-done}
 use Rattle.uses.specs.Uses.{lineOf}
 use Rattle.uses.proofs.Adding.{states-tests}

@@ -1,7 +1,7 @@
 -- `uses::uses_within` meets its contract: refused as the check refuses the map, or counted under it. Assumes nothing.
 use borrow.Author.Needs.{needs}
 use mathlib.Core.Path.{sym, _∙_, subst}
-use Rattle.maps.proofs.Checking.{accepted-number, refused-number}
+use Rattle.relations.proofs.Answers.{accepted-number, refused-number}
 use Rattle.uses.specs.Demands.{Fits}
 use Rattle.uses.proofs.Promises.{class-small, uses-accepted, uses-refused, refused-fits, promised}
 use Rattle.uses.proofs.uses_within.Statement.{statement}

@@ -2,7 +2,7 @@
 use Prim.Native.Nat.{_-_}
 use borrow.Author.Needs.{needs}
 use Rattle.lists.specs.Lists.{gather, upto}
-use Rattle.table.specs.File.{records}
+use Rattle.format.specs.File.{records}
 use Rattle.encoding.specs.Clauses.{moveClause}
 use Rattle.clauses.specs.Emit.{state}
 use Rattle.clauses.proofs.Stepping.{Over, over-all, over-on, over-done}

@@ -3,7 +3,7 @@ use Prim.Native.Nat.{_-_}
 use lib.ListN.{length, getD}
 use borrow.Author.Needs.{needs}
 use Rattle.lists.specs.Lists.{gather, upto}
-use Rattle.table.specs.File.{records}
+use Rattle.format.specs.File.{records}
 use Rattle.encoding.specs.Clauses.{moveClause, moveClauses}
 use Rattle.clauses.specs.Emit.{state}
 use Rattle.clauses.proofs.Emitting.{come-full}

@@ -3,7 +3,7 @@ use Prim.Native.Nat.{_-_}
 use native.Mathlib.Omega.{arith}
 use lib.ListN.{length}
 use borrow.Author.Needs.{needs}
-use Rattle.table.specs.File.{records}
+use Rattle.format.specs.File.{records}
 use Rattle.clauses.specs.Emit.{liveRecord, returnClausesBy, state}
 use Rattle.clauses.proofs.Emitting.{come-full}
 use Rattle.clauses.proofs.Stepping.{Along, along-done}

@@ -3,7 +3,7 @@ use native.Mathlib.Omega.{arith}
 use borrow.Author.Needs.{needs}
 use Rattle.lists.specs.Lists.{gather, keep, upto}
 use Rattle.lists.specs.Bits.{hasBit}
-use Rattle.table.specs.File.{records}
+use Rattle.format.specs.File.{records}
 use Rattle.clauses.specs.Emit.{returnOf, state}
 use Rattle.clauses.proofs.Returning.{Toward, toward, toward-less, toward-on, toward-past, toward-done}
 use Rattle.clauses.proofs.returns.return_tops.Statement.{statement}

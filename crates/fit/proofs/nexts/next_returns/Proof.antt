@@ -4,7 +4,7 @@ use Rattle.fit.proofs.Targets.{Filling, filling, fill-on, filled, retur
 use mathlib.Core.Path.{_∙_}
 use mathlib.Core.List.{[], _∷_}
 use Prim.Native.Nat.{_-_}
-use Rattle.table.specs.File.{records}
+use Rattle.format.specs.File.{records}
 use Rattle.fitting.specs.Fit.{after}
 use Rattle.fit.proofs.nexts.next_returns.Statement.{statement}
 use Rattle.fit.proofs.nexts.next_returns.Tie as tie

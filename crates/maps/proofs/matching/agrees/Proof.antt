@@ -1,7 +1,7 @@
 -- `maps::matching::agrees` meets its contract: the states before this one agree. Assumes nothing.
 use Rattle.maps.proofs.Matched.{spared, met, broken}
-use Rattle.table.specs.Maps.{joins}
-use Rattle.table.specs.Language.{look}
+use Rattle.format.specs.Maps.{joins}
+use Rattle.format.specs.Language.{look}
 use Rattle.lists.proofs.Upto.{Counting, counting, all-passed, all-failed, all-done}
 use Rattle.lists.specs.Lists.{all}
 use borrow.Author.Tests.{eq-eqb, ne-eqb}

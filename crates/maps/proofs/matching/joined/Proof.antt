@@ -1,5 +1,5 @@
 -- `maps::matching::joined` meets its contract. Assumes nothing.
-use Rattle.table.specs.Maps.{joins}
+use Rattle.format.specs.Maps.{joins}
 use lib.Dec.{eqb}
 use borrow.Author.Needs.{needs}
 use Rattle.maps.proofs.matching.joined.Statement.{statement}

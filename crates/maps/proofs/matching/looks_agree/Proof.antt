@@ -1,6 +1,6 @@
 -- `maps::matching::looks_agree` meets its contract: the states before this one agree with those joined to them. Assumes nothing.
+use Rattle.relations.specs.Check.{looksAgree}
 use Rattle.maps.specs.Sections.{agreesAt}
-use Rattle.maps.specs.Check.{looksAgree}
 use Rattle.lists.proofs.Upto.{Counting, counting, all-passed, all-failed, all-done}
 use Rattle.lists.specs.Lists.{all}
 use borrow.Author.Tests.{not-true, not-false}

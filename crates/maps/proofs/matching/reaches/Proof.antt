@@ -4,8 +4,8 @@ use Prim.Native.Nat.{_-_}
 use native.Mathlib.Omega.{arith}
 use lib.ListN.{length}
 use Rattle.lists.specs.Lists.{any}
-use Rattle.table.specs.File.{records}
-use Rattle.table.specs.Maps.{joins}
+use Rattle.format.specs.File.{records}
+use Rattle.format.specs.Maps.{joins}
 use Rattle.table.proofs.Walks.{Still, begin}
 use Rattle.maps.proofs.Reaching.{goes, missed, met, none-met, over-targets}
 use borrow.Author.Needs.{needs}

@@ -1,7 +1,7 @@
 -- `maps::matching::record_met` meets its contract: the states before this one match the return. Assumes nothing.
 use Rattle.maps.specs.Sections.{recordMatched}
-use Rattle.table.specs.File.{records}
-use Rattle.table.specs.Maps.{classOf}
+use Rattle.format.specs.File.{records}
+use Rattle.format.specs.Maps.{classOf}
 use Rattle.maps.proofs.Matched.{by-class, record-apart, record-dead}
 use Rattle.lists.proofs.Upto.{Counting, counting, all-passed, all-failed, all-done}
 use Rattle.lists.specs.Lists.{all}

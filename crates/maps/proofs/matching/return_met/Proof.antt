@@ -1,8 +1,8 @@
 -- `maps::matching::return_met` meets its contract: the stack states before this one match the return. Assumes nothing.
-use Rattle.maps.specs.Check.{returnMatched}
+use Rattle.relations.specs.Check.{returnMatched}
 use lib.ListN.{length, getD}
-use Rattle.table.specs.File.{records}
-use Rattle.table.specs.Maps.{classOf}
+use Rattle.format.specs.File.{records}
+use Rattle.format.specs.Maps.{classOf}
 use Rattle.lists.proofs.Upto.{Counting, counting, all-passed, all-failed, all-done}
 use Rattle.lists.specs.Lists.{all}
 use borrow.Author.Tests.{not-true, not-false}

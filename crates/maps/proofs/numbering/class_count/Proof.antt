@@ -1,5 +1,5 @@
 -- `maps::numbering::class_count` meets its contract: the count so far, or one past a class still to come. Assumes nothing.
-use Rattle.maps.proofs.Numbered.{Classing, classing, class-more, class-within, classed-all}
+use Rattle.relations.proofs.Numbered.{Classing, classing, class-more, class-within, classed-all}
 use lib.ListN.{length}
 use native.Mathlib.Omega.{arith}
 use Prim.Native.Nat.{_-_}

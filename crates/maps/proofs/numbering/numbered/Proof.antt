@@ -1,5 +1,5 @@
 -- `maps::numbering::numbered` meets its contract: the states from here on are numbered from the next class. Assumes nothing.
-use Rattle.maps.proofs.Numbered.{Numbering, numbering, number-past, number-new, number-old, numbered-all}
+use Rattle.relations.proofs.Numbered.{Numbering, numbering, number-past, number-new, number-old, numbered-all}
 use lib.ListN.{length}
 use Prim.Native.Nat.{_-_}
 use mathlib.Core.Logic.{⊎-elim}

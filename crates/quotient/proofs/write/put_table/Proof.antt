@@ -5,7 +5,7 @@ use Rattle.quotient.proofs.Writing.{Writing, begun, written, part-room,
 use Rattle.quotient.proofs.Keys.{length-last}
 use Rattle.quotient.specs.Keys.{lastBytes}
 use Rattle.quotient.specs.Sections.{keyedTable, trailerFrom}
-use Rattle.table.specs.File.{bytesOf}
+use Rattle.format.specs.File.{bytesOf}
 use Rattle.lists.specs.Lists.{gather, over}
 use lib.ListN.{length, take, drop}
 use native.Mathlib.Omega.{arith}

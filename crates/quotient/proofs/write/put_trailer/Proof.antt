@@ -1,6 +1,6 @@
 -- `quotient::write::put_trailer` meets its contract. Assumes nothing.
 use Rattle.quotient.specs.Sections.{trailerFrom}
-use Rattle.table.specs.File.{bytes16}
+use Rattle.format.specs.File.{bytes16}
 use Rattle.lists.specs.Lists.{gather}
 use borrow.Author.Needs.{needs}
 use Rattle.quotient.proofs.write.put_trailer.Statement.{statement}

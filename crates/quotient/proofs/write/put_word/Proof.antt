@@ -1,5 +1,5 @@
 -- `quotient::write::put_word` meets its contract. Assumes nothing.
-use Rattle.table.specs.File.{bytes16}
+use Rattle.format.specs.File.{bytes16}
 use borrow.Author.Needs.{needs}
 use Rattle.quotient.proofs.write.put_word.Statement.{statement}
 use Rattle.quotient.proofs.write.put_word.Tie as tie

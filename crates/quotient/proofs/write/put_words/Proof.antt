@@ -1,7 +1,7 @@
 -- `quotient::write::put_words` meets its contract: the words from here on are still to be written. Assumes nothing.
 use Rattle.lists.proofs.Copying.{length-over}
 use Rattle.quotient.proofs.Writing.{Listing, listing, length-word, key-room, key-listed, listed, part-put, same-long}
-use Rattle.table.specs.File.{bytes16}
+use Rattle.format.specs.File.{bytes16}
 use Rattle.lists.specs.Lists.{gather, over}
 use lib.ListN.{length}
 use native.Mathlib.Omega.{arith}

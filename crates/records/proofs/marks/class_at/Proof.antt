@@ -1,6 +1,6 @@
 -- `records::marks::class_at` meets its contract. Assumes nothing.
 use mathlib.Core.Path.{ap, _∙_}
-use Rattle.table.specs.Maps.{classOf}
+use Rattle.format.specs.Maps.{classOf}
 use borrow.Author.Needs.{needs}
 use Rattle.records.proofs.marks.class_at.Statement.{statement}
 use Rattle.records.proofs.marks.class_at.Tie as tie

@@ -5,7 +5,7 @@ use native.Mathlib.Omega.{arith}
 use mathlib.Core.Path.{_∙_, sym, ap, subst, _≡_}
 use mathlib.Core.List.{List}
 use lib.ListN.{take, drop, length}
-use Rattle.table.specs.Maps.{classOf}
+use Rattle.format.specs.Maps.{classOf}
 use Rattle.records.specs.Marks.{stateAt, recordAt, Stamped, Placed, recordsIn}
 use Rattle.records.proofs.Spans.{records-count, index-room, record-here, state-here}
 use borrow.Author.Needs.{needs}

@@ -1,7 +1,7 @@
 -- `records::marks::mark_section` meets its contract: the marks of the classes passed are written. Assumes nothing.
 use Prim.Native.Nat.{_-_, _<_}
 use native.Mathlib.Omega.{arith}
-use Rattle.table.specs.Maps.{classes}
+use Rattle.format.specs.Maps.{classes}
 use Rattle.records.proofs.Passing.{Telling, telling, class-told, section-told}
 use borrow.Author.Needs.{needs}
 use Rattle.records.proofs.marks.mark_section.Statement.{statement}

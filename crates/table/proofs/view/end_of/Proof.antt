@@ -1,7 +1,7 @@
 -- `table::view::end_of` meets its contract: the trailer starts 12 bytes before the end, or at 0 where there are not so many. Assumes nothing.
 use mathlib.Core.Path.{refl}
 use native.Mathlib.Omega.{arith}
-use Rattle.table.specs.File.{trailer}
+use Rattle.format.specs.File.{trailer}
 use Rattle.table.proofs.view.end_of.Statement.{statement}
 use Rattle.table.proofs.view.end_of.Tie as tie
 

@@ -39,12 +39,12 @@ use denote.Triple.Table.{entered, cited}
 use denote.Triple.Walked.{says, Stays, stay-dropped, walkOf, goes-dropped, Walks, ends-at, walked, walk-meets}
 use denote.Exit.{yes}
 use denote.Triple.Clauses.{ensured, lasts}
+use Rattle.format.specs.declared.Starts.{Starts}
 use Rattle.table.specs.Sections.{partOf}
-use Rattle.table.specs.declared.Starts.{Starts}
 use Rattle.table.specs.declared.view.Section.{Section}
 use Rattle.table.specs.declared.view.TableView.{TableView}
-use Rattle.table.proofs.Starts as S
-use Rattle.table.proofs.Starts.Laws as S′
+use Rattle.format.proofs.Starts as S
+use Rattle.format.proofs.Starts.Laws as S′
 use Rattle.table.proofs.view.Section as K
 use Rattle.table.proofs.view.Section.Laws as K′
 use Rattle.table.proofs.view.TableView as T

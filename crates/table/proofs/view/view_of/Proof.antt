@@ -35,10 +35,10 @@ use denote.Triple.Spec.{Meets, tripleOf}
 use denote.Triple.Table.{entered}
 use denote.Triple.Walked.{says, Stays, stay-dropped, walkOf, goes-dropped, Walks, ends-at, walked, walk-meets}
 use denote.Exit.{yes}
-use Rattle.table.specs.declared.Starts.{Starts}
+use Rattle.format.specs.declared.Starts.{Starts}
 use Rattle.table.specs.declared.view.TableView.{TableView}
-use Rattle.table.proofs.Starts as S
-use Rattle.table.proofs.Starts.Laws as S′
+use Rattle.format.proofs.Starts as S
+use Rattle.format.proofs.Starts.Laws as S′
 use Rattle.table.proofs.view.TableView as T
 use Rattle.table.proofs.view.TableView.Laws as T′
 use Rattle.table.proofs.view.view_of.Key.{name as #table·view·view-of}

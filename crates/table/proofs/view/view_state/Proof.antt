@@ -45,8 +45,8 @@ use denote.Exit.{yes}
 use denote.Triple.Clauses.{ensured, lasts}
 use Rattle.table.specs.Sections.{stateByte}
 use Rattle.table.specs.declared.view.TableView.{TableView}
-use Rattle.table.proofs.Starts as S
-use Rattle.table.proofs.Starts.Laws as S′
+use Rattle.format.proofs.Starts as S
+use Rattle.format.proofs.Starts.Laws as S′
 use Rattle.table.proofs.view.TableView as T
 use Rattle.table.proofs.view.TableView.Laws as T′
 use Rattle.table.proofs.view.state_at as state-at

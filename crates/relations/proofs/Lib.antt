@@ -1,0 +1,4 @@
+pub mod Conditions
+pub mod Accepted
+pub mod Answers
+pub mod Numbered
