@@ -9,12 +9,12 @@ use borrow.Author.Tests.{le-leb, lt-leb, ne-eqb}
 use Rattle.lists.specs.Lists.{over}
 use Rattle.reach.specs.declared.TopWords.{TopWords}
 use Rattle.reach.specs.Tops.{topsValues}
-use Rattle.uses.specs.declared.Counted.{Counted}
-use Rattle.uses.specs.Uses.{countedValues}
-use Rattle.choose.specs.declared.Which.the-variants.{Neither, First, Second}
-use Rattle.choose.specs.declared.Choice.{Choice}
-use Rattle.choose.specs.Choose.{choiceValues}
-use Rattle.choose.specs.Demands.{NumberTells}
+use Rattle.usage.specs.declared.Counted.{Counted}
+use Rattle.usage.specs.Uses.{countedValues}
+use Rattle.choices.specs.declared.Which.the-variants.{Neither, First, Second}
+use Rattle.choices.specs.declared.Choice.{Choice}
+use Rattle.choices.specs.Choose.{choiceValues}
+use Rattle.choices.specs.Demands.{NumberTells}
 use Rattle.seasons.specs.declared.Season.{Season}
 use Rattle.seasons.specs.Seasons.{seasonValues}
 use Rattle.lists.proofs.Copying.{Writing, write-all}

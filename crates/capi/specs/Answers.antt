@@ -10,15 +10,15 @@ use Rattle.format.specs.Reading.{readingNumber, readingValues}
 use Rattle.reach.specs.declared.TopWords.{TopWords}
 use Rattle.reach.specs.Tops.{topsValues}
 use Rattle.encoding.specs.Clauses.{ClausesDone, listedNumber, listedValues}
-use Rattle.search.specs.Answers.{Searched, solutionNumber, solutionValues}
+use Rattle.solutions.specs.Answers.{Searched, solutionNumber, solutionValues}
 use Rattle.relations.specs.declared.Checked.{Checked}
 use Rattle.relations.specs.Check.{checkedNumber, checkedValues}
 use Rattle.quotients.specs.Quotient.{QuotientDone, writtenNumber, writtenValues}
 use Rattle.reductions.specs.Reduce.{Reduced, reductionNumber, reductionValues}
-use Rattle.uses.specs.declared.Counted.{Counted}
-use Rattle.uses.specs.Uses.{countedValues}
-use Rattle.choose.specs.declared.Choice.{Choice}
-use Rattle.choose.specs.Choose.{choiceValues}
+use Rattle.usage.specs.declared.Counted.{Counted}
+use Rattle.usage.specs.Uses.{countedValues}
+use Rattle.choices.specs.declared.Choice.{Choice}
+use Rattle.choices.specs.Choose.{choiceValues}
 use Rattle.seasons.specs.Seasons.{SeasonDone, seasonValues}
 use Rattle.fitting.specs.declared.Fitting.{Fitting}
 use Rattle.fitting.specs.Fit.{fittingNumber, fittingValues}

@@ -7,19 +7,19 @@ ghost use Rattle.limits.specs.Limits.{standard};
 ghost use Rattle.format.specs.Reading.{readOf};
 ghost use Rattle.reach.specs.Tops.{topsOf};
 ghost use Rattle.encoding.specs.Clauses.{clausesOf};
-ghost use Rattle.search.specs.Answers.{searchOf};
+ghost use Rattle.solutions.specs.Answers.{searchOf};
 ghost use Rattle.relations.specs.Check.{checkOf};
 ghost use Rattle.quotients.specs.Quotient.{quotientOf, writtenNumber, writtenValues};
 ghost use Rattle.reductions.specs.Reduce.{reduceOf, spentValue};
-ghost use Rattle.uses.specs.Uses.{usesOf};
-ghost use Rattle.choose.specs.Choose.{choiceOf};
+ghost use Rattle.usage.specs.Uses.{usesOf};
+ghost use Rattle.choices.specs.Choose.{choiceOf};
 ghost use Rattle.loads.specs.Loads.{loadOf, generateOf};
 ghost use Rattle.scripts.specs.Script.{yesValue, scriptOf};
 ghost use Rattle.fates.specs.Fates.{recordsOf};
 ghost use Rattle.fitting.specs.Fit.{fitOf};
 ghost use Rattle.seasons.specs.Seasons.{seasonOf};
 ghost use Rattle.capi.specs.Answers.{stored, readOut, topsOut, clausesOut, searchOut, checkOut, quotientOut, reduceOut, usesOut, chooseOut, scriptOut, recordsOut, fitOut, seasonOut};
-use choose::Which;
+use choices::Which;
 use encoding::Listed;
 use fates::Recorded;
 use fitting::Fitting;
@@ -29,7 +29,7 @@ use quotients::Written;
 use reductions::Reduction;
 use relations::Checked;
 use scripts::Read;
-use search::Solution;
+use solutions::Solution;
 
 // Stores an answer's values where there is room for all of them.
 fn store(answer: &[u64], values: &mut [u64])

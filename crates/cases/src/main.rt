@@ -26,7 +26,7 @@ ghost use mathlib.Core.Path.{_≡_};
 use fitting::Fitting;
 ghost use Prim.Native.Nat.{_≤_, _<_};
 ghost use lib.ListN.{length};
-use choose::Which;
+use choices::Which;
 use encoding::Listed;
 use fates::Recorded;
 use format::Reading;
@@ -36,7 +36,7 @@ use quotients::Written;
 use reductions::Reduction;
 use relations::Checked;
 use scripts::Read;
-use search::Solution;
+use solutions::Solution;
 
 // Writes text to standard output.
 fn say(text: &[u8]) -> bool {

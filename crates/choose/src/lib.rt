@@ -4,23 +4,12 @@ ghost use Rattle.limits.specs.Limits.{standard};
 ghost use Rattle.limits.specs.declared.Limits.{Limits};
 ghost use Rattle.format.specs.Reading.{Readable};
 ghost use Rattle.maps.specs.Sections.{Known};
-ghost use Rattle.choose.specs.Choose.{whichOf, chooseNumber, choiceOf, sliceOf, chooseOf};
-ghost use Rattle.choose.specs.Demands.{NumberTells, NeitherPasses, HandedBack};
+ghost use Rattle.choices.specs.Choose.{whichOf, chooseNumber, choiceOf, sliceOf, chooseOf};
+ghost use Rattle.choices.specs.Demands.{NumberTells, NeitherPasses, HandedBack};
+use choices::Choice;
+use choices::Which;
 use format::Starts;
 use limits::Limits;
-
-// Which of two maps is handed back.
-pub enum Which {
-    Neither,
-    First,
-    Second,
-}
-
-// The refusal's number or 0, and which map is handed back: neither with any refusal.
-pub struct Choice {
-    pub number: u8,
-    pub which: Which,
-}
 
 // Which of two maps of a table that was read and whose tops are known, at any limits at which it is readable.
 fn which_known(table: &[u8], starts: Starts, words: &[u64], first: &[u8], second: &[u8]) -> Which

@@ -10,9 +10,9 @@ use lib.ListN.{set}
 use lib.Dec.{eqb}
 use borrow.Author.Tests.{ne-eqb}
 use Rattle.cnf.specs.Search.{lowestUnset, State, Next, goes, ends, Outcome, spent, Guess, undo, decide, searchFrom, madeOf, isSpent}
-use Rattle.cnf.proofs.Values.{Formed}
+use Rattle.cnf.specs.Closing.{Formed, Closed, breaks, rests}
 use Rattle.cnf.proofs.Steps.{stateOf, StepsTo, fails, undoes, forces, solves, spends, adds-guess, After, run-keeps}
-use Rattle.cnf.proofs.Closure.{Closed, breaks, rests, turnTo, LeadsTo, there, turn, atStart, leads-one, leads-search, turns-search}
+use Rattle.cnf.proofs.Closure.{turnTo, LeadsTo, there, turn, atStart, leads-one, leads-search, turns-search}
 
 -- the guesses made so far
 abbrev madeBy : Next → ℕ

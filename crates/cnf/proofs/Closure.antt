@@ -4,34 +4,16 @@
 use mathlib.Core.Path.{_≡_, refl, sym, ap, _∙_, subst}
 use mathlib.Core.Logic.{_≢_}
 use mathlib.Core.List.{List, [], List·Memᴰ}
-use Prim.Native.Nat.{ℕ, zero, suc, _*_, _-_, _/_, _%_, _≤_}
-use lib.ListN.{length, set, replicate}
-use Rattle.cnf.specs.Clauses.{valueOf}
+use Prim.Native.Nat.{ℕ, zero, suc, _*_, _-_, _/_, _%_}
+use lib.ListN.{set, replicate}
 use Rattle.cnf.specs.Search.{Seen, broken, forcing, quiet, scan, lowestUnset, Next, goes, ends, Outcome, unfinished, Guess, undo, decide, act, step, run, searchFrom}
-use Rattle.cnf.proofs.Values.{Formed, Values, _⊑_, ⊑-antisym}
-use Rattle.cnf.proofs.Found.{Found, scan-found}
+use Rattle.cnf.specs.Closing.{Formed, Values, Found, UnitSteps, stay, more, AtRest, Closed, breaks, rests, Closes}
+use Rattle.cnf.proofs.Values.{⊑-antisym}
+use Rattle.cnf.proofs.Found.{scan-found}
 use Rattle.cnf.proofs.Steps.{stateOf, steps, After}
 use Rattle.cnf.proofs.Sound.{SoundState, SoundOutcome, sound-kept, start-sound}
 use Rattle.cnf.proofs.Ends.{never-unfinished}
-use Rattle.cnf.proofs.Order.{UnitSteps, stay, more, AtRest, units-more, units-length, units-values, units-below, rest-unbroken}
-
--- what a closure answers
-pub data Closed : Type 0 where
-  breaks : Closed
-  rests : List ℕ → Closed
-
--- w is at rest and extends v, and every other such extends w
-pub record Least (cs : List (List ℕ)) (v w : List ℕ) : Type 0 where
-  pub long : length w ≡ length v
-  pub small : (i : ℕ) → valueOf w i ≤ 2
-  pub extends : v ⊑ w
-  pub at-rest : AtRest cs w
-  pub least : (u : List ℕ) → v ⊑ u → AtRest cs u → w ⊑ u
-
--- what a closure has to find
-abbrev pub Closes : List (List ℕ) → List ℕ → Closed → Type 0
-Closes cs v breaks = (u : List ℕ) → v ⊑ u → AtRest cs u → ⊥
-Closes cs v (rests w) = Least cs v w
+use Rattle.cnf.proofs.Order.{units-more, units-length, units-values, units-below, rest-unbroken}
 
 -- it can find one thing only
 pub closes-one : (cs : List (List ℕ)) (v : List ℕ) (c d : Closed) → Closes cs v c → Closes cs v d → c ≡ d

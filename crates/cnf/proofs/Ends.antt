@@ -6,7 +6,8 @@ use Prim.Native.Nat.{ℕ, zero, suc, _+_, _-_, _*_, _/_, _%_, _<_}
 use native.Mathlib.Omega.{arith}
 use lib.ListN.{length, set, replicate, length-replicate}
 use Rattle.cnf.specs.Search.{State, Next, goes, ends, Outcome, solved, none-exists, spent, unfinished, step, run, searchFrom}
-use Rattle.cnf.proofs.Values.{Formed, unsetCount, unset-le, unset-set}
+use Rattle.cnf.specs.Closing.{Formed, unsetCount}
+use Rattle.cnf.proofs.Values.{unset-le, unset-set}
 use Rattle.cnf.proofs.Steps.{stateOf, guessOf, StepsTo, fails, undoes, forces, solves, spends, adds-guess, steps, After}
 use Rattle.cnf.proofs.Sound.{SoundState, SoundOutcome, sound-kept, start-sound}
 

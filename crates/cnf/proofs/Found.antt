@@ -14,7 +14,7 @@ use Rattle.lists.specs.Lists.{any, keep}
 use Rattle.lists.proofs.Members.{any-true, any-false, keep-mem, keep-of}
 use Rattle.cnf.specs.Clauses.{valueOf, Right}
 use Rattle.cnf.specs.Search.{isRight, isUnset, Seen, broken, forcing, quiet, byUnset, seen, both, scan, lowestUnset}
-use Rattle.cnf.proofs.Values.{Unset, Wrong}
+use Rattle.cnf.specs.Closing.{Unset, Wrong, Broken, Forces, Settled, holds, waits, Found}
 
 -- ---- the tests on a literal
 
@@ -39,22 +39,6 @@ unfolding isUnset
 unset-of v l e = eq-eqb _ _ e
 
 -- ---- one clause
-
--- every literal is false
-abbrev pub Broken : List ℕ → List ℕ → Type 0
-Broken v c = (l : ℕ) → List·Memᴰ l c → Wrong v l
-
--- l is the one unset literal, and every other is false
-pub record Forces (v : List ℕ) (c : List ℕ) (l : ℕ) : Type 0 where
-  pub has : List·Memᴰ l c
-  pub free : Unset v l
-  pub rest : (m : ℕ) → List·Memᴰ m c → (m ≡ l) ⊎ Wrong v m
-  pub single : length (keep (isUnset v) c) ≡ 1
-
--- a literal is right, or two are unset
-pub data Settled (v : List ℕ) (c : List ℕ) : Type 0 where
-  holds : (l : ℕ) → List·Memᴰ l c → Right v l → Settled v c
-  waits : (l m : ℕ) (ls : List ℕ) → keep (isUnset v) c ≡ l ∷ m ∷ ls → Settled v c
 
 -- the meaning of what is seen of a clause
 abbrev pub Means : List ℕ → List ℕ → Seen → Type 0
@@ -83,12 +67,6 @@ seen-means v c = go (any (isRight v) c) refl
     go false e = by-unset-means v c (keep (isUnset v) c) e refl
 
 -- ---- the clauses
-
--- the meaning of what a scan answers
-abbrev pub Found : List ℕ → List (List ℕ) → Seen → Type 0
-Found v cs broken = (c : List ℕ) × List·Memᴰ c cs × Broken v c
-Found v cs (forcing l) = (c : List ℕ) × List·Memᴰ c cs × Forces v c l
-Found v cs quiet = (c : List ℕ) → List·Memᴰ c cs → Settled v c
 
 both-found : (v c : List ℕ) (cs : List (List ℕ)) (s t : Seen) → Means v c s → Found v cs t → Found v (c ∷ cs) (both s t)
 unfolding both

@@ -12,8 +12,9 @@ use Rattle.lists.specs.Lists.{keep}
 use Rattle.lists.proofs.Members.{keep-mem, keep-keep}
 use Rattle.cnf.specs.Clauses.{valueOf, Right, isPositive, Horn}
 use Rattle.cnf.specs.Search.{broken, forcing, quiet, isUnset, State, Next, goes, Outcome, solved, none-exists, spent, unfinished, Guess, searchFrom, madeOf}
-use Rattle.cnf.proofs.Values.{Formed, Wrong, set-cases, unsetCount, unset-le, unset-set}
-use Rattle.cnf.proofs.Found.{Found, Settled, holds, waits, unset-is}
+use Rattle.cnf.specs.Closing.{Formed, Wrong, unsetCount, Found, Settled, holds, waits}
+use Rattle.cnf.proofs.Values.{set-cases, unset-le, unset-set}
+use Rattle.cnf.proofs.Found.{unset-is}
 use Rattle.cnf.proofs.Steps.{stateOf, StepsTo, fails, undoes, forces, solves, spends, adds-guess, After, run-keeps}
 use Rattle.cnf.proofs.Sound.{SoundState, SoundOutcome, sound-kept, start-sound}
 

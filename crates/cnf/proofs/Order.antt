@@ -6,21 +6,13 @@ use mathlib.Core.Bool.{true}
 use mathlib.Core.List.{List, List·Memᴰ, List·Memᴰ·head}
 use Prim.Native.Nat.{ℕ, _-_, _/_, _%_}
 use native.Mathlib.Omega.{arith}
-use lib.ListN.{length, set, length-set}
+use lib.ListN.{length, length-set}
 use Rattle.lists.proofs.Members.{keep-mem, keep-length}
 use Rattle.cnf.specs.Clauses.{valueOf, Right}
-use Rattle.cnf.specs.Search.{broken, forcing, quiet, isUnset}
-use Rattle.cnf.proofs.Values.{Values, Wrong, _⊑_, ⊑-refl, ⊑-trans, wrong-more, set-more, set-below, set-values}
-use Rattle.cnf.proofs.Found.{Found, Settled, holds, waits, unset-is, unset-of}
-
--- v, and what unit steps make of it
-pub data UnitSteps (cs : List (List ℕ)) (v : List ℕ) : List ℕ → Type 0 where
-  stay : UnitSteps cs v v
-  more : {w : List ℕ} (l : ℕ) → UnitSteps cs v w → Found w cs (forcing l) → UnitSteps cs v (set w (l / 2) (1 - l % 2))
-
--- every clause is settled: none is broken, and none forces
-abbrev pub AtRest : List (List ℕ) → List ℕ → Type 0
-AtRest cs w = Found w cs quiet
+use Rattle.cnf.specs.Search.{broken, forcing, isUnset}
+use Rattle.cnf.specs.Closing.{Values, Wrong, _⊑_, Found, Settled, holds, waits, UnitSteps, stay, more, AtRest}
+use Rattle.cnf.proofs.Values.{⊑-refl, ⊑-trans, wrong-more, set-more, set-below, set-values}
+use Rattle.cnf.proofs.Found.{unset-is, unset-of}
 
 pub units-more : (cs : List (List ℕ)) (v u : List ℕ) → UnitSteps cs v u → v ⊑ u
 units-more cs v u stay = ⊑-refl v

@@ -13,21 +13,8 @@ use Rattle.lists.specs.Lists.{any, keep}
 use Rattle.lists.proofs.Members.{any-true, any-false}
 use Rattle.cnf.specs.Clauses.{valueOf}
 use Rattle.cnf.specs.Search.{isUnset, broken, forcing}
+use Rattle.cnf.specs.Closing.{Settled, holds, waits, Found, UnitSteps, stay, more, AtRest, Stirred, SettledOr, Waiting}
 use Rattle.cnf.proofs.Values.{set-cases}
-use Rattle.cnf.proofs.Found.{Settled, holds, waits, Found}
-use Rattle.cnf.proofs.Order.{UnitSteps, stay, more, AtRest}
-
--- a variable of the clause is in the queue
-pub record Stirred (c qs : List ℕ) : Type 0 where
-  pub literal : ℕ
-  pub has : List·Memᴰ literal c
-  pub queued : List·Memᴰ (literal / 2) qs
-
-abbrev pub SettledOr : List ℕ → List ℕ → List ℕ → Type 0
-SettledOr w qs c = Settled w c ⊎ Stirred c qs
-
-abbrev pub Waiting : List (List ℕ) → List ℕ → List ℕ → Type 0
-Waiting cs w qs = (c : List ℕ) → List·Memᴰ c cs → SettledOr w qs c
 
 -- ---- a clause whose variables have the same values
 

@@ -10,8 +10,9 @@ use lib.Seq.{getD-set-same, ext-getD}
 use Rattle.lists.proofs.Members.{keep-mem}
 use Rattle.cnf.specs.Clauses.{valueOf, Right, Model, Maximal}
 use Rattle.cnf.specs.Search.{broken, forcing, quiet, isUnset, State, Next, goes, Outcome, solved, none-exists, spent, unfinished, Guess, searchFrom}
-use Rattle.cnf.proofs.Values.{Formed, Values, Wrong, _⊑_, wrong-more, right-value, set-more, set-below, set-values, none-set, start-values}
-use Rattle.cnf.proofs.Found.{Settled, holds, waits, Found, unset-is}
+use Rattle.cnf.specs.Closing.{Formed, Values, Wrong, _⊑_, Settled, holds, waits, Found}
+use Rattle.cnf.proofs.Values.{wrong-more, right-value, set-more, set-below, set-values, none-set, start-values}
+use Rattle.cnf.proofs.Found.{unset-is}
 use Rattle.cnf.proofs.Steps.{stateOf, guessOf, StepsTo, fails, undoes, forces, solves, spends, adds-guess, After, run-keeps}
 
 -- the guessed variables are true in a

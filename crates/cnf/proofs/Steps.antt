@@ -12,7 +12,8 @@ use lib.Dec.{eqb}
 use borrow.Author.Tests.{eqb-true, eqb-false}
 use Rattle.cnf.specs.Clauses.{valueOf}
 use Rattle.cnf.specs.Search.{Seen, broken, forcing, quiet, scan, lowestUnset, State, Next, goes, ends, Outcome, solved, none-exists, spent, unfinished, Guess, undo, decide, act, step, run}
-use Rattle.cnf.proofs.Found.{Found, scan-found, Lowest, lowest-is}
+use Rattle.cnf.specs.Closing.{Found}
+use Rattle.cnf.proofs.Found.{scan-found, Lowest, lowest-is}
 
 abbrev pub stateOf : List ℕ → List Guess → ℕ → State
 stateOf v gs k = record { values = v; guesses = gs; made = k }

@@ -5,13 +5,11 @@ use mathlib.Core.List.{List, List·Memᴰ}
 use Prim.Native.Nat.{ℕ, _≤_}
 use Rattle.cnf.specs.Clauses.{valueOf, Model, Maximal, Horn}
 use Rattle.cnf.specs.Search.{broken, solved, none-exists, spent, unfinished, searchFrom, madeOf}
-use Rattle.cnf.proofs.Values.{Formed, Values}
-use Rattle.cnf.proofs.Found.{Found}
+use Rattle.cnf.specs.Closing.{Formed, Values, Found, UnitSteps, AtRest, rests}
 use Rattle.cnf.proofs.Sound.{search-sound}
 use Rattle.cnf.proofs.Ends.{never-unfinished}
 use Rattle.cnf.proofs.Horn.{horn-few, horn-unspent}
-use Rattle.cnf.proofs.Order.{UnitSteps, AtRest}
-use Rattle.cnf.proofs.Closure.{rests, closes-one, units-break, units-rest, members-same}
+use Rattle.cnf.proofs.Closure.{closes-one, units-break, units-rest, members-same}
 
 module _ (cs : List (List ℕ)) (n b : ℕ) (formed : Formed cs n) where
   -- what is solved satisfies the clauses

@@ -18,12 +18,12 @@ use Rattle.lists.proofs.Members.{any-true, any-of, all-true, all-of, keep-mem}
 use Rattle.cnf.specs.Clauses.{valueOf, Right, Assignment, Model, Horn}
 use Rattle.cnf.specs.Search.{isRight, isUnset, byUnset, seen, both, scan, act, step, lowestUnset, State, Next, goes, ends, Outcome, solved, none-exists, spent, unfinished, Guess, undo, decide, searchFrom}
 use Rattle.cnf.specs.Trials.{onlyTrue, satisfied, trueCount, notFalse, Trials, better, ceilingBy, ceilingOf, rested, tried, Tried, runTried, untried, searchTried}
-use Rattle.cnf.proofs.Values.{Formed, Values, _⊑_, ⊑-trans, set-more, set-below, none-set}
-use Rattle.cnf.proofs.Found.{Settled, holds, waits, right-is, right-of, unset-is, Lowest, lowest-is}
+use Rattle.cnf.specs.Closing.{Formed, Values, _⊑_, Settled, holds, waits, AtRest, Closed, breaks, rests, Closes}
+use Rattle.cnf.proofs.Values.{⊑-trans, set-more, set-below, none-set}
+use Rattle.cnf.proofs.Found.{right-is, right-of, unset-is, Lowest, lowest-is}
 use Rattle.cnf.proofs.Steps.{stateOf, guessOf, StepsTo, fails, undoes, forces, solves, spends, adds-guess, After, run-keeps}
 use Rattle.cnf.proofs.Horn.{RightSoon, is-right, is-unset, quiet-safe}
-use Rattle.cnf.proofs.Order.{AtRest}
-use Rattle.cnf.proofs.Closure.{Closed, breaks, rests, Closes, closes-members, turnTo, atStart}
+use Rattle.cnf.proofs.Closure.{closes-members, turnTo, atStart}
 use Rattle.cnf.proofs.Trying.{TriesTo, there, turn, closedTrials, endOf, tried-outcome, tries-search, turns-tried}
 
 -- ---- a trial

@@ -6,13 +6,12 @@ use Prim.Native.Nat.{ℕ, zero, suc, _*_, _-_, _/_, _%_}
 use lib.ListN.{set, replicate}
 use Rattle.cnf.specs.Search.{Seen, broken, forcing, quiet, scan, lowestUnset, Next, goes, ends, Outcome, unfinished, Guess, undo, decide, act, step, run, searchFrom}
 use Rattle.cnf.specs.Trials.{Trials, rested, tried, Tried, runTried, untried, searchTried}
-use Rattle.cnf.proofs.Values.{Formed, Values}
-use Rattle.cnf.proofs.Found.{Found, scan-found}
+use Rattle.cnf.specs.Closing.{Formed, Values, Found, UnitSteps, stay, more, Closed, breaks, rests, Closes}
+use Rattle.cnf.proofs.Found.{scan-found}
 use Rattle.cnf.proofs.Steps.{stateOf, steps, After}
 use Rattle.cnf.proofs.Sound.{SoundState, SoundOutcome, sound-kept, start-sound}
 use Rattle.cnf.proofs.Ends.{never-unfinished}
-use Rattle.cnf.proofs.Order.{UnitSteps, stay, more}
-use Rattle.cnf.proofs.Closure.{Closed, breaks, rests, Closes, closes-one, units-break, units-rest, turnTo, atStart}
+use Rattle.cnf.proofs.Closure.{closes-one, units-break, units-rest, turnTo, atStart}
 
 -- ---- the outcome
 

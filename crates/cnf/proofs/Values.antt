@@ -3,8 +3,8 @@
 use mathlib.Core.Path.{_≡_, refl, sym, ap, _∙_}
 use mathlib.Core.Logic.{_⊎_, inl, inr, _≢_}
 use mathlib.Core.Bool.{Bool, true, false}
-use mathlib.Core.List.{List, [], _∷_, List·Memᴰ}
-use Prim.Native.Nat.{ℕ, zero, suc, _+_, _-_, _/_, _%_, _≤_, _<_, zero-le, suc-le-suc}
+use mathlib.Core.List.{List, [], _∷_}
+use Prim.Native.Nat.{ℕ, zero, suc, _-_, _/_, _%_, _≤_, _<_, zero-le, suc-le-suc}
 use native.Mathlib.Nat.{le-trans, le-suc}
 use native.Mathlib.Omega.{arith}
 use native.Mathlib.Decide.{ℕ-discrete}
@@ -13,30 +13,8 @@ use lib.Seq.{ext-getD}
 use lib.Dec.{eqb}
 use borrow.Author.Tests.{eq-eqb, ne-eqb}
 use Rattle.cnf.specs.Clauses.{valueOf, Right}
+use Rattle.cnf.specs.Closing.{Values, Wrong, _⊑_, unsetCount}
 
--- every literal's variable is below n
-pub record Formed (cs : List (List ℕ)) (n : ℕ) : Type 0 where
-  pub below : (c : List ℕ) → List·Memᴰ c cs → (l : ℕ) → List·Memᴰ l c → l / 2 < n
-
--- n values, each 0, 1 or 2
-pub record Values (n : ℕ) (v : List ℕ) : Type 0 where
-  pub long : length v ≡ n
-  pub small : (i : ℕ) → valueOf v i ≤ 2
-
--- the literal's variable is unset
-abbrev pub Unset : List ℕ → ℕ → Type 0
-Unset v l = valueOf v (l / 2) ≡ 2
-
--- the literal's variable is set, and not as the literal says
-pub record Wrong (v : List ℕ) (l : ℕ) : Type 0 where
-  pub is-set : valueOf v (l / 2) ≢ 2
-  pub is-not : valueOf v (l / 2) + l % 2 ≢ 1
-
--- w has every value that v has
-pub record _⊑_ (v w : List ℕ) : Type 0 where
-  pub keeps : (i : ℕ) → valueOf v i ≢ 2 → valueOf w i ≡ valueOf v i
-
-infix 20 _⊑_
 -- ---- values that extend others
 
 pub ⊑-refl : (v : List ℕ) → v ⊑ v
@@ -108,10 +86,6 @@ pub start-values : (n : ℕ) → Values n (replicate n 2)
 start-values n = record { long = length-replicate n 2; small = λ i. omega (arith, none-set n i) }
 
 -- ---- how many values are unset
-
-unfoldable pub unsetCount : List ℕ → ℕ
-unsetCount [] = 0
-unsetCount (x ∷ xs) = elim (eqb x 2) [ true ↦ suc (unsetCount xs) | false ↦ unsetCount xs ]
 
 pub unset-le : (v : List ℕ) → unsetCount v ≤ length v
 unfolding unsetCount

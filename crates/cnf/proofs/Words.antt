@@ -12,7 +12,7 @@ use borrow.Author.Tests.{ltb-true, leb-true, lt-ltb, le-leb}
 use Rattle.lists.specs.Lists.{all, gather}
 use Rattle.lists.proofs.Members.{and-true, and-of, all-true, all-of}
 use Rattle.cnf.specs.Clauses.{wordsOf, clausesWithin, clausesIn, wholeWithin, whole, distinct, clauseFits}
-use Rattle.cnf.proofs.Values.{Formed}
+use Rattle.cnf.specs.Closing.{Formed}
 
 -- what holds of no words, and of a clause's words and the rest if it holds of the rest, holds of all words
 pub by-clauses : (P : List ℕ → Type 0) → P [] → ((k : ℕ) (ws : List ℕ) → P (drop k ws) → P (k ∷ ws)) → (ws : List ℕ) → P ws

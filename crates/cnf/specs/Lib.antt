@@ -1,3 +1,4 @@
 pub mod Clauses
 pub mod Search
 pub mod Trials
+pub mod Closing

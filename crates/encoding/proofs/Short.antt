@@ -5,7 +5,7 @@ use mathlib.Core.List.{List, _++_, List·Memᴰ, Memᴰ·append-left, Memᴰ·ap
 use Prim.Native.Nat.{ℕ}
 use Rattle.cnf.specs.Search.{searchFrom}
 use Rattle.cnf.specs.Trials.{searchTried}
-use Rattle.cnf.proofs.Values.{Formed}
+use Rattle.cnf.specs.Closing.{Formed}
 use Rattle.cnf.proofs.Closure.{members-same}
 use Rattle.cnf.proofs.Trials.{tried-members}
 use Rattle.pairs.specs.Pairs.{pairs}

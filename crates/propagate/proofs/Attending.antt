@@ -7,7 +7,8 @@ use mathlib.Core.List.{List, _++_, List·Memᴰ, Memᴰ·append-left, Memᴰ·ap
 use Prim.Native.Nat.{ℕ, _/_, _<_}
 use lib.ListN.{length, getD}
 use Rattle.cnf.specs.Clauses.{valueOf}
-use Rattle.cnf.proofs.Queue.{SettledOr, settled-or-more}
+use Rattle.cnf.specs.Closing.{SettledOr}
+use Rattle.cnf.proofs.Queue.{settled-or-more}
 use Rattle.propagate.specs.Trail.{Ready, Attended}
 use Rattle.propagate.proofs.Trails.{grown-same}
 use Rattle.propagate.proofs.Working.{settled-or-behind, worked-length, worked-on, set-on, worked-trans, ready-part, worked-part}

@@ -10,7 +10,7 @@ use lib.ListN.{length, getD}
 use Rattle.lists.specs.Bits.{Bit}
 use Rattle.lists.proofs.Members.{getD-any}
 use Rattle.cnf.specs.Clauses.{valueOf}
-use Rattle.cnf.proofs.Values.{_⊑_}
+use Rattle.cnf.specs.Closing.{_⊑_}
 use Rattle.cnf.proofs.Order.{units-more}
 use Rattle.pairs.specs.Pairs.{variableOf}
 use Rattle.pairs.proofs.Pairs.{variable-sym}

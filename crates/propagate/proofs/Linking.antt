@@ -11,7 +11,7 @@ use lib.ListN.{length, getD, set, take, drop, replicate, length-set, length-repl
 use lib.Seq.{slice, slice-empty, length-slice, getD-set-same, getD-set-other, getD-take, getD-drop, take-suc, drop-append-le, length-take-le}
 use Rattle.lists.proofs.Members.{getD-mem, zeros}
 use Rattle.cnf.specs.Clauses.{clausesIn, whole}
-use Rattle.cnf.proofs.Values.{Formed}
+use Rattle.cnf.specs.Closing.{Formed}
 use Rattle.propagate.specs.Chains.{clauseAt, OnChain, here, later, PlaceOf, Meets, Linked, LinkRoom, Unlinked, Chained}
 use Rattle.propagate.proofs.Walking.{Before, before-first, before-next, end-inside, clause-in, clause-cases, none-left}
 

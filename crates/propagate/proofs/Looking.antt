@@ -10,8 +10,7 @@ use lib.ListN.{length, getD}
 use Rattle.lists.proofs.Members.{getD-any}
 use Rattle.cnf.specs.Clauses.{valueOf, clausesIn}
 use Rattle.cnf.specs.Search.{broken, forcing, quiet, seen}
-use Rattle.cnf.proofs.Found.{holds}
-use Rattle.cnf.proofs.Queue.{SettledOr}
+use Rattle.cnf.specs.Closing.{holds, SettledOr}
 use Rattle.propagate.specs.Chains.{clauseAt, OnChain, here, later, PlaceOf, Meets, Linked}
 use Rattle.propagate.specs.Trail.{Ready, Worked, Attended}
 use Rattle.propagate.specs.Rows.{Forced}

@@ -8,7 +8,7 @@ use native.Mathlib.Omega.{arith}
 use lib.ListN.{length, getD, drop}
 use Rattle.cnf.specs.Clauses.{clausesIn, whole}
 use Rattle.cnf.specs.Search.{broken, forcing, quiet, seen}
-use Rattle.cnf.proofs.Queue.{SettledOr}
+use Rattle.cnf.specs.Closing.{SettledOr}
 use Rattle.propagate.specs.Chains.{clauseAt}
 use Rattle.propagate.specs.Trail.{Ready, Worked, Passed}
 use Rattle.propagate.specs.Rows.{Forced}

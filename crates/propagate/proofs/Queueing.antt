@@ -9,7 +9,8 @@ use native.Mathlib.Omega.{arith}
 use lib.ListN.{length, getD}
 use lib.Seq.{slice, slice-empty, slice-cons}
 use Rattle.cnf.specs.Clauses.{valueOf}
-use Rattle.cnf.proofs.Queue.{SettledOr, Waiting, waiting-more, waiting-next, waiting-rest}
+use Rattle.cnf.specs.Closing.{SettledOr, Waiting}
+use Rattle.cnf.proofs.Queue.{waiting-more, waiting-next, waiting-rest}
 use Rattle.propagate.specs.Trail.{Ready, Worked, Attended, Queue, Drained}
 use Rattle.propagate.proofs.Trails.{grown-same, grown-slice}
 use Rattle.propagate.proofs.Working.{settled-or-behind, worked-none, worked-on, worked-length, worked-count, worked-trans, set-on, drained-broken}

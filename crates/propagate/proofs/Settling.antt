@@ -8,9 +8,8 @@ use native.Mathlib.Omega.{arith}
 use lib.ListN.{length, take, length-append}
 use lib.Seq.{slice, slice-empty, length-take-le}
 use Rattle.cnf.specs.Clauses.{valueOf}
-use Rattle.cnf.proofs.Found.{Settled}
-use Rattle.cnf.proofs.Order.{AtRest}
-use Rattle.cnf.proofs.Queue.{Waiting, waiting-more, rest-waiting, waiting-rest}
+use Rattle.cnf.specs.Closing.{Settled, AtRest, Waiting}
+use Rattle.cnf.proofs.Queue.{waiting-more, rest-waiting, waiting-rest}
 use Rattle.propagate.specs.Trail.{unsetting, Ready, Worked, Passed, Queue, Drained, Settles}
 use Rattle.propagate.proofs.Trails.{grown-same, grown-slice}
 use Rattle.propagate.proofs.Working.{worked-none, worked-length, worked-on, worked-count, worked-trans, ready-part, worked-part, drained-broken, drained-settles}

@@ -16,8 +16,8 @@ use Rattle.lists.proofs.Lowest.{Lowest, trailing-lowest, bit-le, clear-own, cle
 use Rattle.lists.proofs.Members.{getD-any}
 use Rattle.cnf.specs.Clauses.{valueOf}
 use Rattle.cnf.specs.Search.{forcing}
-use Rattle.cnf.proofs.Values.{_⊑_, ⊑-refl, set-more}
-use Rattle.cnf.proofs.Found.{Found}
+use Rattle.cnf.specs.Closing.{_⊑_, Found}
+use Rattle.cnf.proofs.Values.{⊑-refl, set-more}
 use Rattle.pairs.specs.Pairs.{variableOf}
 use Rattle.pairs.specs.Triangles.{triangles}
 use Rattle.propagate.specs.Trail.{Ready, Worked}

@@ -12,7 +12,8 @@ use borrow.Author.Tests.{ne-eqb}
 use Rattle.lists.proofs.Members.{getD-any}
 use Rattle.cnf.specs.Clauses.{valueOf}
 use Rattle.cnf.specs.Search.{isRight, isUnset}
-use Rattle.cnf.proofs.Values.{unsetCount, unset-set}
+use Rattle.cnf.specs.Closing.{unsetCount}
+use Rattle.cnf.proofs.Values.{unset-set}
 use Rattle.cnf.proofs.Found.{right-of, unset-of}
 use Rattle.propagate.specs.Trail.{valueBy, literalValue, unsetting, Grown}
 

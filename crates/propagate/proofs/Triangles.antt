@@ -14,11 +14,9 @@ use Rattle.lists.specs.Lists.{any, keep, gather, upto}
 use Rattle.lists.proofs.Members.{any-true, any-false, gather-mem, gather-of, upto-of}
 use Rattle.cnf.specs.Clauses.{positive, negative, valueOf, clausesIn, isPositive, Horn}
 use Rattle.cnf.specs.Search.{isRight, isUnset, broken, forcing, byUnset, seen}
+use Rattle.cnf.specs.Closing.{Formed, Found, Settled, holds, waits, AtRest, Stirred, SettledOr}
 use Rattle.pairs.specs.Pairs.{pairs}
-use Rattle.cnf.proofs.Values.{Formed}
-use Rattle.cnf.proofs.Found.{Found, Settled, holds, waits, Means, seen-means}
-use Rattle.cnf.proofs.Order.{AtRest}
-use Rattle.cnf.proofs.Queue.{Stirred, SettledOr}
+use Rattle.cnf.proofs.Found.{Means, seen-means}
 use Rattle.pairs.specs.Pairs.{variableOf}
 use Rattle.pairs.specs.Triangles.{past, triangle, triangles}
 use Rattle.propagate.specs.Conclusions.{withTriangles, saying, Concludes, alike, parted}

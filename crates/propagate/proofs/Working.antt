@@ -10,11 +10,12 @@ use lib.ListN.{length, set}
 use lib.Seq.{getD-set-same}
 use Rattle.cnf.specs.Clauses.{valueOf}
 use Rattle.cnf.specs.Search.{Seen, broken, forcing, quiet, seen}
-use Rattle.cnf.proofs.Values.{Formed, _⊑_, unset-set}
-use Rattle.cnf.proofs.Found.{Found, Means, seen-means}
-use Rattle.cnf.proofs.Order.{stay, more, units-more, units-values, units-trans}
+use Rattle.cnf.specs.Closing.{Formed, _⊑_, Found, stay, more, SettledOr}
+use Rattle.cnf.proofs.Values.{unset-set}
+use Rattle.cnf.proofs.Found.{Means, seen-means}
+use Rattle.cnf.proofs.Order.{units-more, units-values, units-trans}
 use Rattle.cnf.proofs.Closure.{units-break, units-rest}
-use Rattle.cnf.proofs.Queue.{SettledOr, settled-or-more, units-part, broken-part}
+use Rattle.cnf.proofs.Queue.{settled-or-more, units-part, broken-part}
 use Rattle.propagate.specs.Trail.{Ready, Grown, Worked, Queue, Drained, Settles}
 use Rattle.propagate.specs.Rows.{Rows, Settable, Forced}
 use Rattle.propagate.proofs.Trails.{grown-none, grown-trans, grown-length, grown-same, grown-count, grown-store}

@@ -7,7 +7,7 @@ use Prim.Native.Nat.{ℕ, _+_, _≤_, _<_}
 use lib.ListN.{length, getD}
 use lib.Seq.{slice}
 use Rattle.cnf.specs.Clauses.{clausesIn, whole}
-use Rattle.cnf.proofs.Values.{Formed}
+use Rattle.cnf.specs.Closing.{Formed}
 
 -- the clause whose count stands at a place
 abbrev pub clauseAt : List ℕ → ℕ → List ℕ

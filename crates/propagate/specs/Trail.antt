@@ -9,11 +9,7 @@ use lib.ListN.{length, set, take}
 use lib.Seq.{slice}
 use Rattle.cnf.specs.Clauses.{valueOf}
 use Rattle.cnf.specs.Search.{isRight, isUnset, broken}
-use Rattle.cnf.proofs.Values.{Formed, Values, unsetCount}
-use Rattle.cnf.proofs.Found.{Found}
-use Rattle.cnf.proofs.Order.{UnitSteps, AtRest}
-use Rattle.cnf.proofs.Queue.{SettledOr, Waiting}
-use Rattle.cnf.proofs.Closure.{Closed, breaks, rests, Closes}
+use Rattle.cnf.specs.Closing.{Formed, Values, unsetCount, Found, UnitSteps, AtRest, SettledOr, Waiting, Closed, breaks, rests, Closes}
 
 -- a literal under the values, by whether it is unset and whether it is right: 0 false, 1 true, 2 unset
 abbrev pub valueBy : Bool → Bool → ℕ

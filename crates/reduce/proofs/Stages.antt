@@ -13,7 +13,7 @@ use Rattle.lists.specs.Lists.{over}
 use Rattle.lists.proofs.Copying.{copied}
 use Rattle.cnf.specs.Clauses.{wordsOf, clausesIn, Model}
 use Rattle.cnf.specs.Trials.{notFalse, Tried, searchTried}
-use Rattle.cnf.proofs.Values.{Formed}
+use Rattle.cnf.specs.Closing.{Formed}
 use Rattle.cnf.proofs.Words.{clauses-words, whole-words}
 use Rattle.cnf.proofs.Theorems.{never-none}
 use Rattle.cnf.proofs.Trying.{tried-outcome}

@@ -13,7 +13,7 @@ use Rattle.lists.specs.Lists.{keep, gather, upto}
 use Rattle.lists.proofs.Counts.{keep-append, keep-map, gather-append}
 use Rattle.cnf.specs.Clauses.{valueOf, Model}
 use Rattle.cnf.specs.Trials.{trueCount, notFalse, ceilingOf, searchTried}
-use Rattle.cnf.proofs.Values.{Formed}
+use Rattle.cnf.specs.Closing.{Formed}
 use Rattle.cnf.proofs.Trials.{true-count, nested-count, nested-same, ceiling-most}
 use Rattle.pairs.specs.Pairs.{pairs, pairOf}
 use Rattle.pairs.proofs.Pairs.{pairs-suc, variable-lt, variable-pair, pair-ordered, pair-variable, pair-below}

@@ -21,7 +21,7 @@ use Rattle.format.specs.Maps.{joins, classes, numberedFrom, numbered}
 use Rattle.reach.specs.Tops.{add, byInternals, byCalls, live, byReturns, round, rounds, startWords, topWordsAt, topCount, topsOf, liveReturns}
 use Rattle.encoding.specs.Clauses.{opposite, once, tidy, lookClauses, transitivity, premise, matching, moveClause, moveClauses, returnClause, topStates, returnClauses, clauseList, clauseWords, shortList, shortWords, clausesNumber, clausesOf, listedNumber, listedValues}
 use Rattle.encoding.specs.Maps.{joinedBy, nextClass, mapOf}
-use Rattle.search.specs.Answers.{listFits, searchNumber, searched, searchAt, searchOf, solutionNumber, solutionValues}
+use Rattle.solutions.specs.Answers.{listFits, searchNumber, searched, searchAt, searchOf, solutionNumber, solutionValues}
 use Rattle.relations.specs.Check.{looksAgree, moveMatched, movesMatched, returnMatched, returnsMatched, mapTests, checkNumber, checkOf, checkedNumber, checkedValues}
 use Rattle.quotients.specs.Quotient.{image, insert, ascending, images, memberHas, bitOf, markAmong, classMark, classByte, quotientTable, quotientBytes, quotientNumber, quotientOf, writtenNumber, writtenValues}
 use Rattle.reductions.specs.Reduce.{beforeSearch, triedOfTable, joinedPairs, deliver, afterSearch, reduceOf, reductionNumber, reductionValues}

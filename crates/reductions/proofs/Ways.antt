@@ -13,7 +13,7 @@ use Rattle.lists.specs.Lists.{over}
 use Rattle.cnf.specs.Clauses.{Model, Maximal}
 use Rattle.cnf.specs.Search.{Outcome, solved, none-exists, spent, unfinished, searchFrom, madeOf, isSpent}
 use Rattle.cnf.specs.Trials.{ceilingOf, Tried, searchTried}
-use Rattle.cnf.proofs.Values.{Formed}
+use Rattle.cnf.specs.Closing.{Formed}
 use Rattle.cnf.proofs.Words.{fit-formed}
 use Rattle.cnf.proofs.Theorems.{maximal, never-none, ends}
 use Rattle.cnf.proofs.Trying.{tried-outcome}

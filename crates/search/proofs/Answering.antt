@@ -1,78 +1,22 @@
--- Laws for the operation: writing the answer, the refusals in order, and what the answer promises. Assumes nothing.
+-- Laws for the operation: the values that the search begins with and those that come back, and the outcome. Assumes nothing.
 use mathlib.Core.Path.{_≡_, refl, sym, ap, _∙_}
-use mathlib.Core.Logic.{_≢_}
-use mathlib.Core.Bool.{Bool, true, false, _&&_}
-use mathlib.Core.List.{List, [], _∷_, _++_}
-use Prim.Native.Nat.{ℕ, zero, suc, _-_, _*_, _≤_, _<_}
+use mathlib.Core.Bool.{true}
+use mathlib.Core.List.{List, _∷_, _++_}
+use Prim.Native.Nat.{ℕ, zero, suc, _-_, _*_, _≤_}
 use native.Mathlib.Nat.{mul-le-mul}
 use native.Mathlib.Omega.{arith}
 use lib.ListN.{length, take, drop, replicate, length-append, length-replicate}
 use lib.Seq.{take-at}
-use lib.Dec.{eqb, leb}
-use borrow.Author.Tests.{ne-eqb, eqb-true, le-leb, lt-leb, leb-true}
-use Rattle.lists.specs.Lists.{all, over, firstFailed}
-use Rattle.lists.proofs.Members.{and-true}
-use Rattle.lists.proofs.Refusals.{passed, passes, fails}
-use Rattle.cnf.specs.Clauses.{clausesIn, whole, clauseFits, Model, Maximal, Horn}
-use Rattle.cnf.specs.Search.{Outcome, solved, none-exists, spent, unfinished, searchFrom}
+use Rattle.cnf.specs.Clauses.{clausesIn, whole}
+use Rattle.cnf.specs.Search.{solved, none-exists, spent, searchFrom}
 use Rattle.cnf.specs.Trials.{searchTried}
-use Rattle.cnf.proofs.Values.{Formed}
-use Rattle.cnf.proofs.Words.{fit-formed}
-use Rattle.cnf.proofs.Theorems as theorems
-use Rattle.pairs.specs.Pairs.{pairs}
-use Rattle.search.specs.declared.Solution.{Solution}
-use Rattle.search.specs.declared.Solution.the-variants.{Solved, Refused}
+use Rattle.cnf.specs.Closing.{Formed}
 use Rattle.search.specs.declared.engine.Ending.{Ending}
 use Rattle.search.specs.declared.engine.Ending.the-variants.{Found, Absent, Spent}
 use Rattle.propagate.specs.Conclusions.{withTriangles}
 use Rattle.search.specs.Turns.{noneSet, Fresh, EndsWith, outcomeOf}
-use Rattle.search.specs.Answers.{listFits, searchNumber, Searched, searched, searchAt, searchOf}
-use Rattle.search.specs.Demands.{SearchSound}
-use Rattle.limits.specs.declared.Limits.{Limits}
-use Rattle.limits.specs.Limits.{limitsFit}
 use Rattle.propagate.proofs.Triangles.{with-none}
 use Rattle.search.proofs.Turns.{ends-outcome}
-
--- ---- the refusals, in order
-
-module _ (most : ℕ) (ws : List ℕ) (n b : ℕ) (a : List ℕ) where
-  by-number : (k : ℕ) → searchNumber most ws n a ≡ k → k ≢ 0 → record { solution = Refused k; answer = a } ≡ searchAt most ws n b a
-  unfolding searchAt
-  by-number k e z = rw (e, ne-eqb k 0 z, searchAt) (λ j. record { solution = Refused (sym e j); answer = a })
-
-  by-outcome : searchNumber most ws n a ≡ 0 → (o : Outcome) → o ≡ searchFrom (clausesIn ws) n b → searched a o ≡ searchAt most ws n b a
-  unfolding searchAt
-  by-outcome e o q = rw (e, searchAt) (ap (searched a) q)
-
-  -- 11
-  pub refuse-list : listFits most ws n ≡ false → record { solution = Refused 11; answer = a } ≡ searchAt most ws n b a
-  unfolding searchNumber
-  refuse-list e = by-number 11 (fails 11 ((14, leb n (length a)) ∷ []) e) (omega arith)
-
-  -- 14
-  pub refuse-short : listFits most ws n ≡ true → length a < n → record { solution = Refused 14; answer = a } ≡ searchAt most ws n b a
-  unfolding searchNumber
-  refuse-short e h = by-number 14 (passes 11 ((14, leb n (length a)) ∷ []) e ∙ fails 14 [] (lt-leb _ _ h)) (omega arith)
-
-  -- the outcome
-  answer-outcome : listFits most ws n ≡ true → n ≤ length a → (o : Outcome) → o ≡ searchFrom (clausesIn ws) n b → searched a o ≡ searchAt most ws n b a
-  unfolding searchNumber firstFailed
-  answer-outcome e h = by-outcome (passes 11 ((14, leb n (length a)) ∷ []) e ∙ passes 14 [] (le-leb _ _ h))
-
-module _ (most : ℕ) (ws : List ℕ) (n b : ℕ) (a : List ℕ) (e : listFits most ws n ≡ true) (h : n ≤ length a) {k : ℕ} where
-  pub answer-found : {v out : List ℕ} → solved v k ≡ searchFrom (clausesIn ws) n b → out ≡ over v a → record { solution = Solved k; answer = out } ≡ searchAt most ws n b a
-  unfolding searched
-  answer-found {v} {out} q p = (λ j. record { solution = Solved k; answer = p j }) ∙ answer-outcome most ws n b a e h (solved v k) q
-
-  -- 12
-  pub answer-absent : none-exists k ≡ searchFrom (clausesIn ws) n b → record { solution = Refused 12; answer = a } ≡ searchAt most ws n b a
-  unfolding searched
-  answer-absent q = answer-outcome most ws n b a e h (none-exists k) q
-
-  -- 13
-  pub answer-spent : spent k ≡ searchFrom (clausesIn ws) n b → record { solution = Refused 13; answer = a } ≡ searchAt most ws n b a
-  unfolding searched
-  answer-spent q = answer-outcome most ws n b a e h (spent k) q
 
 -- ---- the values and the outcome
 
@@ -126,124 +70,7 @@ module _ (ws : List ℕ) (n b : ℕ) (r : Ending) (v : List ℕ) (u : ℕ) {m : 
   pub is-spent : {k : ℕ} → r ≡ Spent k → spent k ≡ searchFrom (clausesIn ws) n b
   is-spent p = sym (ap (λ (z : Ending). outcomeOf z v) p) ∙ outcome
 
--- 11 as it is judged: the number of variables, then the list
-module _ (most n : ℕ) (ws : List ℕ) where
-  pub list-many : most < n → listFits most ws n ≡ false
-  unfolding listFits
-  list-many h = rw (lt-leb n most h)
-
-  pub list-as : n ≤ most → (t : Bool) → (whole ws && all (clauseFits n) (clausesIn ws)) ≡ t → listFits most ws n ≡ t
-  unfolding listFits
-  list-as h t e = rw (le-leb n most h, e)
-
-  pub list-formed : listFits most ws n ≡ true → (n ≤ most) × (whole ws ≡ true) × Formed (clausesIn ws) n
-  unfolding listFits
-  list-formed e =
-      let p = and-true (leb n most && whole ws) (all (clauseFits n) (clausesIn ws)) e in
-      let q = and-true (leb n most) (whole ws) (p .0) in
-      (leb-true n most (q .0), q .1, fit-formed n (clausesIn ws) (p .1))
-
--- ---- what the answer promises
-
-not-solved : {m k : ℕ} → Refused m ≡ Solved k → ⊥
-not-solved e = let z : _≡_ {A = ℕ} 0 1 = cc in omega arith
-
-solved-one : {j k : ℕ} → Solved j ≡ Solved k → j ≡ k
-solved-one e = cc
-
-refused-other : {j k : ℕ} → j ≢ k → Refused j ≡ Refused k → ⊥
-refused-other {j} {k} n e = let z : j ≡ k = cc in n z
-
-module _ (most : ℕ) (ws : List ℕ) (n b : ℕ) (a : List ℕ) where
-  -- an answer that is solved
-  record IsSolved (s : Searched) (k : ℕ) : Type 0 where
-    pub formed : Formed (clausesIn ws) n
-    pub values : List ℕ
-    pub outcome : searchFrom (clausesIn ws) n b ≡ solved values k
-    pub answer : s .answer ≡ over values a
-
-  record IsNone : Type 0 where
-    pub formed : Formed (clausesIn ws) n
-    pub made : ℕ
-    pub outcome : searchFrom (clausesIn ws) n b ≡ none-exists made
-
-  formed-of : eqb (searchNumber most ws n a) 0 ≡ true → Formed (clausesIn ws) n
-  unfolding searchNumber
-  formed-of e = list-formed most n ws (passed 11 (listFits most ws n) ((14, leb n (length a)) ∷ []) (omega arith) (eqb-true _ _ e) .0) .2
-
-  abbrev answerBy : Bool → Searched
-  answerBy true = searched a (searchFrom (clausesIn ws) n b)
-  answerBy false = record { solution = Refused (searchNumber most ws n a); answer = a }
-
-  answer-by : searchAt most ws n b a ≡ answerBy (eqb (searchNumber most ws n a) 0)
-  unfolding searchAt
-  answer-by = go (eqb (searchNumber most ws n a) 0)
-    where
-      go : (t : Bool) → elim t as (λ _. Searched) [ true ↦ searched a (searchFrom (clausesIn ws) n b) | false ↦ record { solution = Refused (searchNumber most ws n a); answer = a } ] ≡ answerBy t
-      go true = refl
-      go false = refl
-
-  solved-is : (s : Searched) → s ≡ searchAt most ws n b a → (k : ℕ) → s .solution ≡ Solved k → IsSolved s k
-  unfolding searched
-  solved-is s e k p = go (eqb (searchNumber most ws n a) 0) refl (e ∙ answer-by)
-    where
-      by : Formed (clausesIn ws) n → (o : Outcome) → searchFrom (clausesIn ws) n b ≡ o → s ≡ searched a o → IsSolved s k
-      by f (solved v j) q r = record { formed = f; values = v; outcome = q ∙ ap (solved v) (solved-one (sym (ap (λ (z : Searched). z .solution) r) ∙ p)); answer = ap (λ (z : Searched). z .answer) r }
-      by f (none-exists j) q r = absurd (not-solved (sym (ap (λ (z : Searched). z .solution) r) ∙ p))
-      by f (spent j) q r = absurd (not-solved (sym (ap (λ (z : Searched). z .solution) r) ∙ p))
-      by f unfinished q r = absurd (not-solved (sym (ap (λ (z : Searched). z .solution) r) ∙ p))
-
-      go : (t : Bool) → eqb (searchNumber most ws n a) 0 ≡ t → s ≡ answerBy t → IsSolved s k
-      go true t r = by (formed-of t) (searchFrom (clausesIn ws) n b) refl r
-      go false t r = absurd (not-solved (sym (ap (λ (z : Searched). z .solution) r) ∙ p))
-
-  -- no other refusal has number 12
-  not-twelve : searchNumber most ws n a ≢ 12
-  unfolding searchNumber firstFailed
-  not-twelve = go (listFits most ws n) (leb n (length a))
-    where
-      go : (t u : Bool) → firstFailed ((11, t) ∷ (14, u) ∷ []) ≢ 12
-      go true true = omega arith
-      go true false = omega arith
-      go false u = omega arith
-
-  none-is : (s : Searched) → s ≡ searchAt most ws n b a → s .solution ≡ Refused 12 → IsNone
-  unfolding searched
-  none-is s e p = go (eqb (searchNumber most ws n a) 0) refl (e ∙ answer-by)
-    where
-      by : Formed (clausesIn ws) n → (o : Outcome) → searchFrom (clausesIn ws) n b ≡ o → s ≡ searched a o → IsNone
-      by f (solved v j) q r = absurd (not-solved (sym p ∙ ap (λ (z : Searched). z .solution) r))
-      by f (none-exists j) q r = record { formed = f; made = j; outcome = q }
-      by f (spent j) q r = absurd (refused-other (omega arith) (sym (ap (λ (z : Searched). z .solution) r) ∙ p))
-      by f unfinished q r = absurd (refused-other (omega arith) (sym (ap (λ (z : Searched). z .solution) r) ∙ p))
-
-      go : (t : Bool) → eqb (searchNumber most ws n a) 0 ≡ t → s ≡ answerBy t → IsNone
-      go true t r = by (formed-of t) (searchFrom (clausesIn ws) n b) refl r
-      go false t r = absurd (refused-other not-twelve (sym (ap (λ (z : Searched). z .solution) r) ∙ p))
-
-  -- what the answer bytes begin with
-  module _ {r : Solution} {out : List ℕ} (e : record { solution = r; answer = out } ≡ searchAt most ws n b a) where
-    first-values : {k : ℕ} (i : IsSolved (record { solution = r; answer = out }) k) → take n out ≡ i .values
-    unfolding over
-    first-values i = ap (take n) (i .answer) ∙ take-at (i .values) (drop (length (i .values)) a) n (theorems.satisfies (clausesIn ws) n b (i .formed) (i .values) _ (i .outcome) .assigns .long)
-
-    pub satisfies : (k : ℕ) → r ≡ Solved k → Model (clausesIn ws) n (take n out)
-    satisfies k p = let i = solved-is (record { solution = r; answer = out }) e k p in rw (first-values i) (theorems.satisfies (clausesIn ws) n b (i .formed) (i .values) k (i .outcome))
-
-    pub maximal : (k : ℕ) → r ≡ Solved k → Maximal (clausesIn ws) n (take n out)
-    maximal k p = let i = solved-is (record { solution = r; answer = out }) e k p in rw (first-values i) (theorems.maximal (clausesIn ws) n b (i .formed) (i .values) k (i .outcome))
-
-    pub complete : r ≡ Refused 12 → (m : List ℕ) → Model (clausesIn ws) n m → ⊥
-    complete p = let i = none-is (record { solution = r; answer = out }) e p in theorems.complete (clausesIn ws) n b (i .formed) (i .made) (i .outcome)
-
-    pub few : Horn (clausesIn ws) → (k : ℕ) → r ≡ Solved k → k ≤ n
-    few h k p = let i = solved-is (record { solution = r; answer = out }) e k p in rw (i .outcome) at (theorems.horn (clausesIn ws) n b (i .formed) h)
-
-    -- the contract
-    pub promised : (record { solution = r; answer = out } ≡ searchAt most ws n b a) × SearchSound ws n r out
-    promised = (e, record { satisfies = satisfies; maximal = maximal; complete = complete; few = few })
-
--- ---- 39, and the variables of the limits
+-- ---- the variables of the limits
 
 -- the product fits
 pub few-product : (n : ℕ) → n ≤ 40 → n * (n - 1) ≤ 1600
@@ -251,14 +78,3 @@ few-product n h = mul-le-mul {n₂ = 40} {m₂ = 40} h (omega arith)
 
 pub room : {n m : ℕ} → n ≤ m → m ≤ 780 → n ≤ 780
 room h k = omega arith
-
-pub unfit : (L : Limits) (ws : List ℕ) (n b : ℕ) (a : List ℕ) → limitsFit L ≡ false → (record { solution = Refused 39; answer = a } ≡ searchOf L ws n b a) × SearchSound ws n (Refused 39) a
-unfolding searchOf
-unfit L ws n b a e = (
-  sym (rw (e, searchOf)),
-  record { satisfies = λ k p. absurd (not-solved p); maximal = λ k p. absurd (not-solved p); complete = λ p. absurd (refused-other (omega arith) p); few = λ h k p. absurd (not-solved p) },
-)
-
-pub within : (L : Limits) (ws : List ℕ) (n b : ℕ) (a : List ℕ) {s : Searched} {m : ℕ} → limitsFit L ≡ true → m ≡ pairs (L .states) → s ≡ searchAt m ws n b a → s ≡ searchOf L ws n b a
-unfolding searchOf
-within L ws n b a e p q = q ∙ ap (λ (m : ℕ). searchAt m ws n b a) p ∙ sym (rw (e, searchOf))

@@ -14,7 +14,7 @@ use Rattle.lists.proofs.Copying.{Writing, writing, same-length, write-on, write
 use Rattle.cnf.specs.Clauses.{valueOf, clausesIn, whole}
 use Rattle.cnf.specs.Search.{isRight}
 use Rattle.cnf.specs.Trials.{onlyTrue, satisfied, notFalse}
-use Rattle.cnf.proofs.Values.{Formed}
+use Rattle.cnf.specs.Closing.{Formed}
 use Rattle.cnf.proofs.Words.{clauses-nil}
 use Rattle.cnf.proofs.Trials.{length-only, only-one, only-zero}
 use Rattle.propagate.specs.Asked.{Over}

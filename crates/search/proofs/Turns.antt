@@ -17,12 +17,12 @@ use Rattle.lists.proofs.Members.{getD-mem}
 use Rattle.cnf.specs.Clauses.{valueOf, clausesIn}
 use Rattle.cnf.specs.Search.{isRight, goes, Outcome, solved, none-exists, spent, Guess, undo, decide, lowestUnset, searchFrom}
 use Rattle.cnf.specs.Trials.{onlyTrue, satisfied, notFalse, Trials, better, ceilingBy, rested, Tried, untried, searchTried}
-use Rattle.cnf.proofs.Values.{Formed, Values, ⊑-refl, set-values, start-values, unsetCount, unset-set, unset-start, none-set}
+use Rattle.cnf.specs.Closing.{Formed, Values, unsetCount, AtRest, Closed, breaks, rests, Closes}
+use Rattle.cnf.proofs.Values.{⊑-refl, set-values, start-values, unset-set, unset-start, none-set}
 use Rattle.cnf.proofs.Found.{lowest-some, lowest-none}
 use Rattle.cnf.proofs.Steps.{stateOf, guessOf}
-use Rattle.cnf.proofs.Order.{AtRest}
 use Rattle.cnf.proofs.Queue.{waiting-set, rest-waiting}
-use Rattle.cnf.proofs.Closure.{Closed, breaks, rests, Closes, closes-one, turnTo, atStart}
+use Rattle.cnf.proofs.Closure.{closes-one, turnTo, atStart}
 use Rattle.cnf.proofs.Trying.{closedTrials, endOf, TriesTo, there, turn, tried-outcome, turns-tried}
 use Rattle.cnf.proofs.Trials.{latest as latestTrial, Holds, holds-start, holds-closed, holds-undone, holds-guess, holds-latest, horn-trial, solved-held}
 use Rattle.pairs.specs.Triangles.{triangles}

@@ -1,5 +1,3 @@
-pub mod Answers
 pub mod Marks
 pub mod Trial
 pub mod Turns
-pub mod Demands

@@ -9,8 +9,7 @@ use lib.ListN.{length, set, take, replicate}
 use Rattle.cnf.specs.Clauses.{valueOf, clausesIn, whole}
 use Rattle.cnf.specs.Search.{Outcome, solved, none-exists, spent}
 use Rattle.cnf.specs.Trials.{Tried}
-use Rattle.cnf.proofs.Values.{Formed, unsetCount}
-use Rattle.cnf.proofs.Closure.{rests, Closes}
+use Rattle.cnf.specs.Closing.{Formed, unsetCount, rests, Closes}
 use Rattle.pairs.specs.Pairs.{pairs}
 use Rattle.search.specs.declared.engine.Ending.{Ending}
 use Rattle.search.specs.declared.engine.Ending.the-variants.{Found, Absent, Spent}

@@ -4,12 +4,13 @@ ghost use mathlib.Core.Bool.{true};
 ghost use Prim.Native.Nat.{_≤_};
 ghost use Rattle.limits.specs.Limits.{standard, limitsFit};
 ghost use Rattle.pairs.specs.Pairs.{pairs};
-ghost use Rattle.search.specs.Answers.{Searched, searchAt, searchOf};
-ghost use Rattle.search.specs.Demands.{SearchSound};
+ghost use Rattle.solutions.specs.Answers.{Searched, searchAt, searchOf};
+ghost use Rattle.solutions.specs.Demands.{SearchSound};
 ghost use Rattle.search.specs.Turns.{noneSet};
 use fits::list_fits;
 use limits::Limits;
 use limits::limits_fit;
+use solutions::Solution;
 
 mod engine;
 mod fits;
@@ -19,14 +20,6 @@ pub use engine::End;
 pub use engine::Ending;
 pub use engine::solve;
 pub use trial::not_false;
-
-// What the search answers.
-pub enum Solution {
-    // solved: the guesses made
-    Solved(u64),
-    // 39, 11 to 14
-    Refused(u8),
-}
 
 // Room for the values of 780 variables, none of which is set.
 pub fn none_set() -> [u8; 780]

@@ -7,7 +7,7 @@ ghost use Rattle.lists.specs.Lists.{any};
 ghost use Rattle.cnf.specs.Clauses.{clausesIn, whole};
 ghost use Rattle.cnf.specs.Search.{isRight};
 ghost use Rattle.cnf.specs.Trials.{onlyTrue, satisfied, notFalse};
-ghost use Rattle.cnf.proofs.Values.{Formed};
+ghost use Rattle.cnf.specs.Closing.{Formed};
 ghost use Rattle.pairs.specs.Entries.{PairTable};
 ghost use Rattle.propagate.specs.Asked.{Over};
 ghost use Rattle.propagate.specs.Rows.{Rows};

@@ -2,21 +2,21 @@
 use mathlib.Core.Path.{_≡_, refl, sym, ap, _∙_}
 use mathlib.Core.Bool.{Bool, true, false, _&&_}
 use mathlib.Core.List.{List, [], _∷_, map}
-use Prim.Native.Nat.{ℕ, zero, suc, _+_, _-_, _*_, _≤_, _<_}
+use Prim.Native.Nat.{ℕ, _+_, _-_, _*_, _≤_, _<_}
 use native.Mathlib.Omega.{arith}
-use lib.ListN.{length, getD, set, take, drop, replicate, length-set, length-map}
+use lib.ListN.{length, getD, set, take, drop, replicate, length-set}
 use lib.Seq.{ext-getD, getD-set-same, getD-set-other}
 use lib.Dec.{eqb, ltb}
 use borrow.Author.Tests.{eqb-true, eqb-false}
-use Rattle.lists.specs.Lists.{all, keep, upto, sum}
-use Rattle.lists.proofs.Members.{getD-map, getD-upto, length-upto, zeros}
+use Rattle.lists.specs.Lists.{all, keep, sum}
+use Rattle.lists.proofs.Members.{zeros}
 use Rattle.limits.specs.Limits.{stateMost}
 use Rattle.format.specs.File.{records}
 use Rattle.format.specs.Maps.{classOf}
 use Rattle.table.proofs.Walks.{record-on, records-end}
-use Rattle.uses.specs.Uses.{Line, lineOf, linesOf, usesIn, classSum, classSums, statesFit, counted}
-use Rattle.uses.specs.Demands.{Fits}
-use Rattle.uses.proofs.Sums.{weigh, sum-first}
+use Rattle.usage.specs.Uses.{Line, lineOf, linesOf, usesIn, classSum, classSums, statesFit, counted}
+use Rattle.usage.specs.Demands.{Fits}
+use Rattle.usage.proofs.Sums.{weigh, sum-first, length-sums, sum-at}
 
 -- ---- the lines from a place on
 
@@ -38,14 +38,6 @@ states-tests n s = go (records 5 s)
     go (r ∷ rs) = λ i. ltb (lineOf r .state) n && go rs i
 
 -- ---- the sums
-
-pub length-sums : (m : List ℕ) (ls : List Line) → length (classSums m ls) ≡ stateMost
-unfolding classSums
-length-sums m ls = length-map (upto stateMost) (classSum m ls) ∙ length-upto stateMost
-
-pub sum-at : (m : List ℕ) (ls : List Line) (c : ℕ) → c < stateMost → getD (classSums m ls) c 0 ≡ classSum m ls c
-unfolding classSums
-sum-at m ls c h = getD-map (classSum m ls) (upto stateMost) c 0 0 (omega (arith, length-upto stateMost)) ∙ ap (classSum m ls) (getD-upto stateMost c 0 h)
 
 -- the lines from `at` on are still to be added
 pub record Adding (m s : List ℕ) (at : ℕ) (sums : List ℕ) (total : ℕ) : Type 0 where

@@ -5,17 +5,11 @@ ghost use lib.ListN.{length};
 ghost use Rattle.lists.specs.Lists.{sum, firstFailed};
 ghost use Rattle.limits.specs.Limits.{standard};
 ghost use Rattle.format.specs.Maps.{classOf};
-ghost use Rattle.uses.specs.Uses.{lineOf, statesFit, linesTests, counted, refusedBy, answerBy, usesOf};
-ghost use Rattle.uses.specs.Demands.{AnyOrder, ByStates, ZeroPast, Fits};
+ghost use Rattle.usage.specs.Uses.{lineOf, statesFit, linesTests, counted, refusedBy, answerBy, usesOf};
+ghost use Rattle.usage.specs.Demands.{AnyOrder, ByStates, ZeroPast, Fits};
 use limits::Limits;
 use relations::Checked;
-
-// What counting answers: the refusal's number or 0, a sum for each possible state by its number as a class, and the total.
-pub struct Counted {
-    pub number: u8,
-    pub sums: [u64; 40],
-    pub total: u64,
-}
+use usage::Counted;
 
 // The bytes of a line: "a state (one byte) and a use count (32 bits, little-endian)".
 const LINE: usize = 5;

@@ -1,7 +1,7 @@
 -- `capi::basilvault_search_within` meets its contract: the answer as a number, buffers and values. Assumes nothing.
 use borrow.Author.Needs.{needs}
 use mathlib.Core.Path.{ap, _∙_}
-use Rattle.search.specs.Answers.{solutionNumber, solutionValues}
+use Rattle.solutions.specs.Answers.{solutionNumber, solutionValues}
 use Rattle.capi.specs.Answers.{searchOut}
 use Rattle.capi.proofs.Answering.{answered, refused}
 use Rattle.capi.proofs.basilvault_search_within.Statement.{statement}

@@ -7,6 +7,7 @@ use Prim.Native.Nat.{ℕ}
 use borrow.Author.Tests.{not-true, not-false}
 use mathlib.Core.Bool.{true, false}
 use mathlib.Core.Path.{sym, ap, _∙_}
+use Rattle.solutions.proofs.Answers as answers
 use Rattle.search.proofs.Answering as laws
 use Rattle.lists.specs.Lists.{over}
 use lib.ListN.{take, drop}
@@ -21,7 +22,7 @@ returns c =
     let k = c .before .before .before .args .most in
     let b = c .before .before .before .args .budget in
     let a = c .before .before .before .args .answer .now in
-    laws.promised k l n b a (laws.refuse-list k l n b a (laws.list-many k n l (c .if1 .taken)))
+    answers.promised k l n b a (answers.refuse-list k l n b a (answers.list-many k n l (c .if1 .taken)))
 
 list-fits-requires : tie.Need-list-fits-requires
 list-fits-requires c κs = laws.room (c .if1 .left) (c .before .before .before .pre)
@@ -35,8 +36,8 @@ returns-2 c =
     let a = c .before .before .before .before .before .args .answer .now in
     let most = c .before .before .if1 .left in
     let room = laws.room most (c .before .before .before .before .before .pre) in
-    let unfit = laws.list-as k n l most false (sym (c .before .list-fits .ensures) ∙ not-true _ (c .if2 .taken)) in
-    laws.promised k l n b a (laws.refuse-list k l n b a unfit)
+    let unfit = answers.list-as k n l most false (sym (c .before .list-fits .ensures) ∙ not-true _ (c .if2 .taken)) in
+    answers.promised k l n b a (answers.refuse-list k l n b a unfit)
 
 returns-3 : tie.Need-returns-3
 returns-3 c =
@@ -47,8 +48,8 @@ returns-3 c =
     let a = c .before .before .before .before .before .before .args .answer .now in
     let most = c .before .before .before .if1 .left in
     let room = laws.room most (c .before .before .before .before .before .before .pre) in
-    let fits = laws.list-as k n l most true (sym (c .before .before .list-fits .ensures) ∙ not-false _ (c .before .if2 .left)) in
-    laws.promised k l n b a (laws.refuse-short k l n b a fits (c .if3 .taken))
+    let fits = answers.list-as k n l most true (sym (c .before .before .list-fits .ensures) ∙ not-false _ (c .before .if2 .left)) in
+    answers.promised k l n b a (answers.refuse-short k l n b a fits (c .if3 .taken))
 
 none-set-requires : tie.Need-none-set-requires
 none-set-requires c κs = search needs
@@ -66,8 +67,8 @@ solve-requires c κs =
     let k = c .before .before .before .before .before .before .before .before .args .most in
     let most = c .before .before .before .before .before .if1 .left in
     let room = laws.room most (c .before .before .before .before .before .before .before .before .pre) in
-    let fits = laws.list-as k n l most true (sym (c .before .before .before .before .list-fits .ensures) ∙ not-false _ (c .before .before .before .if2 .left)) in
-    let f = laws.list-formed k n l fits in
+    let fits = answers.list-as k n l most true (sym (c .before .before .before .before .list-fits .ensures) ∙ not-false _ (c .before .before .before .if2 .left)) in
+    let f = answers.list-formed k n l fits in
     laws.fresh n room (c .before .none-set .ensures) (f .1) (f .2)
 
 enum-known-ending : tie.Need-enum-known-ending
@@ -124,14 +125,14 @@ returns-4 c =
     let a = c .before .before .before .before .before .before .before .before .before .before .before .before .before .before .before .before .before .before .args .answer .now in
     let most = c .before .before .before .before .before .before .before .before .before .before .before .before .before .before .before .if1 .left in
     let room = laws.room most (c .before .before .before .before .before .before .before .before .before .before .before .before .before .before .before .before .before .before .pre) in
-    let fits = laws.list-as k n l most true (sym (c .before .before .before .before .before .before .before .before .before .before .before .before .before .before .list-fits .ensures) ∙ not-false _ (c .before .before .before .before .before .before .before .before .before .before .before .before .before .if2 .left)) in
+    let fits = answers.list-as k n l most true (sym (c .before .before .before .before .before .before .before .before .before .before .before .before .before .before .list-fits .ensures) ∙ not-false _ (c .before .before .before .before .before .before .before .before .before .before .before .before .before .if2 .left)) in
     let none = c .before .before .before .before .before .before .before .before .before .before .before .none-set .ensures in
     let v = c .before .before .before .before .before .before .before .before .before .solve .last .1 .1 .0 in
     let long = c .before .before .before .before .before .before .before .before .before .solve .kept .1 .1 .0 in
     let size = laws.prefix-length n room none in
     let found = laws.is-found l n b (c .before .before .before .before .before .before .before .before .before .solve .result .ending) v (c .before .before .before .before .before .before .before .before .before .solve .result .ceiling) size (c .before .before .before .before .before .before .before .before .before .solve .ensures) (c .before .before .before .before .before .before .ending .given .1) in
     let written = copied (take n (c .before .before .before .before .before .before .before .before .before .solve .last .1 .1 .0 ++ drop n (c .before .before .before .before .before .before .before .before .before .before .before .none-set .result))) a (c .before .before .copy .ensures .1) ∙ ap (λ (u : List ℕ). over u a) (laws.prefix-values n room none v long) in
-    laws.promised k l n b a (laws.answer-found k l n b a fits (c .before .before .before .before .before .before .before .before .before .before .before .before .if3 .left) found written)
+    answers.promised k l n b a (answers.answer-found k l n b a fits (c .before .before .before .before .before .before .before .before .before .before .before .before .if3 .left) found written)
 
 returns-5 : tie.Need-returns-5
 returns-5 c =
@@ -142,12 +143,12 @@ returns-5 c =
     let a = c .before .before .before .before .before .before .before .before .before .before .before .before .args .answer .now in
     let most = c .before .before .before .before .before .before .before .before .before .if1 .left in
     let room = laws.room most (c .before .before .before .before .before .before .before .before .before .before .before .before .pre) in
-    let fits = laws.list-as k n l most true (sym (c .before .before .before .before .before .before .before .before .list-fits .ensures) ∙ not-false _ (c .before .before .before .before .before .before .before .if2 .left)) in
+    let fits = answers.list-as k n l most true (sym (c .before .before .before .before .before .before .before .before .list-fits .ensures) ∙ not-false _ (c .before .before .before .before .before .before .before .if2 .left)) in
     let none = c .before .before .before .before .before .none-set .ensures in
     let v = c .before .before .before .solve .last .1 .1 .0 in
     let size = laws.prefix-length n room none in
     let absent = laws.is-absent l n b (c .before .before .before .solve .result .ending) v (c .before .before .before .solve .result .ceiling) size (c .before .before .before .solve .ensures) (c .enum-told .given .1) in
-    laws.promised k l n b a (laws.answer-absent k l n b a fits (c .before .before .before .before .before .before .if3 .left) absent)
+    answers.promised k l n b a (answers.answer-absent k l n b a fits (c .before .before .before .before .before .before .if3 .left) absent)
 
 returns-6 : tie.Need-returns-6
 returns-6 c =
@@ -158,12 +159,12 @@ returns-6 c =
     let a = c .before .before .before .before .before .before .before .before .before .before .before .before .args .answer .now in
     let most = c .before .before .before .before .before .before .before .before .before .if1 .left in
     let room = laws.room most (c .before .before .before .before .before .before .before .before .before .before .before .before .pre) in
-    let fits = laws.list-as k n l most true (sym (c .before .before .before .before .before .before .before .before .list-fits .ensures) ∙ not-false _ (c .before .before .before .before .before .before .before .if2 .left)) in
+    let fits = answers.list-as k n l most true (sym (c .before .before .before .before .before .before .before .before .list-fits .ensures) ∙ not-false _ (c .before .before .before .before .before .before .before .if2 .left)) in
     let none = c .before .before .before .before .before .none-set .ensures in
     let v = c .before .before .before .solve .last .1 .1 .0 in
     let size = laws.prefix-length n room none in
     let spent = laws.is-spent l n b (c .before .before .before .solve .result .ending) v (c .before .before .before .solve .result .ceiling) size (c .before .before .before .solve .ensures) (c .enum-told2 .given .1) in
-    laws.promised k l n b a (laws.answer-spent k l n b a fits (c .before .before .before .before .before .before .if3 .left) spent)
+    answers.promised k l n b a (answers.answer-spent k l n b a fits (c .before .before .before .before .before .before .if3 .left) spent)
 
 pub search-at-spec : {M : Type 1} → statement M
 search-at-spec =

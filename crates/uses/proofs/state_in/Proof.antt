@@ -1,6 +1,6 @@
 -- `uses::state_in` meets its contract: the first byte. Assumes nothing.
 use borrow.Author.Needs.{needs}
-use Rattle.uses.specs.Uses.{lineOf}
+use Rattle.usage.specs.Uses.{lineOf}
 use Rattle.uses.proofs.state_in.Statement.{statement}
 use Rattle.uses.proofs.state_in.Tie as tie
 

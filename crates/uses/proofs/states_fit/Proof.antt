@@ -9,7 +9,7 @@ use borrow.Author.Tests.{lt-ltb, le-ltb}
 use Rattle.lists.specs.Lists.{all}
 use Rattle.format.specs.File.{records}
 use Rattle.table.proofs.Walks.{Still, begin, records-passed, records-failed, records-done}
-use Rattle.uses.specs.Uses.{lineOf}
+use Rattle.usage.specs.Uses.{lineOf}
 use Rattle.uses.proofs.Adding.{states-tests}
 use Rattle.uses.proofs.states_fit.Statement.{statement}
 use Rattle.uses.proofs.states_fit.Tie as tie

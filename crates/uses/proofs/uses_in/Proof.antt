@@ -1,6 +1,6 @@
 -- `uses::uses_in` meets its contract: the four bytes are below 256, so that the number fits. Assumes nothing.
 use borrow.Author.Needs.{needs}
-use Rattle.uses.specs.Uses.{lineOf}
+use Rattle.usage.specs.Uses.{lineOf}
 use Rattle.uses.proofs.uses_in.Statement.{statement}
 use Rattle.uses.proofs.uses_in.Tie as tie
 

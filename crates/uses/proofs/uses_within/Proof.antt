@@ -2,8 +2,8 @@
 use borrow.Author.Needs.{needs}
 use mathlib.Core.Path.{sym, _∙_, subst}
 use Rattle.relations.proofs.Answers.{accepted-number, refused-number}
-use Rattle.uses.specs.Demands.{Fits}
-use Rattle.uses.proofs.Promises.{class-small, uses-accepted, uses-refused, refused-fits, promised}
+use Rattle.usage.specs.Demands.{Fits}
+use Rattle.usage.proofs.Promises.{class-small, uses-accepted, uses-refused, refused-fits, promised}
 use Rattle.uses.proofs.uses_within.Statement.{statement}
 use Rattle.uses.proofs.uses_within.Tie as tie
 

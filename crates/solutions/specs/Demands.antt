@@ -4,8 +4,8 @@ use mathlib.Core.List.{List}
 use Prim.Native.Nat.{ℕ, _≤_}
 use lib.ListN.{take}
 use Rattle.cnf.specs.Clauses.{clausesIn, Model, Maximal, Horn}
-use Rattle.search.specs.declared.Solution.{Solution}
-use Rattle.search.specs.declared.Solution.the-variants.{Solved, Refused}
+use Rattle.solutions.specs.declared.Solution.{Solution}
+use Rattle.solutions.specs.declared.Solution.the-variants.{Solved, Refused}
 
 -- of clause words, a number of variables, the answer and the answer bytes at exit
 pub record SearchSound (list : List ℕ) (variables : ℕ) (r : Solution) (answer : List ℕ) : Type 0 where

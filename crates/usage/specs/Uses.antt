@@ -11,7 +11,7 @@ use Rattle.format.specs.File.{records, tableOf}
 use Rattle.format.specs.Language.{count}
 use Rattle.format.specs.Maps.{classOf}
 use Rattle.relations.specs.Check.{checkNumber}
-use Rattle.uses.specs.declared.Counted.{Counted}
+use Rattle.usage.specs.declared.Counted.{Counted}
 
 -- "lines of a state (one byte) and a use count (32 bits, little-endian)"
 pub record Line : Type 0 where

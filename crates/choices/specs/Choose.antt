@@ -10,9 +10,9 @@ use Rattle.format.specs.Reading.{readNumber}
 use Rattle.relations.specs.declared.Checked.{Checked}
 use Rattle.relations.specs.declared.Checked.the-variants.{Accepted, Refused}
 use Rattle.relations.specs.Check.{checkOf}
-use Rattle.choose.specs.declared.Which.{Which}
-use Rattle.choose.specs.declared.Which.the-variants.{Neither, First, Second}
-use Rattle.choose.specs.declared.Choice.{Choice}
+use Rattle.choices.specs.declared.Which.{Which}
+use Rattle.choices.specs.declared.Which.the-variants.{Neither, First, Second}
+use Rattle.choices.specs.declared.Choice.{Choice}
 
 -- "that one of the two lent maps which the check accepts. If both pass, the one with fewer classes comes back, the first when equal."
 unfoldable pub pick : Checked → Checked → Which

@@ -1,6 +1,6 @@
 -- Which map is picked, its number, and what is handed back: a law for each way to a return of src/, and the promises. Assumes nothing.
 use mathlib.Core.Path.{_≡_, refl, sym, ap, _∙_, subst}
-use mathlib.Core.Logic.{_⊎_, inl, inr, ⊎-elim}
+use mathlib.Core.Logic.{inl, inr, ⊎-elim}
 use mathlib.Core.Bool.{Bool, true, false}
 use mathlib.Core.List.{List, [], _∷_}
 use Prim.Native.Nat.{ℕ, _≤_, _<_}
@@ -16,20 +16,17 @@ use Rattle.format.specs.Reading.{readNumber, Readable}
 use Rattle.format.specs.Maps.{classes}
 use Rattle.format.proofs.Bytes.{read-well-formed}
 use Rattle.format.proofs.Passed.{read-within, formed-tested}
-use Rattle.tops.specs.declared.Examined.{Examined}
-use Rattle.tops.specs.Sections.{examinedOf}
 use Rattle.relations.specs.declared.Checked.{Checked}
 use Rattle.relations.specs.declared.Checked.the-variants.{Accepted, Refused}
 use Rattle.relations.specs.Check.{checkNumber, checkOf}
 use Rattle.relations.specs.Accepting.{IsAccepted}
 use Rattle.relations.proofs.Accepted.{accepted, Accepted as Accepted′}
-use Rattle.relations.proofs.Answers.{check-refused, Answers, passes-by, refuses-by, answers}
-use Rattle.maps.proofs.Checking.{examined-number, unread}
-use Rattle.choose.specs.declared.Which.{Which}
-use Rattle.choose.specs.declared.Which.the-variants.{Neither, First, Second}
-use Rattle.choose.specs.declared.Choice.{Choice}
-use Rattle.choose.specs.Choose.{pick, whichOf, some, chooseNumber, choiceOf, sliceOf, handed, chooseOf}
-use Rattle.choose.specs.Demands.{Passes, Chosen, NumberTells, NeitherPasses, HandedBack}
+use Rattle.relations.proofs.Answers.{Answers, passes-by, refuses-by, answers}
+use Rattle.choices.specs.declared.Which.{Which}
+use Rattle.choices.specs.declared.Which.the-variants.{Neither, First, Second}
+use Rattle.choices.specs.declared.Choice.{Choice}
+use Rattle.choices.specs.Choose.{pick, whichOf, some, chooseNumber, choiceOf, sliceOf, handed, chooseOf}
+use Rattle.choices.specs.Demands.{Passes, Chosen, NumberTells, NeitherPasses, HandedBack}
 
 -- of a map that passes the table is readable and has a state, and the map a byte for it
 module _ (L : Limits) (b m : List ℕ) (p : Passes L b m) where
@@ -97,7 +94,7 @@ module _ (L : Limits) (b m n : List ℕ) where
   unfolding chooseNumber
   read-number r = rw (eq-eqb (readNumber L b) 0 r, chooseNumber)
 
-  unread-number : (Readable L b → ⊥) → chooseNumber L b m n ≡ readNumber L b
+  pub unread-number : (Readable L b → ⊥) → chooseNumber L b m n ≡ readNumber L b
   unfolding chooseNumber
   unread-number h = rw (ne-eqb (readNumber L b) 0 h, chooseNumber)
 
@@ -108,16 +105,7 @@ module _ (L : Limits) (b m n : List ℕ) where
   number-0 : some (whichOf L b m n) ≡ true → Readable L b → chooseNumber L b m n ≡ 0
   number-0 e r = read-number r ∙ passes 40 [] e ∙ no-test
 
-  -- a table that is not readable
-  pub decide-unread : {x : Examined} → x ≡ examinedOf L b → (x .number ≡ 0 → ⊥) → record { number = x .number; which = Neither } ≡ choiceOf L b m n
-  unfolding choiceOf
-  decide-unread {x} e h =
-      let k = examined-number L b e in
-      let number : x .number ≡ chooseNumber L b m n = k ∙ sym (unread-number (λ r. h (k ∙ r))) in
-      let which = pick-neither (check-refused L b m (unread L b m e h) h) (check-refused L b n (unread L b n e h) h) in
-      λ i. record { number = number i; which = which i }
-
-  -- and one that is
+  -- a table that is readable
   module _ (r : Readable L b) where
     pub decide-neither : Neither ≡ whichOf L b m n → record { number = 40; which = Neither } ≡ choiceOf L b m n
     unfolding choiceOf

@@ -11,8 +11,8 @@ use Rattle.limits.specs.Limits.{stateMost}
 use Rattle.format.specs.File.{tableOf}
 use Rattle.format.specs.Language.{count}
 use Rattle.format.specs.Maps.{classOf, classes}
-use Rattle.uses.specs.declared.Counted.{Counted}
-use Rattle.uses.specs.Uses.{linesOf, stateSum, usesOf}
+use Rattle.usage.specs.declared.Counted.{Counted}
+use Rattle.usage.specs.Uses.{linesOf, stateSum, usesOf}
 
 -- "over the lines in another order": bytes with the same lines in any order have this answer, refused or not
 abbrev pub AnyOrder : Limits → List ℕ → List ℕ → List ℕ → Counted → Type 0

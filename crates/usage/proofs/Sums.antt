@@ -6,8 +6,11 @@ use Prim.Native.Nat.{ℕ, zero, suc, _+_, _≤_, _<_}
 use native.Mathlib.Omega.{arith}
 use lib.Dec.{eqb}
 use borrow.Author.Tests.{eqb-true, eqb-false, ne-eqb}
+use lib.ListN.{length, getD, length-map}
+use Rattle.limits.specs.Limits.{stateMost}
+use Rattle.lists.proofs.Members.{getD-map, getD-upto, length-upto}
 use Rattle.lists.specs.Lists.{all, keep, upto, sum}
-use Rattle.uses.specs.Uses.{Line, usesIn}
+use Rattle.usage.specs.Uses.{Line, usesIn, classSum, classSums}
 
 -- a number that counts where a test passes
 unfoldable pub weigh : Bool → ℕ → ℕ
@@ -149,3 +152,13 @@ module _ (f : Line → Bool) where
 
 pub total-any-order : {ls ks : List Line} → List·Permᴰ ls ks → usesIn ls ≡ usesIn ks
 total-any-order {ls} {ks} d = ap usesIn (sym (keep-every ls)) ∙ any-order (λ l. true) d ∙ ap usesIn (keep-every ks)
+
+-- ---- the sums of all classes
+
+pub length-sums : (m : List ℕ) (ls : List Line) → length (classSums m ls) ≡ stateMost
+unfolding classSums
+length-sums m ls = length-map (upto stateMost) (classSum m ls) ∙ length-upto stateMost
+
+pub sum-at : (m : List ℕ) (ls : List Line) (c : ℕ) → c < stateMost → getD (classSums m ls) c 0 ≡ classSum m ls c
+unfolding classSums
+sum-at m ls c h = getD-map (classSum m ls) (upto stateMost) c 0 0 (omega (arith, length-upto stateMost)) ∙ ap (classSum m ls) (getD-upto stateMost c 0 h)

@@ -10,9 +10,9 @@ use Rattle.format.specs.Reading.{Readable}
 use Rattle.format.specs.Maps.{classes}
 use Rattle.relations.specs.Check.{checkOf}
 use Rattle.relations.specs.Accepting.{IsAccepted}
-use Rattle.choose.specs.declared.Which.the-variants.{Neither}
-use Rattle.choose.specs.declared.Choice.{Choice}
-use Rattle.choose.specs.Choose.{chooseNumber}
+use Rattle.choices.specs.declared.Which.the-variants.{Neither}
+use Rattle.choices.specs.declared.Choice.{Choice}
+use Rattle.choices.specs.Choose.{chooseNumber}
 
 -- the check accepts a map
 abbrev pub Passes : Limits → List ℕ → List ℕ → Type 0

@@ -21,11 +21,10 @@ use Rattle.format.proofs.Facts.{most-states}
 use Rattle.relations.specs.Check.{checkNumber}
 use Rattle.relations.proofs.Accepted.{accepted}
 use Rattle.relations.proofs.Numbered.{class-below, classes-few, class-under}
-use Rattle.uses.specs.declared.Counted.{Counted}
-use Rattle.uses.specs.Uses.{Line, linesOf, usesIn, classSum, stateSum, classSums, linesFit, statesFit, linesTests, usesNumber, counted, refusedBy, answerBy, usesOf}
-use Rattle.uses.specs.Demands.{AnyOrder, ByStates, ZeroPast, Fits}
-use Rattle.uses.proofs.Sums.{sum-no-part, by-key, by-every-key, any-order, all-any-order, total-any-order}
-use Rattle.uses.proofs.Adding.{length-sums, sum-at}
+use Rattle.usage.specs.declared.Counted.{Counted}
+use Rattle.usage.specs.Uses.{Line, linesOf, usesIn, classSum, stateSum, classSums, linesFit, statesFit, linesTests, usesNumber, counted, refusedBy, answerBy, usesOf}
+use Rattle.usage.specs.Demands.{AnyOrder, ByStates, ZeroPast, Fits}
+use Rattle.usage.proofs.Sums.{sum-no-part, by-key, by-every-key, any-order, all-any-order, total-any-order, length-sums, sum-at}
 
 -- ---- 32 and 33
 

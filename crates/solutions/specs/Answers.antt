@@ -11,8 +11,8 @@ use Rattle.limits.specs.Limits.{limitsFit}
 use Rattle.cnf.specs.Clauses.{clausesIn, whole, clauseFits}
 use Rattle.cnf.specs.Search.{Outcome, solved, none-exists, spent, unfinished, searchFrom}
 use Rattle.pairs.specs.Pairs.{pairs}
-use Rattle.search.specs.declared.Solution.{Solution}
-use Rattle.search.specs.declared.Solution.the-variants.{Solved, Refused}
+use Rattle.solutions.specs.declared.Solution.{Solution}
+use Rattle.solutions.specs.declared.Solution.the-variants.{Solved, Refused}
 
 -- 11: "over 276 variables, a clause past the end, a variable past the count or twice in a clause"; most is the 276, or what the limits in force have
 unfoldable pub listFits : ℕ → List ℕ → ℕ → Bool
