@@ -8,7 +8,7 @@ use lib.Seq.{take-suc, take-all, take-at, length-take-le}
 use native.Mathlib.Numerals.{add-one}
 use Rattle.lists.specs.Lists.{over}
 use Rattle.lists.proofs.Copying.{copied}
-use Rattle.quotient.proofs.Writing.{part-put}
+use Rattle.writing.proofs.Writing.{part-put}
 use Rattle.io.specs.Counts.{Counts}
 use Rattle.basilvault.specs.Text.{Put, decimalText, hexText, numbersText, mapName, mapText}
 use Rattle.basilvault.proofs.Text.{hex-length}

@@ -9,7 +9,7 @@ use lib.ListN.{length, getD, set, take, drop, length-append, length-map, length-
 use lib.Seq.{drop-cons, take-suc-set, append-snoc, length-take-le}
 use borrow.Author.Tests.{le-leb, lt-leb}
 use Rattle.table.specs.Keys.{key}
-use Rattle.quotient.specs.Keys.{keysOf}
+use Rattle.writing.specs.Keys.{keysOf}
 use Rattle.loads.specs.Loads.{draw, present, after}
 use Rattle.loads.proofs.Present.{present-in, present-out}
 use Rattle.generate.specs.Sections.{recordAt, Draws}

@@ -15,10 +15,9 @@ use Rattle.format.proofs.Bytes.{Bytes}
 use Rattle.table.specs.Keys.{key}
 use Rattle.quotients.specs.Quotient.{QuotientDone}
 use Rattle.quotients.specs.declared.Written.the-variants.{Refused}
-use Rattle.quotient.specs.Keys.{keysOf, lastBytes, Holds}
-use Rattle.quotient.specs.Sections.{keyedTable, writtenFor}
-use Rattle.quotient.proofs.Keys.{Same}
-use Rattle.quotient.proofs.Quotienting.{keys-back}
+use Rattle.writing.specs.Keys.{keysOf, lastBytes, Holds}
+use Rattle.writing.specs.Tables.{keyedTable, writtenFor}
+use Rattle.writing.proofs.Keys.{Same, keys-back}
 use Rattle.loads.specs.Loads.{Load, symbolBytes, stateBytes, possible, present, possibleInternals, possibleCalls, possibleReturns, seedCalls, seedReturns, described, describedBytes, recordsFew}
 use Rattle.generate.specs.Sections.{Counts, Draws, FewKeys, drawnFor}
 use Rattle.generate.specs.declared.draws.Drawn.{Drawn}

@@ -15,9 +15,9 @@ use Rattle.limits.specs.Limits.{limitsFit}
 use Rattle.limits.proofs.Within.{limits-within}
 use Rattle.format.specs.File.{bytesOf}
 use Rattle.quotients.specs.declared.Written.the-variants.{Length, Refused}
-use Rattle.quotient.specs.Keys.{Holds}
-use Rattle.quotient.specs.Sections.{keyedTable, writtenFor}
-use Rattle.quotient.proofs.Whole.{bytes-long}
+use Rattle.writing.specs.Keys.{Holds}
+use Rattle.writing.specs.Tables.{keyedTable, writtenFor}
+use Rattle.writing.proofs.Whole.{bytes-long}
 use Rattle.loads.specs.Loads.{Load, symbolBytes, stateBytes, described, describedBytes, sizesFit, recordsFew, generateNumber, generateOf}
 use Rattle.generate.specs.Sections.{Counts, drawnFor}
 use Rattle.loads.proofs.Bytes.{length-symbols, length-states}

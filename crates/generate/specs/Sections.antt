@@ -12,8 +12,8 @@ use Rattle.format.specs.Limits.{moveLimit, returnLimit}
 use Rattle.table.specs.Keys.{key}
 use Rattle.quotients.specs.Quotient.{QuotientDone}
 use Rattle.quotients.specs.declared.Written.the-variants.{Refused}
-use Rattle.quotient.specs.Keys.{keysOf, Holds}
-use Rattle.quotient.specs.Sections.{writtenFor}
+use Rattle.writing.specs.Keys.{keysOf, Holds}
+use Rattle.writing.specs.Tables.{writtenFor}
 use Rattle.loads.specs.Loads.{Load, tuples, present, after, recordsFew, described, describedBytes}
 use Rattle.generate.specs.declared.draws.Drawn.{Drawn}
 

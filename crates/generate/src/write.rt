@@ -4,7 +4,7 @@ ghost use Prim.Native.Nat.{_+_, _<_, _≤_};
 ghost use lib.ListN.{length};
 ghost use Rattle.lists.specs.Lists.{over};
 ghost use Rattle.format.specs.File.{bytesOf};
-ghost use Rattle.quotient.specs.Sections.{keyedTable, writtenFor};
+ghost use Rattle.writing.specs.Tables.{keyedTable, writtenFor};
 ghost use Rattle.loads.specs.Loads.{kindOf, symbolBytes, stateByte, stateBytes};
 ghost use Rattle.generate.specs.Sections.{Counts, FewKeys};
 use quotients::Written;
@@ -90,7 +90,7 @@ pub(crate) fn write_keys(
     put_symbols(internals, calls, symbols, &mut symbol_bytes);
     let mut state_bytes = [0u8; 40];
     put_states(states, &mut state_bytes);
-    quotient::put_table(
+    writing::put_table(
         VERSION,
         &symbol_bytes[..symbols],
         &state_bytes[..states],

@@ -36,12 +36,13 @@ use Rattle.quotients.specs.declared.Written.{Written}
 use Rattle.quotients.specs.declared.Written.the-variants.{Length, Refused}
 use Rattle.quotients.proofs.Image.{images-mem, images-length, image-length}
 use Rattle.quotients.proofs.Theorems.{writes-quotient, writes-same-words, writes-same-marks, writes-none-open, writes-steps, writes-same-scripts}
-use Rattle.quotient.specs.Keys.{lastBytes, Holds}
-use Rattle.quotient.specs.Sections.{classBytes, keyedTable, Sized, imageKeys, partedQuotient, writtenFor}
+use Rattle.writing.specs.Keys.{lastBytes, Holds}
+use Rattle.writing.specs.Tables.{keyedTable, writtenFor}
+use Rattle.writing.proofs.Keys.{Same, keys-back}
+use Rattle.writing.proofs.Whole.{bytes-long}
+use Rattle.images.proofs.Collecting.{image-bytes}
+use Rattle.quotient.specs.Sections.{classBytes, Sized, imageKeys, partedQuotient}
 use Rattle.quotient.proofs.ClassBytes.{length-bytes}
-use Rattle.quotient.proofs.Keys.{Same, last-key}
-use Rattle.quotient.proofs.Collecting.{image-bytes}
-use Rattle.quotient.proofs.Whole.{bytes-long}
 
 -- ---- counts
 
@@ -53,10 +54,6 @@ classes-small (c ∷ m) b = let h : c < 256 = b 0 in omega (arith, classes-small
 image-keys-few : (w : ℕ) (s f m : List ℕ) → length (imageKeys w s f m) ≤ length (records w s)
 image-keys-few w s f m =
     omega (arith, length-map (images m (keep (kept f) (records w s))) key, images-length m (keep (kept f) (records w s)), keep-le (kept f) (records w s))
-
--- as many numbers of the buffer as there are
-pub holds-long : {buffer ks : List ℕ} {n : ℕ} → Holds buffer n ks → n ≡ length (take n buffer)
-holds-long h = h .count ∙ ap length (sym (h .same))
 
 -- the state bytes, put to the front of a buffer
 pub states-put : (t : Table) (m : List ℕ) (k : ℕ) (old : List ℕ) {now : List ℕ} → now ≡ over (classBytes t m k) old → Holds now k (classBytes t m k)
@@ -117,12 +114,6 @@ parts-bytes (suc k) w xs b r d = go (cases-cons d) (parts-bytes k w (drop w xs) 
     go : (r ≡ take w xs) ⊎ List·Memᴰ r (parts k w (drop w xs)) → (List·Memᴰ r (parts k w (drop w xs)) → Bytes r) → Bytes r
     go (inl e) ih = subst Bytes (sym e) (part-bytes xs b 0 w)
     go (inr q) ih = ih q
-
-pub keys-back : (w : ℕ) → w ≤ 4 → (rs : List (List ℕ)) → ((r : List ℕ) → List·Memᴰ r rs → Same w r) → map (lastBytes w) (map key rs) ≡ rs
-keys-back w l [] h = refl
-keys-back w l (r ∷ rs) h =
-    let d = h r (List·Memᴰ·head refl) in
-    λ i. (ap (λ n. lastBytes n (key r)) (sym (d .0)) ∙ last-key r (omega (arith, d .0)) (d .1)) i ∷ keys-back w l rs (λ s q. h s (List·Memᴰ·tail q)) i
 
 module _ (w : ℕ) (l : w ≤ 4) (s f m : List ℕ) (bs : Bytes s) (bm : Bytes m) where
   images-same : (r : List ℕ) → List·Memᴰ r (images m (keep (kept f) (records w s))) → Same w r

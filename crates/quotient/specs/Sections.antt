@@ -1,17 +1,17 @@
 -- What the functions of src/ are stated with: the parts of a table that they are lent. Assumes nothing.
-use mathlib.Core.Bool.{Bool, true, false}
-use mathlib.Core.List.{List, [], _∷_, map}
-use Prim.Native.Nat.{ℕ, _+_, _*_, _/_, _%_, _≤_}
+use mathlib.Core.Bool.{Bool}
+use mathlib.Core.List.{List, map}
+use Prim.Native.Nat.{ℕ, _/_, _%_, _≤_}
 use lib.ListN.{length}
-use lib.Dec.{eqb, leb}
-use Rattle.lists.specs.Lists.{keep, gather, upto, over}
+use lib.Dec.{eqb}
+use Rattle.lists.specs.Lists.{keep, upto}
 use Rattle.limits.specs.Limits.{symbolMost}
-use Rattle.format.specs.File.{Table, records, bytes16}
+use Rattle.format.specs.File.{Table, records}
 use Rattle.format.specs.Maps.{classes}
 use Rattle.maps.specs.Sections.{ofStates, kept}
-use Rattle.quotients.specs.Quotient.{images, classByte, QuotientDone}
-use Rattle.quotients.specs.declared.Written.the-variants.{Length, Refused}
-use Rattle.quotient.specs.Keys.{keysOf, lastBytes}
+use Rattle.quotients.specs.Quotient.{images, classByte}
+use Rattle.writing.specs.Keys.{keysOf}
+use Rattle.writing.specs.Tables.{keyedTable}
 
 -- a state byte has the flag 1 "for initial" or 2 "for accepting"
 unfoldable pub flagged : ℕ → ℕ → Bool
@@ -20,22 +20,6 @@ flagged flag byte = eqb (byte / flag % 2) 1
 -- the state bytes of n classes
 abbrev pub classBytes : Table → List ℕ → ℕ → List ℕ
 classBytes t m n = map (classByte t m) (upto n)
-
--- a table of a version whose records are given by their keys
-abbrev pub keyedTable : ℕ → List ℕ → List ℕ → List ℕ → List ℕ → List ℕ → Table
-keyedTable version symbols states internals calls returns =
-    record {
-      version = version;
-      symbols = symbols;
-      states = states;
-      internals = map (lastBytes 3) internals;
-      calls = map (lastBytes 3) calls;
-      returns = map (lastBytes 4) returns;
-    }
-
--- the trailer of a version behind so many symbols, states, internals, calls and returns
-unfoldable pub trailerFrom : ℕ → ℕ → ℕ → ℕ → ℕ → ℕ → List ℕ
-trailerFrom v y s i c r = gather bytes16 ((y + (s + (3 * i + (3 * c + 4 * r)))) ∷ (s + (3 * i + (3 * c + 4 * r))) ∷ (3 * i + (3 * c + 4 * r)) ∷ (3 * c + 4 * r) ∷ (4 * r) ∷ v ∷ [])
 
 -- ---- over the parts of a table
 
@@ -54,10 +38,3 @@ imageKeys w s f m = keysOf (images m (keep (kept f) (records w s)))
 abbrev pub partedQuotient : ℕ → List ℕ → List ℕ → List ℕ → List ℕ → List ℕ → List ℕ → List ℕ → Table
 partedQuotient version symbols states internals calls returns f m =
     keyedTable version symbols (classBytes (ofStates states) m (classes m)) (imageKeys 3 internals f m) (imageKeys 3 calls f m) (imageKeys 4 returns f m)
-
--- the answer and the output where these bytes are to be written: "21 output short"
-unfoldable pub writtenFor : List ℕ → List ℕ → QuotientDone
-writtenFor bytes out = elim (leb (length bytes) (length out)) [
-  | true ↦ record { answer = Length (length bytes); out = over bytes out }
-  | false ↦ record { answer = Refused 21; out = out }
-]

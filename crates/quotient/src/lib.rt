@@ -7,19 +7,19 @@ ghost use Rattle.format.specs.Reading.{Readable};
 ghost use Rattle.maps.specs.Sections.{Known};
 ghost use Rattle.quotients.specs.Quotient.{quotientBytes, quotientOf};
 ghost use Rattle.quotients.specs.Demands.{WritesQuotient, WritesSameWords, WritesSameMarks, WritesNoneOpen, WritesSteps, WritesSameScripts};
-ghost use Rattle.quotient.specs.Sections.{Sized, partedQuotient, writtenFor};
+ghost use Rattle.writing.specs.Tables.{writtenFor};
+ghost use Rattle.quotient.specs.Sections.{Sized, partedQuotient};
 
-mod images;
-mod write;
+mod classes;
 
+use classes::put_states;
 use format::Starts;
 use images::collect;
 use limits::Limits;
 use maps::class_count;
 use quotients::Written;
 use table::Section;
-use write::put_states;
-pub use write::put_table;
+use writing::put_table;
 
 // The quotient over the version and the parts of a table: its length is known before anything is written.
 fn write_parts(

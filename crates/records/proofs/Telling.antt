@@ -11,7 +11,7 @@ use Rattle.lists.proofs.Members.{zeros}
 use Rattle.lists.proofs.Copying.{length-over}
 use Rattle.format.specs.File.{records}
 use Rattle.maps.specs.Sections.{kept}
-use Rattle.quotient.proofs.Writing.{Writing, begun, written, part-room, part-put, finished}
+use Rattle.writing.proofs.Writing.{Writing, begun, written, part-room, part-put, finished}
 use Rattle.fates.specs.declared.Recorded.the-variants.{Counts, Refused}
 use Rattle.fates.specs.Fates.{keptMark, foldedMark, deadMark, sectionFates, having}
 use Rattle.fates.proofs.Counts.{length-fates}

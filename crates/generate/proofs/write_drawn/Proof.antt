@@ -3,7 +3,7 @@ use borrow.Author.Tests.{not-true, not-false}
 use mathlib.Core.Path.{refl}
 use mathlib.Core.Logic.{inl, inr}
 use native.Mathlib.Omega.{arith}
-use Rattle.quotient.proofs.Quotienting.{holds-long}
+use Rattle.writing.proofs.Keys.{holds-long}
 use Rattle.loads.specs.Loads.{Load, loadOf}
 use Rattle.generate.proofs.Keyed.{held, internals-many, calls-many, returns-many, few-keys, few-drawn}
 use borrow.Author.Needs.{needs}

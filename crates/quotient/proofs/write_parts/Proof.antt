@@ -1,5 +1,6 @@
 -- `quotient::write_parts` meets its contract: too short, or written. Assumes nothing.
-use Rattle.quotient.proofs.Quotienting.{Few, counts-few, states-put, fits, short, put, holds-long}
+use Rattle.writing.proofs.Keys.{holds-long}
+use Rattle.quotient.proofs.Quotienting.{Few, counts-few, states-put, fits, short, put}
 use Rattle.maps.specs.Sections.{ofStates}
 use native.Mathlib.Omega.{arith}
 use borrow.Author.Needs.{needs}

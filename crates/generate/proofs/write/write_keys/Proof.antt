@@ -1,6 +1,6 @@
 -- `generate::write::write_keys` meets its contract: too short, or written. Assumes nothing.
 use native.Mathlib.Omega.{arith}
-use Rattle.quotient.proofs.Quotienting.{holds-long}
+use Rattle.writing.proofs.Keys.{holds-long}
 use Rattle.loads.specs.Loads.{symbolBytes, stateBytes}
 use Rattle.loads.proofs.Bytes.{length-symbols, length-states}
 use Rattle.generate.proofs.Writing.{put-front, short, room, put}

@@ -1,0 +1,3 @@
+pub mod Keys
+pub mod Inserting
+pub mod Collecting
