@@ -5,10 +5,10 @@ use mathlib.Core.Path.{_≡_, refl, sym, ap, _∙_, subst}
 use mathlib.Core.Logic.{_≢_}
 use mathlib.Core.List.{List, [], List·Memᴰ}
 use Prim.Native.Nat.{ℕ, zero, suc, _*_, _-_, _/_, _%_}
-use lib.ListN.{set, replicate}
+use lib.ListN.{length, set, replicate, length-replicate}
 use Rattle.cnf.specs.Search.{Seen, broken, forcing, quiet, scan, lowestUnset, Next, goes, ends, Outcome, unfinished, Guess, undo, decide, act, step, run, searchFrom}
-use Rattle.cnf.specs.Closing.{Formed, Values, Found, UnitSteps, stay, more, AtRest, Closed, breaks, rests, Closes}
-use Rattle.cnf.proofs.Values.{⊑-antisym}
+use Rattle.cnf.specs.Closing.{Formed, Values, _⊑_, Found, AtRest, Closed, UnitSteps, stay, Closes, breaks, more, rests}
+use Rattle.cnf.proofs.Values.{⊑-antisym, none-below}
 use Rattle.cnf.proofs.Found.{scan-found}
 use Rattle.cnf.proofs.Steps.{stateOf, steps, After}
 use Rattle.cnf.proofs.Sound.{SoundState, SoundOutcome, sound-kept, start-sound}
@@ -99,16 +99,35 @@ module _ (cs : List (List ℕ)) (n b : ℕ) (formed : Formed cs n) where
   pub turns-search : (o : Outcome) → LeadsTo cs n b (atStart n) o → o ≡ searchFrom cs n b
   turns-search o l = leads-one cs n b (atStart n) o (searchFrom cs n b) l leads-search
 
--- ---- the same clauses in another list
+-- ---- clauses that are at rest under the same values
 
-module _ (cs ds : List (List ℕ)) (to : (c : List ℕ) → List·Memᴰ c cs → List·Memᴰ c ds) (from : (c : List ℕ) → List·Memᴰ c ds → List·Memᴰ c cs) where
-  pub closes-members : (v : List ℕ) (c : Closed) → Closes cs v c → Closes ds v c
-  closes-members v breaks h = λ u p q. h u p (λ c m. q c (to c m))
-  closes-members v (rests w) h = record { long = h .long; small = h .small; extends = h .extends; at-rest = λ c m. h .at-rest c (from c m); least = λ u p q. h .least u p (λ c m. q c (to c m)) }
+module _ (cs ds : List (List ℕ)) (to : (u : List ℕ) → AtRest cs u → AtRest ds u) (from : (u : List ℕ) → AtRest ds u → AtRest cs u) where
+  pub closes-alike : (v : List ℕ) (c : Closed) → Closes cs v c → Closes ds v c
+  closes-alike v breaks h = λ u p q. h u p (from u q)
+  closes-alike v (rests w) h = record { long = h .long; small = h .small; extends = h .extends; at-rest = to w (h .at-rest); least = λ u p q. h .least u p (from u q) }
 
-  leads-members : (n b : ℕ) (t : Next) (o : Outcome) → LeadsTo cs n b t o → LeadsTo ds n b t o
-  leads-members n b t o there = there
-  leads-members n b t o (turn {v = v} {gs = gs} {k = k} c z h r) = turn c z (closes-members v c h) (leads-members n b (turnTo b gs k c) o r)
+  leads-alike : (n b : ℕ) (t : Next) (o : Outcome) → LeadsTo cs n b t o → LeadsTo ds n b t o
+  leads-alike n b t o there = there
+  leads-alike n b t o (turn {v = v} {gs = gs} {k = k} c z h r) = turn c z (closes-alike v c h) (leads-alike n b (turnTo b gs k c) o r)
 
-  pub members-same : (n b : ℕ) → Formed cs n → Formed ds n → searchFrom cs n b ≡ searchFrom ds n b
-  members-same n b f g = turns-search ds n b g (searchFrom cs n b) (leads-members n b (atStart n) (searchFrom cs n b) (leads-search cs n b f))
+  -- the outcome depends on these values alone
+  pub alike-same : (n b : ℕ) → Formed cs n → Formed ds n → searchFrom cs n b ≡ searchFrom ds n b
+  alike-same n b f g = turns-search ds n b g (searchFrom cs n b) (leads-alike n b (atStart n) (searchFrom cs n b) (leads-search cs n b f))
+
+-- the same clauses in another list
+pub members-rest : (cs ds : List (List ℕ)) → ((c : List ℕ) → List·Memᴰ c ds → List·Memᴰ c cs) → (u : List ℕ) → AtRest cs u → AtRest ds u
+members-rest cs ds from u q = λ c m. q c (from c m)
+
+pub members-same : (cs ds : List (List ℕ)) → ((c : List ℕ) → List·Memᴰ c cs → List·Memᴰ c ds) → ((c : List ℕ) → List·Memᴰ c ds → List·Memᴰ c cs) → (n b : ℕ) → Formed cs n → Formed ds n → searchFrom cs n b ≡ searchFrom ds n b
+members-same cs ds to from = alike-same cs ds (members-rest cs ds from) (members-rest ds cs to)
+
+-- where every rest extends the values, closing them closes the values of which none is set
+pub closes-below : (cs : List (List ℕ)) (v : List ℕ) (c : Closed) → ((u : List ℕ) → AtRest cs u → v ⊑ u) → Closes cs v c → Closes cs (replicate (length v) 2) c
+closes-below cs v breaks low h = λ u p q. h u (low u q) q
+closes-below cs v (rests w) low h = record {
+  long = h .long ∙ sym (length-replicate (length v) 2);
+  small = h .small;
+  extends = none-below (length v) w;
+  at-rest = h .at-rest;
+  least = λ u p q. h .least u (low u q) q;
+}

@@ -19,11 +19,11 @@ use Rattle.cnf.specs.Clauses.{valueOf, Right, Assignment, Model, Horn}
 use Rattle.cnf.specs.Search.{isRight, isUnset, byUnset, seen, both, scan, act, step, lowestUnset, State, Next, goes, ends, Outcome, solved, none-exists, spent, unfinished, Guess, undo, decide, searchFrom}
 use Rattle.cnf.specs.Trials.{onlyTrue, satisfied, trueCount, notFalse, Trials, better, ceilingBy, ceilingOf, rested, tried, Tried, runTried, untried, searchTried}
 use Rattle.cnf.specs.Closing.{Formed, Values, _⊑_, Settled, holds, waits, AtRest, Closed, breaks, rests, Closes}
-use Rattle.cnf.proofs.Values.{⊑-trans, set-more, set-below, none-set}
+use Rattle.cnf.proofs.Values.{⊑-trans, set-more, set-below, none-below}
 use Rattle.cnf.proofs.Found.{right-is, right-of, unset-is, Lowest, lowest-is}
 use Rattle.cnf.proofs.Steps.{stateOf, guessOf, StepsTo, fails, undoes, forces, solves, spends, adds-guess, After, run-keeps}
 use Rattle.cnf.proofs.Horn.{RightSoon, is-right, is-unset, quiet-safe}
-use Rattle.cnf.proofs.Closure.{closes-members, turnTo, atStart}
+use Rattle.cnf.proofs.Closure.{closes-alike, members-rest, turnTo, atStart}
 use Rattle.cnf.proofs.Trying.{TriesTo, there, turn, closedTrials, endOf, tried-outcome, tries-search, turns-tried}
 
 -- ---- a trial
@@ -341,12 +341,9 @@ module _ (cs : List (List ℕ)) (n b : ℕ) (formed : Formed cs n) where
   unfolding turnTo undo rested ceilingBy
   ceiling-bounds = go (searchTried cs n b) (tries-search cs n b formed)
     where
-      above : (a : List ℕ) → replicate n 2 ⊑ a
-      above a = record { keeps = λ i h. absurd (h (none-set n i)) }
-
       go : (e : Tried) → TriesTo cs n b (atStart n) (untried n) e → Bounds (e .trials .ceiling)
-      go e (turn breaks z h r) = rw (ends-trials _ (untried n) e r) (λ a m. h a (above a) (model-rests m))
-      go e (turn (rests w) z h r) = rw (ceiling-kept _ (rested cs w (untried n)) e (notFalse w) r refl) (λ a m. few-true w a (h .long ∙ z .long ∙ sym (m .assigns .long)) (h .least a (above a) (model-rests m)))
+      go e (turn breaks z h r) = rw (ends-trials _ (untried n) e r) (λ a m. h a (none-below n a) (model-rests m))
+      go e (turn (rests w) z h r) = rw (ceiling-kept _ (rested cs w (untried n)) e (notFalse w) r refl) (λ a m. few-true w a (h .long ∙ z .long ∙ sym (m .assigns .long)) (h .least a (none-below n a) (model-rests m)))
 
   pub ceiling-most : (a : List ℕ) → Model cs n a → trueCount a ≤ ceilingOf (searchTried cs n b .trials .ceiling)
   ceiling-most a m = go (searchTried cs n b .trials .ceiling) ceiling-bounds
@@ -355,39 +352,61 @@ module _ (cs : List (List ℕ)) (n b : ℕ) (formed : Formed cs n) where
       go none h = absurd (h a m)
       go (some u) h = h a m
 
--- ---- the same clauses in another list
+-- ---- clauses that are at rest under the same values
 
-module _ (cs ds : List (List ℕ)) (to : (c : List ℕ) → List·Memᴰ c cs → List·Memᴰ c ds) (from : (c : List ℕ) → List·Memᴰ c ds → List·Memᴰ c cs) where
-  satisfied-same : (a : List ℕ) → satisfied cs a ≡ satisfied ds a
-  unfolding satisfied
-  satisfied-same a = go (all (λ c. any (isRight a) c) cs) (all (λ c. any (isRight a) c) ds) refl refl
+-- nothing is unset, at rest: it satisfies the clauses
+full-model : {cs : List (List ℕ)} {n : ℕ} {w : List ℕ} → Formed cs n → Values n w → AtRest cs w → ((j : ℕ) → j < length w → valueOf w j ≢ 2) → Model cs n w
+full-model {cs} {n} {w} formed z q f = record { assigns = record { long = z .long; bit = λ i l. omega (arith, z .small i, f i (omega (arith, z .long))) }; each = λ c m. each c m (q c m) }
+  where
+    each : (c : List ℕ) → List·Memᴰ c cs → Settled w c → (l : ℕ) × List·Memᴰ l c × Right w l
+    each c m (holds l k r) = (l, k, r)
+    each c m (waits l k ls e) =
+        let o = keep-mem (isUnset w) c l (rw e (List·Memᴰ·head refl)) in
+        absurd (f (l / 2) (omega (arith, formed .below c m l (o .0), z .long)) (unset-is w l (o .1)))
+
+module _ (cs ds : List (List ℕ)) (to : (u : List ℕ) → AtRest cs u → AtRest ds u) (n : ℕ) (formed : Formed ds n) where
+  -- an assignment that satisfies these satisfies those
+  satisfied-too : (a : List ℕ) → Assignment n a → satisfied cs a ≡ true → satisfied ds a ≡ true
+  satisfied-too a s e = model-satisfied (full-model formed values (to a (model-rests (satisfied-model s e))) (λ j h. omega (arith, s .bit j (omega (arith, s .long)))))
     where
-      go : (s t : Bool) → all (λ c. any (isRight a) c) cs ≡ s → all (λ c. any (isRight a) c) ds ≡ t → s ≡ t
+      small : (i : ℕ) → Dec (valueOf a i ≡ 2) → valueOf a i ≤ 2
+      small i (yes e) = omega arith
+      small i (no h) = omega (arith, s .bit i (omega (arith, one-inside a i h, s .long)))
+
+      values : Values n a
+      values = record { long = s .long; small = λ i. small i (ℕ-discrete (valueOf a i) 2) }
+
+module _ (cs ds : List (List ℕ)) (to : (u : List ℕ) → AtRest cs u → AtRest ds u) (from : (u : List ℕ) → AtRest ds u → AtRest cs u) (n : ℕ) (f : Formed cs n) (g : Formed ds n) where
+  satisfied-alike : (a : List ℕ) → Assignment n a → satisfied cs a ≡ satisfied ds a
+  satisfied-alike a s = go (satisfied cs a) (satisfied ds a) refl refl
+    where
+      go : (x y : Bool) → satisfied cs a ≡ x → satisfied ds a ≡ y → x ≡ y
       go true true p q = refl
-      go true false p q = sym (all-of (λ c. any (isRight a) c) ds (λ c m. all-true (λ c. any (isRight a) c) cs p c (from c m))) ∙ q
-      go false true p q = sym p ∙ all-of (λ c. any (isRight a) c) cs (λ c m. all-true (λ c. any (isRight a) c) ds q c (to c m))
+      go true false p q = sym (satisfied-too cs ds to n g a s p) ∙ q
+      go false true p q = sym p ∙ satisfied-too ds cs from n f a s q
       go false false p q = refl
 
-  better-same : (a held : List ℕ) → better cs a held ≡ better ds a held
-  unfolding better
-  better-same a held = ap (λ (y : Bool). elim (y && ltb (trueCount held) (trueCount a)) as (λ _. List ℕ) [ true ↦ a | false ↦ held ]) (satisfied-same a)
+  rested-alike : (w : List ℕ) (t : Trials) → Values n w → rested cs w t ≡ rested ds w t
+  unfolding rested better
+  rested-alike w t z =
+      ap (λ (y : Bool). record { held = elim (y && ltb (trueCount (t .held)) (trueCount (onlyTrue w))) as (λ _. List ℕ) [ true ↦ onlyTrue w | false ↦ t .held ]; ceiling = ceilingBy w (t .ceiling) }) (satisfied-alike (onlyTrue w) (only-assigns z))
 
-  rested-same : (w : List ℕ) (t : Trials) → rested cs w t ≡ rested ds w t
-  unfolding rested
-  rested-same w t = λ i. record { held = better-same (onlyTrue w) (t .held) i; ceiling = ceilingBy w (t .ceiling) }
+  closed-alike : (v : List ℕ) (c : Closed) (t : Trials) → Values n v → Closes cs v c → closedTrials cs c t ≡ closedTrials ds c t
+  closed-alike v breaks t z h = refl
+  closed-alike v (rests w) t z h = rested-alike w t (record { long = h .long ∙ z .long; small = h .small })
 
-  closed-same : (c : Closed) (t : Trials) → closedTrials cs c t ≡ closedTrials ds c t
-  closed-same breaks t = refl
-  closed-same (rests w) t = rested-same w t
+  tries-alike : (b : ℕ) (x : Next) (t : Trials) (e : Tried) → TriesTo cs n b x t e → TriesTo ds n b x t e
+  tries-alike b x t e there = there
+  tries-alike b x t e (turn {v = v} {gs = gs} {k = k} c z h r) =
+      turn c z (closes-alike cs ds to from v c h) (subst (λ (u : Trials). TriesTo ds n b (turnTo b gs k c) u e) (closed-alike v c t z h) (tries-alike b (turnTo b gs k c) (closedTrials cs c t) e r))
 
-  tries-members : (n b : ℕ) (x : Next) (t : Trials) (e : Tried) → TriesTo cs n b x t e → TriesTo ds n b x t e
-  tries-members n b x t e there = there
-  tries-members n b x t e (turn {v = v} {gs = gs} {k = k} c z h r) =
-      turn c z (closes-members cs ds to from v c h) (subst (λ (u : Trials). TriesTo ds n b (turnTo b gs k c) u e) (closed-same c t) (tries-members n b (turnTo b gs k c) (closedTrials cs c t) e r))
+  -- the trials depend on these values alone
+  pub tried-alike : (b : ℕ) → searchTried cs n b ≡ searchTried ds n b
+  tried-alike b = turns-tried ds n b g (searchTried cs n b) (tries-alike b (atStart n) (untried n) (searchTried cs n b) (tries-search cs n b f))
 
-  -- the trials do not depend on the order or number of the clauses
-  pub tried-members : (n b : ℕ) → Formed cs n → Formed ds n → searchTried cs n b ≡ searchTried ds n b
-  tried-members n b f g = turns-tried ds n b g (searchTried cs n b) (tries-members n b (atStart n) (untried n) (searchTried cs n b) (tries-search cs n b f))
+-- not on the order or number of the clauses
+pub tried-members : (cs ds : List (List ℕ)) → ((c : List ℕ) → List·Memᴰ c cs → List·Memᴰ c ds) → ((c : List ℕ) → List·Memᴰ c ds → List·Memᴰ c cs) → (n b : ℕ) → Formed cs n → Formed ds n → searchTried cs n b ≡ searchTried ds n b
+tried-members cs ds to from n b f g = tried-alike cs ds (members-rest cs ds from) (members-rest ds cs to) n f g b
 
 -- ---- a budget that is spent
 
@@ -419,16 +438,6 @@ clash-spent : {A : Type 0} {j k : ℕ} {v : List ℕ} → (spent j ≡ solved v 
 clash-spent e = let z : _≡_ {A = ℕ} 0 1 = cc in absurd (omega arith)
 
 module _ (cs : List (List ℕ)) (n b : ℕ) (formed : Formed cs n) where
-  -- nothing is unset, at rest: it satisfies the clauses
-  full-model : (w : List ℕ) → Values n w → AtRest cs w → ((j : ℕ) → j < length w → valueOf w j ≢ 2) → Model cs n w
-  full-model w z q f = record { assigns = record { long = z .long; bit = λ i l. omega (arith, z .small i, f i (omega (arith, z .long))) }; each = λ c m. each c m (q c m) }
-    where
-      each : (c : List ℕ) → List·Memᴰ c cs → Settled w c → (l : ℕ) × List·Memᴰ l c × Right w l
-      each c m (holds l k r) = (l, k, r)
-      each c m (waits l k ls e) =
-          let o = keep-mem (isUnset w) c l (rw e (List·Memᴰ·head refl)) in
-          absurd (f (l / 2) (omega (arith, formed .below c m l (o .0), z .long)) (unset-is w l (o .1)))
-
   -- of an end: if it is solved, its values are held
   abbrev HeldSolved : Tried → Type 0
   HeldSolved e = (v : List ℕ) (k : ℕ) → e .outcome ≡ solved v k → e .trials .held ≡ v
@@ -436,7 +445,7 @@ module _ (cs : List (List ℕ)) (n b : ℕ) (formed : Formed cs n) where
   rest-held : (w : List ℕ) (gs : List Guess) (held : List ℕ) → Holds cs n w gs held → Values n w → AtRest cs w → ((j : ℕ) → j < length w → valueOf w j ≢ 2) → better cs (onlyTrue w) held ≡ w
   unfolding latest
   rest-held w gs held h z q f =
-      let m = full-model w z q f in
+      let m = full-model formed z q f in
       let e : onlyTrue w ≡ w = only-same z (m .assigns) (λ i p. p) (λ i p. p) in
       let y : satisfied cs (onlyTrue w) ≡ true = ap (satisfied cs) e ∙ model-satisfied m in
       holds-latest h z 0 ∙ rw (y, latest) e

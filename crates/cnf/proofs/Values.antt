@@ -82,6 +82,9 @@ none-set zero i = refl
 none-set (suc n) zero = refl
 none-set (suc n) (suc i) = none-set n i
 
+pub none-below : (n : ℕ) (u : List ℕ) → replicate n 2 ⊑ u
+none-below n u = record { keeps = λ i h. absurd (h (none-set n i)) }
+
 pub start-values : (n : ℕ) → Values n (replicate n 2)
 start-values n = record { long = length-replicate n 2; small = λ i. omega (arith, none-set n i) }
 

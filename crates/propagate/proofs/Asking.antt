@@ -1,6 +1,5 @@
 -- Laws for asking a clause: what is seen of it is what is seen of the literals still to come, with the unset literal met so far. Assumes nothing.
-use mathlib.Core.Path.{_≡_, refl, sym, ap, _∙_}
-use mathlib.Core.Logic.{_≢_}
+use mathlib.Core.Path.{_≡_, refl, sym, ap, _∙_, subst}
 use mathlib.Core.Bool.{Bool, true, false, _||_}
 use mathlib.Core.List.{List, [], _∷_, _++_, append-nil, List·Memᴰ·head, List·Memᴰ·tail}
 use Prim.Native.Nat.{ℕ, zero, suc, _+_, _-_, _/_, _≤_, _<_}
@@ -9,13 +8,13 @@ use native.Mathlib.Omega.{arith}
 use lib.ListN.{length, getD, take, drop}
 use lib.Seq.{slice, slice-empty, slice-cons, take-length}
 use Rattle.lists.specs.Lists.{any, keep}
+use Rattle.lists.proofs.Members.{any-of, getD-mem}
 use Rattle.cnf.specs.Search.{isRight, isUnset, Seen, broken, forcing, quiet, byUnset, seen}
 use Rattle.cnf.proofs.Found.{right-is, unset-is}
 use Rattle.propagate.specs.declared.passes.Asked.{Asked}
-use Rattle.propagate.specs.Asked.{Over, seenOf}
+use Rattle.propagate.specs.declared.passes.Asked.the-variants.{Holding}
+use Rattle.propagate.specs.Asked.{Over, seenOf, Holds}
 use Rattle.propagate.specs.Chains.{clauseAt}
-use Rattle.propagate.specs.Trail.{literalValue}
-use Rattle.propagate.proofs.Trails.{value-one, value-two, value-other}
 use Rattle.propagate.proofs.Walking.{clause-words}
 
 -- by whether a literal is right, and by the unset literals
@@ -128,13 +127,13 @@ module _ {ws v : List ℕ} {first end at unset last : ℕ} (w : Within ws v firs
     rest-below : Over (slice (at + 1) end ws) (length v)
     rest-below l m = w .below l (rw cons-at (List·Memᴰ·tail m))
 
-    pub sees-right : literalValue v (getD ws at 0) ≡ 1 → quiet ≡ seen v (slice first end ws)
-    sees-right e = sym (w .meets ∙ rw (cons-at, from-right v (oneOf unset last) (getD ws at 0) (slice (at + 1) end ws) (value-one v (getD ws at 0) e)))
+    pub sees-right : isRight v (getD ws at 0) ≡ true → quiet ≡ seen v (slice first end ws)
+    sees-right e = sym (w .meets ∙ rw (cons-at, from-right v (oneOf unset last) (getD ws at 0) (slice (at + 1) end ws) e))
 
-    pub sees-second : unset ≡ 1 → literalValue v (getD ws at 0) ≡ 2 → quiet ≡ seen v (slice first end ws)
-    sees-second u e = sym (w .meets ∙ rw (cons-at, u, from-second v last (getD ws at 0) (slice (at + 1) end ws) (value-two v (getD ws at 0) e)))
+    pub sees-second : unset ≡ 1 → isUnset v (getD ws at 0) ≡ true → quiet ≡ seen v (slice first end ws)
+    sees-second u e = sym (w .meets ∙ rw (cons-at, u, from-second v last (getD ws at 0) (slice (at + 1) end ws) e))
 
-    pub step-unset : (unset ≡ 1 → ⊥) → literalValue v (getD ws at 0) ≡ 2 → Within ws v first end (at + 1) 1 (getD ws at 0)
+    pub step-unset : (unset ≡ 1 → ⊥) → isUnset v (getD ws at 0) ≡ true → Within ws v first end (at + 1) 1 (getD ws at 0)
     step-unset u e =
         let none : unset ≡ 0 = omega (arith, w .few) in
         record {
@@ -143,23 +142,29 @@ module _ {ws v : List ℕ} {first end at unset last : ℕ} (w : Within ws v firs
           ends = w .ends;
           few = omega arith;
           below = rest-below;
-          meets = w .meets ∙ rw (cons-at, none, from-unset v (getD ws at 0) (slice (at + 1) end ws) (value-two v (getD ws at 0) e));
+          meets = w .meets ∙ rw (cons-at, none, from-unset v (getD ws at 0) (slice (at + 1) end ws) e);
         }
 
-    pub step-wrong : literalValue v (getD ws at 0) ≢ 1 → literalValue v (getD ws at 0) ≢ 2 → Within ws v first end (at + 1) unset last
-    step-wrong n m =
-        let z = value-other v (getD ws at 0) n m in
+    pub step-wrong : isRight v (getD ws at 0) ≡ false → isUnset v (getD ws at 0) ≡ false → Within ws v first end (at + 1) unset last
+    step-wrong r u =
         record {
           started = omega (arith, w .started);
           inside = omega (arith, w .inside);
           ends = w .ends;
           few = w .few;
           below = rest-below;
-          meets = w .meets ∙ rw (cons-at, from-wrong v (oneOf unset last) (getD ws at 0) (slice (at + 1) end ws) (z .0) (z .1));
+          meets = w .meets ∙ rw (cons-at, from-wrong v (oneOf unset last) (getD ws at 0) (slice (at + 1) end ws) u r);
         }
+
+-- where none was unset, it does not matter which was the last
+pub last-any : {ws v : List ℕ} {first end at last : ℕ} (other : ℕ) → Within ws v first end at 0 last → Within ws v first end at 0 other
+last-any other w = record { started = w .started; inside = w .inside; ends = w .ends; few = w .few; below = w .below; meets = w .meets }
 
 -- all words are one clause
 module _ (c v : List ℕ) where
+  pub holds-at : (i : ℕ) → i < length c → isRight v (getD c i 0) ≡ true → any (isRight v) c ≡ true
+  holds-at i h e = any-of (isRight v) c (getD c i 0) (getD-mem c i 0 h) e
+
   pub within-all : Over c (length v) → Within c v 0 (length c) 0 0 0
   within-all h = within c v 0 (length c) (omega arith) (omega arith) (rw (take-length c) h)
 
@@ -175,3 +180,6 @@ module _ (ws : List ℕ) (at : ℕ) {k : ℕ} (e : k ≡ getD ws at 0) where
 
   pub lent-seen : (v : List ℕ) {r a : Asked} → seenOf r ≡ seen v (take (at + 1 + k - (at + 1)) (drop (at + 1) ws)) → r ≡ a → seenOf a ≡ seen v (clauseAt ws at)
   lent-seen v q p = sym (ap seenOf p) ∙ q ∙ ap (seen v) (clause-words ws at e)
+
+  pub lent-holds : (v : List ℕ) {r : Asked} → Holds v (take (at + 1 + k - (at + 1)) (drop (at + 1) ws)) r → r ≡ Holding → any (isRight v) (clauseAt ws at) ≡ true
+  lent-holds v h p = rw (clause-words ws at e) at (subst (Holds v (take (at + 1 + k - (at + 1)) (drop (at + 1) ws))) p h)

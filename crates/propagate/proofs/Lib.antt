@@ -3,6 +3,8 @@ pub mod Walking
 pub mod Working
 pub mod Asking
 pub mod Passing
+pub mod Sifting
+pub mod Lightening
 pub mod Linking
 pub mod Looking
 pub mod Words

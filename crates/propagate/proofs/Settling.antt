@@ -15,6 +15,20 @@ use Rattle.propagate.proofs.Trails.{grown-same, grown-slice}
 use Rattle.propagate.proofs.Working.{worked-none, worked-length, worked-on, worked-count, worked-trans, ready-part, worked-part, drained-broken, drained-settles}
 use Rattle.propagate.proofs.Attending.{to-ds, to-cs}
 
+-- clauses at rest wait for the variables that steps by others have set
+pub worked-queue : {cs ds : List (List ℕ)} {v t w s : List ℕ} {start count : ℕ} {isBroken : Bool} → Ready cs v t start → Worked cs v t start w s isBroken count → AtRest ds v → Queue ds w s start count
+worked-queue {cs} {ds} {v} {t} {w} {s} {start} {count} ready p rest = record {
+  inside = worked-count ready p;
+  queued = λ x m. set-now x (subst (λ (l : List ℕ). List·Memᴰ x l) new m);
+  waiting = subst (Waiting ds w) (sym new) (waiting-more (p .grown .new) (grown-same (p .grown)) (rest-waiting [] rest));
+}
+  where
+    new : slice start count s ≡ p .grown .new
+    new = grown-slice (p .grown) {at = start} (omega arith) (omega (arith, ready .counted, ready .room)) ∙ ap (λ (l : List ℕ). l ++ p .grown .new) (slice-empty start t)
+
+    set-now : (x : ℕ) → List·Memᴰ x (p .grown .new) → (x < length w) × (valueOf w x ≢ 2)
+    set-now x m = (rw (worked-length ready p) (p .grown .below x m), p .fresh x m)
+
 -- before the queue from `at` on: v₀ and t₀ were the values and the trail where settling began
 pub record Settling (cs ds : List (List ℕ)) (v₀ t₀ : List ℕ) (start : ℕ) (v t : List ℕ) (at count : ℕ) : Type 0 where
   pub ready : Ready (cs ++ ds) v₀ t₀ start
@@ -73,18 +87,8 @@ module _ {cs ds : List (List ℕ)} {v₀ t₀ v t : List ℕ} {start at count : 
       settle-more e = record {
         ready = i .ready;
         worked = subst (λ (b : Bool). Worked (cs ++ ds) v₀ t₀ start u r b more) e all-worked;
-        queue = record {
-          inside = worked-count pass-ready (p .worked);
-          queued = λ x m. set-now x (subst (λ (l : List ℕ). List·Memᴰ x l) new m);
-          waiting = subst (Waiting ds u) (sym new) (waiting-more (p .worked .grown .new) (grown-same (p .worked .grown)) (rest-waiting [] (d .at-rest quiet)));
-        };
+        queue = worked-queue pass-ready (p .worked) (d .at-rest quiet);
       }
-        where
-          new : slice mid more r ≡ p .worked .grown .new
-          new = grown-slice (p .worked .grown) {at = mid} (omega arith) room ∙ ap (λ (l : List ℕ). l ++ p .worked .grown .new) (slice-empty mid s)
-
-          set-now : (x : ℕ) → List·Memᴰ x (p .worked .grown .new) → (x < length u) × (valueOf u x ≢ 2)
-          set-now x m = (rw (worked-length pass-ready (p .worked)) (p .worked .grown .below x m), p .worked .fresh x m)
 
       -- the pass set nothing
       pub settle-rest : isBroken′ ≡ false → more ≡ mid → Settles (cs ++ ds) v₀ t₀ start u r isBroken′ more

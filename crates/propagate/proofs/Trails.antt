@@ -1,21 +1,19 @@
 -- Laws on the values and the trail: a literal's value, variables unset again, and a trail that grows. Assumes nothing.
 use mathlib.Core.Path.{_≡_, refl, sym, ap, _∙_}
 use mathlib.Core.Logic.{_≢_, _⊎_, inl, inr}
-use mathlib.Core.Bool.{Bool, true, false}
 use mathlib.Core.List.{List, [], _∷_, _++_, append-nil, append-assoc, List·Memᴰ, List·Memᴰ·head, List·Memᴰ·tail, List·Memᴰ·append-cases as append-cases, List·Memᴰ·not-nil as not-nil, List·Memᴰ·eq-of-singleton as eq-of-singleton}
 use Prim.Native.Nat.{ℕ, _+_, _-_, _/_, _%_, _≤_, _<_}
 use native.Mathlib.Numerals.{add-one}
 use native.Mathlib.Omega.{arith}
+use lib.Dec.{eqb}
 use lib.ListN.{length, getD, set, take, drop, length-set, length-append}
 use lib.Seq.{slice, drop-append-le, set-set, set-getD, getD-set-other, take-suc-set, length-take-le}
-use borrow.Author.Tests.{ne-eqb}
 use Rattle.lists.proofs.Members.{getD-any}
 use Rattle.cnf.specs.Clauses.{valueOf}
 use Rattle.cnf.specs.Search.{isRight, isUnset}
 use Rattle.cnf.specs.Closing.{unsetCount}
 use Rattle.cnf.proofs.Values.{unset-set}
-use Rattle.cnf.proofs.Found.{right-of, unset-of}
-use Rattle.propagate.specs.Trail.{valueBy, literalValue, unsetting, Grown}
+use Rattle.propagate.specs.Trail.{unsetting, Grown}
 
 -- ---- a literal's value
 
@@ -23,42 +21,13 @@ module _ (v : List ℕ) (l : ℕ) {i : ℕ} (h : l / 2 < length v) (e : i ≡ l 
   value-at : valueOf v (l / 2) ≡ getD v i 0
   value-at = getD-any v (l / 2) 2 0 h ∙ ap (λ (j : ℕ). getD v j 0) (sym e)
 
-  pub value-unset : getD v i 0 ≡ 2 → 2 ≡ literalValue v l
-  value-unset u = rw (unset-of v l (value-at ∙ u))
+  pub right-at : eqb (getD v i 0 + l % 2) 1 ≡ isRight v l
+  unfolding isRight
+  right-at = rw value-at
 
-  pub value-right : {k : ℕ} → k ≡ 1 - l % 2 → getD v i 0 ≢ 2 → getD v i 0 ≡ k → 1 ≡ literalValue v l
+  pub unset-at : eqb (getD v i 0) 2 ≡ isUnset v l
   unfolding isUnset
-  value-right p n q = rw (ne-eqb (valueOf v (l / 2)) 2 (λ u. n (sym value-at ∙ u)), right-of v l (omega (arith, value-at)))
-
-  pub value-wrong : {k : ℕ} → k ≡ 1 - l % 2 → getD v i 0 ≢ 2 → getD v i 0 ≢ k → 0 ≡ literalValue v l
-  unfolding isUnset isRight
-  value-wrong p n q = rw (ne-eqb (valueOf v (l / 2)) 2 (λ u. n (sym value-at ∙ u)), ne-eqb (valueOf v (l / 2) + l % 2) 1 (omega (arith, value-at)))
-
--- and back
-by-one : (u r : Bool) → valueBy u r ≡ 1 → r ≡ true
-by-one true r e = absurd (omega arith)
-by-one false true e = refl
-by-one false false e = absurd (omega arith)
-
-by-two : (u r : Bool) → valueBy u r ≡ 2 → u ≡ true
-by-two true r e = refl
-by-two false true e = absurd (omega arith)
-by-two false false e = absurd (omega arith)
-
-by-other : (u r : Bool) → valueBy u r ≢ 1 → valueBy u r ≢ 2 → (u ≡ false) × (r ≡ false)
-by-other true r h k = absurd (k refl)
-by-other false true h k = absurd (h refl)
-by-other false false h k = (refl, refl)
-
-module _ (v : List ℕ) (l : ℕ) where
-  pub value-one : literalValue v l ≡ 1 → isRight v l ≡ true
-  value-one = by-one (isUnset v l) (isRight v l)
-
-  pub value-two : literalValue v l ≡ 2 → isUnset v l ≡ true
-  value-two = by-two (isUnset v l) (isRight v l)
-
-  pub value-other : literalValue v l ≢ 1 → literalValue v l ≢ 2 → (isUnset v l ≡ false) × (isRight v l ≡ false)
-  value-other = by-other (isUnset v l) (isRight v l)
+  unset-at = rw value-at
 
 -- ---- variables unset again
 

@@ -8,10 +8,10 @@ use Prim.Native.Nat.{ℕ, _-_, _/_, _%_, _≤_, _<_}
 use native.Mathlib.Omega.{arith}
 use lib.ListN.{length, set}
 use lib.Seq.{getD-set-same}
-use Rattle.cnf.specs.Clauses.{valueOf}
+use Rattle.cnf.specs.Clauses.{valueOf, Right}
 use Rattle.cnf.specs.Search.{Seen, broken, forcing, quiet, seen}
 use Rattle.cnf.specs.Closing.{Formed, _⊑_, Found, stay, more, SettledOr}
-use Rattle.cnf.proofs.Values.{unset-set}
+use Rattle.cnf.proofs.Values.{set-more, unset-set}
 use Rattle.cnf.proofs.Found.{Means, seen-means}
 use Rattle.cnf.proofs.Order.{units-more, units-values, units-trans}
 use Rattle.cnf.proofs.Closure.{units-break, units-rest}
@@ -107,6 +107,12 @@ module _ {cs : List (List ℕ)} {v t : List ℕ} {count l : ℕ} (ready : Ready 
 
 -- ---- a clause is asked
 
+-- a literal of the clause c became right
+pub record ForcedLiteral (v w c : List ℕ) (l : ℕ) : Type 0 where
+  pub extends : v ⊑ w
+  pub has : List·Memᴰ l c
+  pub right : Right w l
+
 -- more variables were in the queue before
 pub settled-or-behind : {w rs c : List ℕ} (qs : List ℕ) → SettledOr w rs c → SettledOr w (qs ++ rs) c
 settled-or-behind qs (inl p) = inl p
@@ -147,6 +153,14 @@ module _ {cs : List (List ℕ)} {v₀ t₀ v t : List ℕ} {start count : ℕ} (
       pub store-own : SettledOr v′ (worked-store .grown .new) c
       unfolding worked-store worked-trans grown-trans worked-forced forced-grown
       store-own = inr (record { literal = l; has = means v c e .has; queued = Memᴰ·append-right (p .grown .new) (List·Memᴰ·head refl) })
+
+      -- the literal is right now
+      pub forced-literal : ForcedLiteral v v′ c l
+      forced-literal = record {
+        extends = rw (h .assigned .values) (set-more v (l / 2) (1 - l % 2) (means v c e .free));
+        has = means v c e .has;
+        right = let now = getD-set-same v (l / 2) (1 - l % 2) 2 (forced-inside (worked-on ready p) forces) in rw (h .assigned .values) (omega (arith, now));
+      }
 
 -- ---- some of the clauses
 

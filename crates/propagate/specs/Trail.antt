@@ -8,17 +8,8 @@ use Prim.Native.Nat.{ℕ, _+_, _/_, _≤_, _<_}
 use lib.ListN.{length, set, take}
 use lib.Seq.{slice}
 use Rattle.cnf.specs.Clauses.{valueOf}
-use Rattle.cnf.specs.Search.{isRight, isUnset, broken}
+use Rattle.cnf.specs.Search.{broken}
 use Rattle.cnf.specs.Closing.{Formed, Values, unsetCount, Found, UnitSteps, AtRest, SettledOr, Waiting, Closed, breaks, rests, Closes}
-
--- a literal under the values, by whether it is unset and whether it is right: 0 false, 1 true, 2 unset
-abbrev pub valueBy : Bool → Bool → ℕ
-valueBy true right = 2
-valueBy false true = 1
-valueBy false false = 0
-
-abbrev pub literalValue : List ℕ → ℕ → ℕ
-literalValue v l = valueBy (isUnset v l) (isRight v l)
 
 -- the values with the listed variables unset
 unfoldable pub unsetting : List ℕ → List ℕ → List ℕ

@@ -97,7 +97,10 @@ pub(crate) fn look(
                 count = force(n, table, m, values, trail, joined, apart, count);
                 continue 'chain;
             }
-            Asked::Quiet => {
+            Asked::Open => {
+                continue 'chain;
+            }
+            Asked::Holding => {
                 continue 'chain;
             }
         }

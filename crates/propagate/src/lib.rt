@@ -3,6 +3,7 @@ ghost use mathlib.Core.Path.{_≡_};
 
 mod chains;
 mod conclude;
+mod first;
 mod passes;
 mod retract;
 mod rows;
@@ -10,6 +11,9 @@ mod rows;
 pub use chains::link;
 pub use chains::no_heads;
 pub use chains::settle_linked;
+pub use first::Sifted;
+pub use first::lighten;
+pub use first::sift;
 pub use passes::Reached;
 pub use passes::settle;
 pub use retract::undo;

@@ -1,16 +1,17 @@
 // Closing the values: every literal that a clause forces is set, until none is left or a clause is broken.
 ghost use mathlib.Core.Path.{_≡_};
 ghost use mathlib.Core.Bool.{true};
-ghost use Prim.Native.Nat.{_-_, _/_, _%_, _<_};
+ghost use Prim.Native.Nat.{_+_, _-_, _/_, _%_, _<_};
 ghost use lib.ListN.{length};
+ghost use lib.Dec.{eqb};
 ghost use Rattle.cnf.specs.Clauses.{clausesIn, whole};
-ghost use Rattle.cnf.specs.Search.{seen};
+ghost use Rattle.cnf.specs.Search.{isRight, isUnset, seen};
 ghost use Rattle.pairs.specs.Entries.{PairTable};
 ghost use Rattle.pairs.specs.Triangles.{triangles};
-ghost use Rattle.propagate.specs.Asked.{Over, seenOf};
+ghost use Rattle.propagate.specs.Asked.{Over, seenOf, Holds};
 ghost use Rattle.propagate.specs.Conclusions.{withTriangles};
 ghost use Rattle.propagate.specs.Rows.{Rows};
-ghost use Rattle.propagate.specs.Trail.{literalValue, Ready, Passed, Queue, Settles};
+ghost use Rattle.propagate.specs.Trail.{Ready, Passed, Queue, Settles};
 use super::conclude::drain;
 use super::rows::force;
 use super::wide;
@@ -28,52 +29,76 @@ pub fn wanted(l: u16) -> u8
     (1 - l % 2) as u8
 }
 
-// A literal under the values: 0 false, 1 true, 2 unset.
-fn value_of(values: &[u8], l: u16) -> u8
-    requires { ⌜ l / 2 < length (now values) ⌝ }
-    ensures { λ r. ⌜ r ≡ literalValue (now (values .entry)) l ⌝ }
+// Whether a literal is right where its variable is x.
+fn says(l: u16, x: u8) -> bool
+    ensures { λ r. ⌜ r ≡ eqb (x + l % 2) 1 ⌝ }
 {
-    let x = values[wide(l / 2)];
-    if x == 2 {
-        return 2;
-    }
-    if x == wanted(l) { 1 } else { 0 }
+    (x as u16) + l % 2 == 1
+}
+
+// Whether a literal is right under the values.
+pub(crate) fn is_right(values: &[u8], l: u16) -> bool
+    requires { ⌜ l / 2 < length (now values) ⌝ }
+    ensures { λ r. ⌜ r ≡ isRight (now (values .entry)) l ⌝ }
+{
+    says(l, values[wide(l / 2)])
+}
+
+// Whether its variable is unset.
+fn is_unset(values: &[u8], l: u16) -> bool
+    requires { ⌜ l / 2 < length (now values) ⌝ }
+    ensures { λ r. ⌜ r ≡ isUnset (now (values .entry)) l ⌝ }
+{
+    values[wide(l / 2)] == 2
 }
 
 // What one clause says of the values, when it is asked.
 pub enum Asked {
     Broken,
     Forcing(u16),
-    Quiet,
+    // two literals are unset
+    Open,
+    // a literal is right
+    Holding,
 }
 
-// Whether every literal is false, or which is the only unset one with all others false. It is left at a true literal and at a second unset one.
+// Whether every literal is false, or which is the only unset one with all others false. It is left at a right literal and at a second unset one.
+// The first literal is looked at before the loop: most clauses hold by it.
 pub(crate) fn ask(literals: &[u16], values: &[u8]) -> Asked
     requires { ⌜ Over (now literals) (length (now values)) ⌝ }
     ensures { λ r. ⌜ seenOf r ≡ seen (now (values .entry)) (now (literals .entry)) ⌝ }
+    ensures holding { λ r. ⌜ Holds (now (values .entry)) (now (literals .entry)) r ⌝ }
 {
+    if literals.len() == 0 {
+        return Asked::Broken;
+    }
+    let mut last = literals[0];
+    if is_right(values, last) {
+        return Asked::Holding;
+    }
     let mut unset: usize = 0;
-    let mut last: u16 = 0;
-    let mut i: usize = 0;
+    if is_unset(values, last) {
+        unset = 1;
+    }
+    let mut i: usize = 1;
     'literals: while i < literals.len() {
         let l = literals[i];
-        let x = value_of(values, l);
-        if x == 1 {
-            return Asked::Quiet;
+        if is_right(values, l) {
+            return Asked::Holding;
         }
-        if x == 2 {
+        if is_unset(values, l) {
             if unset == 1 {
-                return Asked::Quiet;
+                return Asked::Open;
             }
             unset = 1;
             last = l;
         }
         i += 1;
     }
-    if unset == 0 {
-        return Asked::Broken;
+    if unset == 1 {
+        return Asked::Forcing(last);
     }
-    Asked::Forcing(last)
+    Asked::Broken
 }
 
 // One pass over the clauses, which sets what is forced as it meets it and is left at a clause whose literals are all false. In a clause `at` is
@@ -110,11 +135,10 @@ fn pass(
                 break 'literals;
             }
             let l = list[i];
-            let x = value_of(values, l);
-            if x == 1 {
+            if is_right(values, l) {
                 continue 'clauses;
             }
-            if x == 2 {
+            if is_unset(values, l) {
                 if unset == 1 {
                     continue 'clauses;
                 }

@@ -1,7 +1,7 @@
 -- Laws for judging a list of clause words: what is still to come of each loop. Assumes nothing.
 use mathlib.Core.Path.{_≡_, refl, sym, ap, _∙_, subst}
 use mathlib.Core.Logic.{_⊎_, inl, inr}
-use mathlib.Core.Bool.{true, false, _&&_, _||_, not, and-false, or-false as or-none}
+use mathlib.Core.Bool.{Bool, true, false, _&&_, _||_, not, and-false, or-false as or-none}
 use mathlib.Core.List.{List, [], _∷_, _++_, map, map-append, List·Memᴰ, List·Memᴰ·head, List·Memᴰ·tail, Memᴰ·append-right, List·Memᴰ·append-cases as append-cases, List·Memᴰ·not-nil as not-nil, List·Memᴰ·eq-of-singleton as eq-of-singleton}
 use Prim.Native.Nat.{ℕ, suc, _+_, _-_, _/_, _≤_, _<_}
 use native.Mathlib.Numerals.{add-one}
@@ -9,7 +9,7 @@ use native.Mathlib.Omega.{arith}
 use native.Mathlib.Decide.{ℕ-discrete}
 use lib.ListN.{length, getD, set, take, drop, replicate, getD-replicate, length-set, length-drop, drop-of-length-le}
 use lib.Seq.{getD-set-same, getD-set-other, take-suc, drop-cons, drop-drop, take-all, split-at}
-use lib.Dec.{eqb, leb}
+use lib.Dec.{eqb, leb, ltb}
 use borrow.Author.Tests.{eqb-false, eq-eqb, ne-eqb, le-leb, lt-leb, not-true}
 use Rattle.lists.specs.Lists.{any, all, mem}
 use Rattle.lists.proofs.Members.{and-true, or-right, or-false, not-so, mem-true, mem-false, mem-snoc}
@@ -134,6 +134,31 @@ module _ {ls marks : List ℕ} {n mark i x : ℕ} (p : Fitting ls n i) (m : Mark
 
   pub mark-new : x < n → (getD marks x 0 ≡ mark → ⊥) → Fitting ls n (i + 1)
   mark-new k q = fit-on p h (omega arith) (ap (λ z. mem z (variablesOf (take i ls))) (sym e) ∙ sym (m .met x (omega arith)) ∙ ne-eqb _ _ q)
+
+-- ---- short clauses, without marks
+
+-- two variables, and three, are below n and differ
+abbrev twoFit : ℕ → ℕ → ℕ → Bool
+twoFit n x y = (ltb x n && (ltb y n && true)) && (not (eqb x y || false) && true)
+
+abbrev threeFit : ℕ → ℕ → ℕ → ℕ → Bool
+threeFit n x y z = (ltb x n && (ltb y n && (ltb z n && true))) && (not (eqb x y || (eqb x z || false)) && (not (eqb y z || false) && true))
+
+module _ (n : ℕ) where
+  pub two-is : (ls : List ℕ) {x y : ℕ} → length ls ≡ 2 → x ≡ getD ls 0 0 / 2 → y ≡ getD ls 1 0 / 2 → clauseFits n ls ≡ twoFit n x y
+  unfolding clauseFits all distinct mem any
+  two-is (a ∷ b ∷ []) e p q = rw (p, q)
+  two-is (a ∷ b ∷ c ∷ ls) e p q = absurd (omega arith)
+  two-is (a ∷ []) e p q = absurd (omega arith)
+  two-is [] e p q = absurd (omega arith)
+
+  pub three-is : (ls : List ℕ) {x y z : ℕ} → length ls ≡ 3 → x ≡ getD ls 0 0 / 2 → y ≡ getD ls 1 0 / 2 → z ≡ getD ls 2 0 / 2 → clauseFits n ls ≡ threeFit n x y z
+  unfolding clauseFits all distinct mem any
+  three-is (a ∷ b ∷ c ∷ []) e p q r = rw (p, q, r)
+  three-is (a ∷ b ∷ c ∷ d ∷ ls) e p q r = absurd (omega arith)
+  three-is (a ∷ b ∷ []) e p q r = absurd (omega arith)
+  three-is (a ∷ []) e p q r = absurd (omega arith)
+  three-is [] e p q r = absurd (omega arith)
 
 -- ---- whether a list fits
 

@@ -14,27 +14,34 @@ use lib.Seq.{slice, slice-empty, slice-cons, getD-set-same, getD-set-other, take
 use borrow.Author.Tests.{eq-eqb, ne-eqb}
 use Rattle.lists.specs.Lists.{any, all}
 use Rattle.lists.proofs.Members.{getD-mem}
-use Rattle.cnf.specs.Clauses.{valueOf, clausesIn}
+use Rattle.cnf.specs.Clauses.{valueOf, clausesIn, wordsOf, whole}
 use Rattle.cnf.specs.Search.{isRight, goes, Outcome, solved, none-exists, spent, Guess, undo, decide, lowestUnset, searchFrom}
 use Rattle.cnf.specs.Trials.{onlyTrue, satisfied, notFalse, Trials, better, ceilingBy, rested, Tried, untried, searchTried}
-use Rattle.cnf.specs.Closing.{Formed, Values, unsetCount, AtRest, Closed, breaks, rests, Closes}
+use Rattle.cnf.specs.Closing.{Formed, Values, _⊑_, unsetCount, AtRest, Closed, breaks, rests, Closes}
 use Rattle.cnf.proofs.Values.{⊑-refl, set-values, start-values, unset-set, unset-start, none-set}
 use Rattle.cnf.proofs.Found.{lowest-some, lowest-none}
 use Rattle.cnf.proofs.Steps.{stateOf, guessOf}
+use Rattle.cnf.proofs.Words.{clauses-words, whole-words}
+use Rattle.cnf.proofs.Order.{units-below}
 use Rattle.cnf.proofs.Queue.{waiting-set, rest-waiting}
-use Rattle.cnf.proofs.Closure.{closes-one, turnTo, atStart}
+use Rattle.cnf.proofs.Closure.{closes-one, closes-below, units-break, turnTo, atStart}
 use Rattle.cnf.proofs.Trying.{closedTrials, endOf, TriesTo, there, turn, tried-outcome, turns-tried}
-use Rattle.cnf.proofs.Trials.{latest as latestTrial, Holds, holds-start, holds-closed, holds-undone, holds-guess, holds-latest, horn-trial, solved-held}
+use Rattle.cnf.proofs.Trials.{latest as latestTrial, Holds, holds-start, holds-closed, holds-undone, holds-guess, holds-latest, horn-trial, solved-held, tried-alike}
 use Rattle.pairs.specs.Triangles.{triangles}
-use Rattle.propagate.specs.Trail.{unsetting, Ready, Grown, Queue, closedBy, Settles}
+use Rattle.propagate.specs.Sift.{Left, Sifts, AllSet, lightened, Lightens}
+use Rattle.propagate.specs.Trail.{unsetting, Ready, Grown, Worked, Queue, closedBy, Settles}
 use Rattle.propagate.specs.Rows.{Rows, Own, Settable, Forced}
 use Rattle.propagate.specs.Conclusions.{withTriangles}
 use Rattle.search.specs.Trial.{heldIf, backAlong, Retraceable}
-use Rattle.search.specs.Turns.{NextUnset, Fresh, Rested, EndsWith, outcomeOf}
+use Rattle.search.specs.Turns.{NextUnset, Fresh, Begun, Rested, EndsWith, outcomeOf}
 use Rattle.propagate.specs.Undo.{Undoable, Undone}
 use Rattle.search.specs.declared.engine.Ending.{Ending}
 use Rattle.search.specs.declared.engine.Ending.the-variants.{Found, Absent, Spent}
 use Rattle.propagate.proofs.Trails.{unsetting-append, length-unsetting, unsetting-store, grown-length, grown-store}
+use Rattle.propagate.proofs.Working.{worked-length, worked-on, worked-part, ready-part}
+use Rattle.propagate.proofs.Attending.{to-cs}
+use Rattle.propagate.proofs.Settling.{worked-queue}
+use Rattle.propagate.proofs.Lightening.{covered, lighter-to, lighter-from, lighter-formed}
 use Rattle.propagate.proofs.Marking.{rows-start}
 use Rattle.propagate.proofs.Triangles.{with-formed, triangles-horn, unset-rest}
 
@@ -251,8 +258,8 @@ module _ {ws v : List ℕ} {m : ℕ} (f : Fresh ws m v) (b : ℕ) where
   first-rows o = rows-start (f .few) (f .size) all-unset o
 
   -- nothing is set, so nothing is to be concluded
-  pub first-queue : (t : List ℕ) → Queue (triangles m) v t 0 0
-  first-queue t = record { inside = omega arith; queued = λ x k. absurd (not-nil (rw slice-empty at k)); waiting = rest-waiting (slice 0 0 t) (unset-rest m v all-unset) }
+  nothing-due : AtRest (triangles m) v
+  nothing-due = unset-rest m v all-unset
 
   pub first-ready : {t : List ℕ} → length t ≡ 780 → Ready (withTriangles ws m) v t 0
   first-ready p = record {
@@ -262,13 +269,138 @@ module _ {ws v : List ℕ} {m : ℕ} (f : Fresh ws m v) (b : ℕ) where
     room = omega (arith, f .most);
   }
 
-  module _ {t w s : List ℕ} {count : ℕ} {isBroken : Bool} (c : Settles (withTriangles ws m) v t 0 w s isBroken count) where
+  pub list-ready : {t : List ℕ} → length t ≡ 780 → Ready (clausesIn ws) v t 0
+  list-ready p = ready-part (clausesIn ws) (withTriangles ws m) (to-cs (clausesIn ws) (triangles m)) (first-ready p)
+
+  -- the search begins
+  pub begins : {t : List ℕ} → length t ≡ 780 → Begun ws m v t 0
+  begins {t} p = record {
+    all-there = f .all-there;
+    ready = first-ready p;
+    queue = record { inside = omega arith; queued = λ x k. absurd (not-nil (rw slice-empty at k)); waiting = rest-waiting (slice 0 0 t) nothing-due };
+    most = f .most;
+    long = p;
+    below = λ x k. absurd (not-nil k);
+    low = λ u q. record { keeps = λ i h. absurd (h (all-unset i)) };
+  }
+
+  -- or a first pass was made
+  module _ {t w s room : List ℕ} {count kept : ℕ} {isBroken : Bool} (p : length t ≡ 780) (c : Sifts ws v t w s room isBroken count kept) where
+    sifted : Worked (withTriangles ws m) v t 0 w s isBroken count
+    sifted = worked-part (clausesIn ws) (withTriangles ws m) (to-cs (clausesIn ws) (triangles m)) (c .worked)
+
+    pub sifted-size : length w ≡ length v
+    sifted-size = worked-length (first-ready p) sifted
+
+    pub sifted-long : length s ≡ 780
+    sifted-long = sifted .grown .long ∙ p
+
+    pub sifted-absent : isBroken ≡ true → (u : ℕ) → EndsWith (searchTried (withTriangles ws m) (length v) b) (Absent 0) w u
+    unfolding turnTo undo
+    sifted-absent e u =
+        absent-ends all-formed (untried (length v))
+        (turn breaks (start-values (length v)) (subst (λ (y : List ℕ). Closes (withTriangles ws m) y breaks) (f .none-set) (units-break (withTriangles ws m) v w (sifted .units) (sifted .breaking e))) there)
+
+    -- as many as the trail has are set, and no other
+    trail-is : take count s ≡ sifted .grown .new
+    trail-is = sifted .grown .grows
+
+    pub sifted-count : count ≤ length w
+    sifted-count = omega (arith, sifted .grown .counted)
+
+    pub sifted-below : (x : ℕ) → List·Memᴰ x (take count s) → x < length w
+    sifted-below x k = rw sifted-size (sifted .grown .below x (subst (λ (l : List ℕ). List·Memᴰ x l) trail-is k))
+
+    pub sifted-set : AllSet w (take count s)
+    sifted-set x k =
+        let now = sifted .fresh x (subst (λ (l : List ℕ). List·Memᴰ x l) trail-is k) in
+        (sifted-below x k, omega (arith, now, worked-on (first-ready p) sifted .values .small x))
+
+    sifted-cover : (x : ℕ) → valueOf w x ≢ 2 → List·Memᴰ x (take count s)
+    sifted-cover x h = rw trail-is (covered w (sifted .grown .new) x (ap (λ (y : List ℕ). valueOf y x) (sifted .grown .back) ∙ all-unset x) h)
+
+    sifted-low : (u : List ℕ) → AtRest (withTriangles ws m) u → w ⊑ u
+    sifted-low u q = units-below (withTriangles ws m) v w u (sifted .units) (record { keeps = λ i h. absurd (h (all-unset i)) }) q
+
+    sifted-queue : Queue (triangles m) w s 0 count
+    sifted-queue = worked-queue (first-ready p) sifted nothing-due
+
+    pub sifted-begins : Begun ws m w s count
+    sifted-begins = record {
+      all-there = f .all-there;
+      ready = worked-on (first-ready p) sifted;
+      queue = sifted-queue;
+      most = omega (arith, sifted-size, f .most);
+      long = sifted-long;
+      below = sifted-below;
+      low = sifted-low;
+    }
+
+    -- what the pass has left can be searched instead
+    module _ (e : isBroken ≡ false) (k : kept ≤ length room) where
+      left : Left ws w (take kept room)
+      left = c .left e k
+
+      pub lightens : Lightens ws w (take count s) (take kept room)
+      lightens = record {
+        formed = rw sifted-size (f .formed);
+        most = omega (arith, sifted-size, f .most);
+        places = left .places;
+        set-in = sifted-set;
+      }
+
+      module _ {rest : List ℕ} (written : rest ≡ wordsOf (lightened ws w (take count s) (take kept room))) where
+        is-left : clausesIn rest ≡ lightened ws w (take count s) (take kept room)
+        is-left = ap clausesIn written ∙ clauses-words (lightened ws w (take count s) (take kept room))
+
+        same-rests : withTriangles rest m ≡ lightened ws w (take count s) (take kept room) ++ triangles m
+        same-rests = ap (λ (y : List (List ℕ)). y ++ triangles m) is-left
+
+        sets : (x : ℕ) → List·Memᴰ x (take count s) → valueOf w x < 2
+        sets x h = sifted-set x h .1
+
+        left-formed : Formed (withTriangles rest m) (length w)
+        left-formed = rw same-rests (lighter-formed (triangles m) sets sifted-cover left (length w) refl sifted-set (rw sifted-size all-formed))
+
+        to-left : (u : List ℕ) → AtRest (withTriangles ws m) u → AtRest (withTriangles rest m) u
+        to-left u q = rw same-rests (lighter-to (triangles m) sets sifted-cover left u (sifted-low u q) q)
+
+        from-left : (u : List ℕ) → AtRest (withTriangles rest m) u → AtRest (withTriangles ws m) u
+        from-left u q = lighter-from (triangles m) sets sifted-cover left u (rw same-rests at q)
+
+        pub left-begins : Begun rest m w s count
+        left-begins = record {
+          all-there = ap whole written ∙ whole-words (lightened ws w (take count s) (take kept room));
+          ready = record { formed = left-formed; values = worked-on (first-ready p) sifted .values; counted = sifted .grown .counted; room = worked-on (first-ready p) sifted .room };
+          queue = sifted-queue;
+          most = omega (arith, sifted-size, f .most);
+          long = sifted-long;
+          below = sifted-below;
+          low = λ u q. sifted-low u (from-left u q);
+        }
+
+        -- it has the outcome and the trials of the whole list
+        pub left-outcome : (r : Ending) (x : List ℕ) (u : ℕ) → EndsWith (searchTried (withTriangles rest m) (length w) b) r x u → EndsWith (searchTried (withTriangles ws m) (length v) b) r x u
+        left-outcome r x u q =
+            subst (λ (z : Tried). EndsWith z r x u) (tried-alike (withTriangles rest m) (withTriangles ws m) from-left to-left (length v) (rw sifted-size at left-formed) all-formed b) (rw sifted-size at q)
+
+-- the first k of n elements are k
+pub prefix-long : {k n : ℕ} (l : List ℕ) → k ≤ n → n ≡ length l → k ≡ length (take k l)
+prefix-long {k} {n} l h e = sym (length-take-le k l (omega (arith, h, e)))
+
+-- ---- the first closing, from where the search has begun
+
+module _ {ws v t : List ℕ} {m start : ℕ} (f : Begun ws m v t start) (b : ℕ) where
+  begun-formed : Formed (withTriangles ws m) (length v)
+  begun-formed = f .ready .formed
+
+  module _ {w s : List ℕ} {count : ℕ} {isBroken : Bool} (c : Settles (withTriangles ws m) v t start w s isBroken count) where
     closed : Closes (withTriangles ws m) (replicate (length v) 2) (closedBy isBroken w)
-    closed = subst (λ (u : List ℕ). Closes (withTriangles ws m) u (closedBy isBroken w)) (f .none-set) (c .closes)
+    closed = closes-below (withTriangles ws m) v (closedBy isBroken w) (f .low) (c .closes)
 
     pub first-absent : isBroken ≡ true → (u : ℕ) → EndsWith (searchTried (withTriangles ws m) (length v) b) (Absent 0) w u
     unfolding turnTo undo
-    first-absent e u = absent-ends all-formed (untried (length v)) (turn breaks (start-values (length v)) (rw e at closed) there)
+    first-absent e u = absent-ends begun-formed (untried (length v)) (turn breaks (start-values (length v)) (rw e at closed) there)
 
     module _ (e : isBroken ≡ false) where
       first-least : Closes (withTriangles ws m) (replicate (length v) 2) (rests w)
@@ -276,18 +408,22 @@ module _ {ws v : List ℕ} {m : ℕ} (f : Fresh ws m v) (b : ℕ) where
 
       pub first-solved : count ≡ length w → EndsWith (searchTried (withTriangles ws m) (length v) b) (Found 0) w (notFalse w)
       unfolding turnTo decide rested ceilingBy
-      first-solved q = found-ends all-formed (better (withTriangles ws m) (onlyTrue w) (replicate (length v) 0)) (turn (rests w) (start-values (length v)) first-least (rw (lowest-none w 0 (all-set w (c .grown .counted) q)) there))
+      first-solved q = found-ends begun-formed (better (withTriangles ws m) (onlyTrue w) (replicate (length v) 0)) (turn (rests w) (start-values (length v)) first-least (rw (lowest-none w 0 (all-set w (c .grown .counted) q)) there))
 
-      pub first-rested : length t ≡ 780 → Rested (withTriangles ws m) (length w) w s count
-      first-rested p = subst (λ (n : ℕ). Rested (withTriangles ws m) n w s count) (sym (grown-length (c .grown))) (record {
-        formed = all-formed;
+      pub first-rested : Rested (withTriangles ws m) (length w) w s count
+      first-rested = subst (λ (n : ℕ). Rested (withTriangles ws m) n w s count) (sym (grown-length (c .grown))) (record {
+        formed = begun-formed;
         size = grown-length (c .grown);
         most = f .most;
-        long = c .grown .long ∙ p;
+        long = c .grown .long ∙ f .long;
         counted = c .grown .counted;
-        below = λ x m. c .grown .below x (subst (λ (l : List ℕ). List·Memᴰ x l) (c .grown .grows) m);
+        below = λ x k. inside x (append-cases (take start t) (subst (λ (l : List ℕ). List·Memᴰ x l) (c .grown .grows) k));
         closed = first-least;
       })
+        where
+          inside : (x : ℕ) → List·Memᴰ x (take start t) ⊎ List·Memᴰ x (c .grown .new) → x < length v
+          inside x (inl k) = f .below x k
+          inside x (inr k) = c .grown .below x k
 
       -- what comes of the search from here on
       pub first-outcome : (r : Ending) (x : List ℕ) {u k : ℕ} → k ≡ u → EndsWith (searchTried (withTriangles ws m) (length w) b) r x u → EndsWith (searchTried (withTriangles ws m) (length v) b) r x k

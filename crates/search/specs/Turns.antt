@@ -9,8 +9,11 @@ use lib.ListN.{length, set, take, replicate}
 use Rattle.cnf.specs.Clauses.{valueOf, clausesIn, whole}
 use Rattle.cnf.specs.Search.{Outcome, solved, none-exists, spent}
 use Rattle.cnf.specs.Trials.{Tried}
-use Rattle.cnf.specs.Closing.{Formed, unsetCount, rests, Closes}
+use Rattle.cnf.specs.Closing.{Formed, unsetCount, _⊑_, AtRest, rests, Closes}
 use Rattle.pairs.specs.Pairs.{pairs}
+use Rattle.pairs.specs.Triangles.{triangles}
+use Rattle.propagate.specs.Trail.{Ready, Queue}
+use Rattle.propagate.specs.Conclusions.{withTriangles}
 use Rattle.search.specs.declared.engine.Ending.{Ending}
 use Rattle.search.specs.declared.engine.Ending.the-variants.{Found, Absent, Spent}
 
@@ -33,6 +36,16 @@ pub record Fresh (ws : List ℕ) (n : ℕ) (v : List ℕ) : Type 0 where
   pub most : length v ≤ 780
   pub few : n ≤ 40
   pub size : 0 < n → length v ≡ pairs n
+
+-- clauses over at most 780 variables; the trail's first count variables are set, as they are wherever the clauses are at rest, and group 2 waits for them
+pub record Begun (ws : List ℕ) (n : ℕ) (v t : List ℕ) (count : ℕ) : Type 0 where
+  pub all-there : whole ws ≡ true
+  pub ready : Ready (withTriangles ws n) v t count
+  pub queue : Queue (triangles n) v t 0 count
+  pub most : length v ≤ 780
+  pub long : length t ≡ 780
+  pub below : (x : ℕ) → List·Memᴰ x (take count t) → x < length v
+  pub low : (u : List ℕ) → AtRest (withTriangles ws n) u → v ⊑ u
 
 -- the first closing is done: the values of n variables are the least at rest, and the trail has the count variables that are set
 pub record Rested (cs : List (List ℕ)) (n : ℕ) (v t : List ℕ) (count : ℕ) : Type 0 where

@@ -10,17 +10,19 @@ ghost use Rattle.propagate.specs.Chains.{LinkRoom, Chained};
 ghost use Rattle.propagate.specs.Conclusions.{withTriangles};
 ghost use Rattle.propagate.specs.Rows.{Rows};
 ghost use Rattle.propagate.specs.Trail.{Ready, Queue, Settles};
-ghost use Rattle.search.specs.Turns.{NextUnset, Fresh, Rested, EndsWith};
+ghost use Rattle.search.specs.Turns.{NextUnset, Fresh, Begun, Rested, EndsWith};
 use super::trial::not_false;
 use super::trial::walk_back;
 use pairs::pair_table;
 use propagate::Reached;
 use propagate::force;
+use propagate::lighten;
 use propagate::link;
 use propagate::no_heads;
 use propagate::own_rows;
 use propagate::settle;
 use propagate::settle_linked;
+use propagate::sift;
 use propagate::undo;
 use propagate::wide;
 
@@ -332,27 +334,23 @@ fn turns_any(
     )
 }
 
-// Closes the values by passes, and counts the ceiling; where a guess is due, links the clauses and goes on. Group 2 of n states is not in
-// the list: its conclusions are drawn from the words of joined and apart states. With n = 0 there is no group 2.
-pub fn solve(list: &[u16], n: u8, values: &mut [u8], budget: u64) -> End
-    requires { ⌜ Fresh (now list) n (now values) ⌝ }
+// Closes the values by passes, and counts the ceiling; where a guess is due, goes on by turns. The first `start` variables of the trail are set.
+fn finish(
+    list: &[u16],
+    n: u8,
+    table: &[u16],
+    values: &mut [u8],
+    trail: &mut [u16],
+    joined: &mut [u64; 40],
+    apart: &mut [u64; 40],
+    budget: u64,
+    start: usize,
+) -> End
+    requires { ⌜ Begun (now list) n (now values) (now trail) start ⌝ }
+    requires { ⌜ PairTable (now table) × Rows n (now values) (now joined) (now apart) ⌝ }
     ensures { λ r. ⌜ EndsWith (searchTried (withTriangles (now (list .entry)) n) (length (now (values .entry))) budget) (r .ending) (now (values .exit)) (r .ceiling) ⌝ }
 {
-    let table = pair_table();
-    let mut joined = own_rows();
-    let mut apart = [0u64; 40];
-    let mut trail = places();
-    let r = settle(
-        list,
-        n,
-        &table,
-        values,
-        &mut trail,
-        &mut joined,
-        &mut apart,
-        0,
-        0,
-    );
+    let r = settle(list, n, table, values, trail, joined, apart, 0, start);
     if r.broken {
         return End {
             ending: Ending::Absent(0),
@@ -366,8 +364,78 @@ pub fn solve(list: &[u16], n: u8, values: &mut [u8], budget: u64) -> End
             ceiling,
         };
     }
-    let start = r.count;
-    let ending = turns_any(
+    let rested = r.count;
+    let ending = turns_any(list, n, table, values, trail, joined, apart, budget, rested);
+    End { ending, ceiling }
+}
+
+// A first pass, and then the search over what it leaves of the list, which is mostly short; where that has no room, over the list.
+fn solve_sifted(
+    list: &[u16],
+    n: u8,
+    table: &[u16],
+    values: &mut [u8],
+    trail: &mut [u16],
+    joined: &mut [u64; 40],
+    apart: &mut [u64; 40],
+    budget: u64,
+) -> End
+    requires { ⌜ Fresh (now list) n (now values) × (length (now list) ≤ 65536) × (length (now trail) ≡ 780) ⌝ }
+    requires { ⌜ PairTable (now table) × Rows n (now values) (now joined) (now apart) ⌝ }
+    ensures { λ r. ⌜ EndsWith (searchTried (withTriangles (now (list .entry)) n) (length (now (values .entry))) budget) (r .ending) (now (values .exit)) (r .ceiling) ⌝ }
+{
+    let mut left = [0u16; 4096];
+    let s = sift(list, n, table, values, trail, joined, apart, &mut left);
+    if s.broken {
+        return End {
+            ending: Ending::Absent(0),
+            ceiling: 0,
+        };
+    }
+    let start = s.count;
+    if s.kept <= 4096 {
+        let mut rest = [0u16; 4096];
+        let k = lighten(list, &left[..s.kept], values, &trail[..start], &mut rest);
+        if k <= 4096 {
+            return finish(
+                &rest[..k],
+                n,
+                table,
+                values,
+                trail,
+                joined,
+                apart,
+                budget,
+                start,
+            );
+        }
+    }
+    finish(list, n, table, values, trail, joined, apart, budget, start)
+}
+
+// The search over clauses that fit. Group 2 of n states is not in the list: its conclusions are drawn from the words of joined and apart states.
+// With n = 0 there is no group 2.
+pub fn solve(list: &[u16], n: u8, values: &mut [u8], budget: u64) -> End
+    requires { ⌜ Fresh (now list) n (now values) ⌝ }
+    ensures { λ r. ⌜ EndsWith (searchTried (withTriangles (now (list .entry)) n) (length (now (values .entry))) budget) (r .ending) (now (values .exit)) (r .ceiling) ⌝ }
+{
+    let table = pair_table();
+    let mut joined = own_rows();
+    let mut apart = [0u64; 40];
+    let mut trail = places();
+    if list.len() <= 65536 {
+        return solve_sifted(
+            list,
+            n,
+            &table,
+            values,
+            &mut trail,
+            &mut joined,
+            &mut apart,
+            budget,
+        );
+    }
+    finish(
         list,
         n,
         &table,
@@ -376,7 +444,6 @@ pub fn solve(list: &[u16], n: u8, values: &mut [u8], budget: u64) -> End
         &mut joined,
         &mut apart,
         budget,
-        start,
-    );
-    End { ending, ceiling }
+        0,
+    )
 }

@@ -94,7 +94,7 @@ same-length-2 c = c .before .before .before .before .before .before .before .bef
 
 returns : tie.Need-returns Inv-chain μ-chain
 returns c =
-    let said = lent-seen _ _ (c .before .before .before .before .before .wide4 .ensures) _ (c .before .before .ask .ensures) (c .enum-told .given .1) in
+    let said = lent-seen _ _ (c .before .before .before .before .before .wide4 .ensures) _ (c .before .before .ask .ensures .0) (c .enum-told .given .1) in
     (laws.look-broken (c .before .before .before .before .before .before .before .before .before .before .before .before .chain .inv .0) (c .before .before .before .before .before .before .before .before .before .before .before .chain-test .taken) (c .before .before .before .before .before .before .before .before .before .wide2 .ensures) said, c .before .before .before .before .before .before .before .before .before .before .before .before .chain .inv .1)
 
 enum-known-said : tie.Need-enum-known-said Inv-chain μ-chain
@@ -103,7 +103,7 @@ enum-known-said c = search needs
 force-requires : tie.Need-force-requires Inv-chain μ-chain
 force-requires c κs =
     let p = c .before .before .before .before .before .before .before .before .before .before .before .before .before .before .before .before .before .chain .inv .0 in
-    let said = lent-seen _ _ (c .before .before .before .before .before .before .before .before .before .before .wide4 .ensures) _ (c .before .before .before .before .before .before .before .ask .ensures) (c .before .before .before .before .before .said .given .1) in
+    let said = lent-seen _ _ (c .before .before .before .before .before .before .before .before .before .before .wide4 .ensures) _ (c .before .before .before .before .before .before .before .ask .ensures .0) (c .before .before .before .before .before .said .given .1) in
     (c .before .before .before .before .before .before .before .before .before .before .before .before .before .before .before .before .before .before .before .before .before .before .before .before .before .before .before .before .pre .1 .1 .1 .0, can-force (p .ready) (p .worked) (laws.clause-here p (c .before .before .before .before .before .before .before .before .before .before .before .before .before .before .before .before .chain-test .taken) (c .before .before .before .before .before .before .before .before .before .before .before .before .before .before .wide2 .ensures)) said (c .before .before .before .before .before .before .before .before .before .before .before .before .before .before .before .before .before .chain .inv .1))
 
 chain-less : tie.Need-chain-less Inv-chain μ-chain
@@ -111,7 +111,7 @@ chain-less c = omega (arith, laws.place-lower (c .before .before .before .before
 
 chain-again : tie.Need-chain-again Inv-chain μ-chain
 chain-again c =
-    let said = lent-seen _ _ (c .before .before .before .before .before .before .before .before .before .before .before .before .before .before .before .wide4 .ensures) _ (c .before .before .before .before .before .before .before .before .before .before .before .before .ask .ensures) (c .before .before .before .before .before .before .before .before .before .before .said .given .1) in
+    let said = lent-seen _ _ (c .before .before .before .before .before .before .before .before .before .before .before .before .before .before .before .wide4 .ensures) _ (c .before .before .before .before .before .before .before .before .before .before .before .before .ask .ensures .0) (c .before .before .before .before .before .before .before .before .before .before .said .given .1) in
     let f = c .before .before .before .before .force .ensures in
     (laws.look-stored (c .before .before .before .before .before .before .before .before .before .before .before .before .before .before .before .before .before .before .before .before .before .before .chain .inv .0) (c .before .before .before .before .before .before .before .before .before .before .before .before .before .before .before .before .before .before .before .before .before .chain-test .taken) (c .before .before .before .before .before .before .before .before .before .before .before .before .before .before .before .before .before .before .before .wide2 .ensures) (c .before .before .before .before .before .before .before .before .before .before .before .before .before .before .before .before .before .wide3 .ensures) said f, f .assigned .rows)
 
@@ -123,7 +123,18 @@ chain-less-2 c = omega (arith, laws.place-lower (c .before .before .before .befo
 
 chain-again-2 : tie.Need-chain-again-2 Inv-chain μ-chain
 chain-again-2 c =
-    let said = lent-seen _ _ (c .before .before .before .before .before .wide4 .ensures) _ (c .before .before .ask .ensures) (c .enum-told2 .given .1) in
+    let said = lent-seen _ _ (c .before .before .before .before .before .wide4 .ensures) _ (c .before .before .ask .ensures .0) (c .enum-told2 .given .1) in
+    (laws.look-quiet (c .before .before .before .before .before .before .before .before .before .before .before .before .chain .inv .0) (c .before .before .before .before .before .before .before .before .before .before .before .chain-test .taken) (c .before .before .before .before .before .before .before .before .before .wide2 .ensures) (c .before .before .before .before .before .before .before .wide3 .ensures) said, c .before .before .before .before .before .before .before .before .before .before .before .before .chain .inv .1)
+
+enum-told-3 : tie.Need-enum-told-3 Inv-chain μ-chain
+enum-told-3 c = search needs
+
+chain-less-3 : tie.Need-chain-less-3 Inv-chain μ-chain
+chain-less-3 c = omega (arith, laws.place-lower (c .before .before .before .before .before .before .before .before .before .before .before .before .chain .inv .0) (c .before .before .before .before .before .before .before .before .before .before .before .chain-test .taken), c .before .before .before .before .before .before .before .wide3 .ensures)
+
+chain-again-3 : tie.Need-chain-again-3 Inv-chain μ-chain
+chain-again-3 c =
+    let said = lent-seen _ _ (c .before .before .before .before .before .wide4 .ensures) _ (c .before .before .ask .ensures .0) (c .enum-told3 .given .1) in
     (laws.look-quiet (c .before .before .before .before .before .before .before .before .before .before .before .before .chain .inv .0) (c .before .before .before .before .before .before .before .before .before .before .before .chain-test .taken) (c .before .before .before .before .before .before .before .before .before .wide2 .ensures) (c .before .before .before .before .before .before .before .wide3 .ensures) said, c .before .before .before .before .before .before .before .before .before .before .before .before .chain .inv .1)
 
 same-length-3 : tie.Need-same-length-3 Inv-chain μ-chain
@@ -173,6 +184,9 @@ look-spec =
     enum-told-2
     chain-less-2
     chain-again-2
+    enum-told-3
+    chain-less-3
+    chain-again-3
     same-length-3
     same-length-4
     returns-2)

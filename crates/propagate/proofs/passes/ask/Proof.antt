@@ -3,7 +3,7 @@
 use borrow.Author.Needs.{needs}
 use native.Mathlib.Omega.{arith}
 use Prim.Native.Nat.{_-_}
-use mathlib.Core.Path.{sym, _∙_}
+use mathlib.Core.Path.{refl, sym, _∙_}
 use mathlib.Core.Logic.{⊎-elim}
 use lib.ListN.{length}
 use Rattle.propagate.proofs.Asking as laws
@@ -11,13 +11,37 @@ use Rattle.propagate.proofs.passes.ask.Statement.{statement}
 use Rattle.propagate.proofs.passes.ask.Tie as tie
 
 abbrev Inv-literals : tie.InvT-literals
-Inv-literals literals values unset₀ last₀ i₀ unset last i = laws.Within literals values 0 (length literals) i unset last
+Inv-literals literals values last₀ unset₀ i₀ last unset i = laws.Within literals values 0 (length literals) i unset last
 
 abbrev μ-literals : tie.MeasureT-literals
-μ-literals literals values unset₀ last₀ i₀ unset last i = length literals - i
+μ-literals literals values last₀ unset₀ i₀ last unset i = length literals - i
+
+returns : tie.Need-returns Inv-literals μ-literals
+returns c = (laws.seen-all _ _ (laws.sees-broken (laws.within-all _ _ (c .before .before .before .pre)) (omega (arith, c .if1 .taken)) refl), tt)
+
+shared-slice-read-last : tie.Need-shared-slice-read-last Inv-literals μ-literals
+shared-slice-read-last c = omega (arith, c .before .if1 .left)
+
+is-right-requires : tie.Need-is-right-requires Inv-literals μ-literals
+is-right-requires c κs = laws.next-below (laws.within-all _ (c .before .before .before .before .args .values .now) (c .before .before .before .before .pre)) (omega (arith, c .before .if1 .left))
+
+returns-2 : tie.Need-returns-2 Inv-literals μ-literals
+returns-2 c =
+    let right = sym (c .before .is-right .ensures) ∙ c .if2 .taken in
+    (laws.seen-all _ _ (laws.sees-right (laws.within-all _ _ (c .before .before .before .before .before .before .pre)) (omega (arith, c .before .before .before .if1 .left)) right), laws.holds-at _ _ 0 (omega (arith, c .before .before .before .if1 .left)) right)
+
+is-unset-requires : tie.Need-is-unset-requires Inv-literals μ-literals
+is-unset-requires c κs = laws.next-below (laws.within-all _ (c .before .before .before .before .before .before .args .values .now) (c .before .before .before .before .before .before .pre)) (omega (arith, c .before .before .before .if1 .left))
 
 literals-holds : tie.Need-literals-holds Inv-literals μ-literals
-literals-holds c = laws.within-all _ _ (c .before .before .pre)
+literals-holds c =
+    let w = laws.within-all _ _ (c .before .before .before .before .before .before .before .before .pre) in
+    let more = c .before .before .before .before .before .if1 .left in
+    let u = c .before .is-unset .ensures in
+    ⊎-elim
+    (λ a. rw (a .1) (laws.step-unset w (omega (arith, more)) (omega arith) (sym u ∙ a .0 .taken)))
+    (λ a. rw (a .1) (laws.last-any _ (laws.step-wrong w (omega (arith, more)) (sym (c .before .before .before .is-right .ensures) ∙ c .before .before .if2 .left) (sym u ∙ a .0 .left))))
+    (c .if3 .came)
 
 mul-l : tie.Need-mul-l Inv-literals μ-literals
 mul-l c = search needs
@@ -25,14 +49,20 @@ mul-l c = search needs
 shared-slice-read-l : tie.Need-shared-slice-read-l Inv-literals μ-literals
 shared-slice-read-l c = search needs
 
-value-of-requires : tie.Need-value-of-requires Inv-literals μ-literals
-value-of-requires c κs = let more = c .before .literals-test .taken in laws.next-below (c .before .before .literals .inv) (omega (arith, more))
+is-right-requires-2 : tie.Need-is-right-requires-2 Inv-literals μ-literals
+is-right-requires-2 c κs = laws.next-below (c .before .before .literals .inv) (omega (arith, c .before .literals-test .taken))
 
-returns : tie.Need-returns Inv-literals μ-literals
-returns c = laws.seen-all _ _ (laws.sees-right (c .before .before .before .before .literals .inv) (omega (arith, c .before .before .before .literals-test .taken)) (sym (c .before .value-of .ensures) ∙ c .if1 .taken))
+returns-3 : tie.Need-returns-3 Inv-literals μ-literals
+returns-3 c =
+    let more = c .before .before .before .literals-test .taken in
+    let right = sym (c .before .is-right2 .ensures) ∙ c .if4 .taken in
+    (laws.seen-all _ _ (laws.sees-right (c .before .before .before .before .literals .inv) (omega (arith, more)) right), laws.holds-at _ _ _ more right)
 
-returns-2 : tie.Need-returns-2 Inv-literals μ-literals
-returns-2 c = laws.seen-all _ _ (laws.sees-second (c .before .before .before .before .before .before .literals .inv) (omega (arith, c .before .before .before .before .before .literals-test .taken)) (c .if3 .taken) (sym (c .before .before .before .value-of .ensures) ∙ c .before .if2 .taken))
+is-unset-requires-2 : tie.Need-is-unset-requires-2 Inv-literals μ-literals
+is-unset-requires-2 c κs = laws.next-below (c .before .before .before .before .literals .inv) (omega (arith, c .before .before .before .literals-test .taken))
+
+returns-4 : tie.Need-returns-4 Inv-literals μ-literals
+returns-4 c = (laws.seen-all _ _ (laws.sees-second (c .before .before .before .before .before .before .before .literals .inv) (omega (arith, c .before .before .before .before .before .before .literals-test .taken)) (c .if6 .taken) (sym (c .before .before .is-unset2 .ensures) ∙ c .before .if5 .taken)), tt)
 
 add-i : tie.Need-add-i Inv-literals μ-literals
 add-i c = search needs
@@ -42,19 +72,19 @@ literals-less c = search needs
 
 literals-again : tie.Need-literals-again Inv-literals μ-literals
 literals-again c =
-    let w = c .before .before .before .before .before .literals .inv in
-    let inner = c .before .before .before .before .literals-test .taken in
-    let v = c .before .before .value-of .ensures in
+    let w = c .before .before .before .before .before .before .literals .inv in
+    let inner = c .before .before .before .before .before .literals-test .taken in
+    let u = c .before .is-unset2 .ensures in
     ⊎-elim
-    (λ a. rw (a .2, a .3) (laws.step-unset w (omega (arith, inner)) (a .1 .left) (sym v ∙ a .0 .taken)))
-    (λ a. rw (a .1, a .2) (laws.step-wrong w (omega (arith, inner)) (λ h. c .before .if1 .left (v ∙ h)) (λ h. a .0 .left (v ∙ h))))
-    (c .if2 .came)
+    (λ a. rw (a .2, a .3) (laws.step-unset w (omega (arith, inner)) (a .1 .left) (sym u ∙ a .0 .taken)))
+    (λ a. rw (a .1, a .2) (laws.step-wrong w (omega (arith, inner)) (sym (c .before .before .before .is-right2 .ensures) ∙ c .before .before .if4 .left) (sym u ∙ a .0 .left)))
+    (c .if5 .came)
 
-returns-3 : tie.Need-returns-3 Inv-literals μ-literals
-returns-3 c = laws.seen-all _ _ (laws.sees-broken (c .before .before .literals .inv) (omega (arith, c .before .before .literals .inv .inside, c .before .literals-test .left)) (c .if4 .taken))
+returns-5 : tie.Need-returns-5 Inv-literals μ-literals
+returns-5 c = (laws.seen-all _ _ (laws.sees-forcing (c .before .before .literals .inv) (omega (arith, c .before .before .literals .inv .inside, c .before .literals-test .left)) (omega (arith, c .if7 .taken))), tt)
 
-returns-4 : tie.Need-returns-4 Inv-literals μ-literals
-returns-4 c = laws.seen-all _ _ (laws.sees-forcing (c .before .before .literals .inv) (omega (arith, c .before .before .literals .inv .inside, c .before .literals-test .left)) (c .if4 .left))
+returns-6 : tie.Need-returns-6 Inv-literals μ-literals
+returns-6 c = (laws.seen-all _ _ (laws.sees-broken (c .before .before .literals .inv) (omega (arith, c .before .before .literals .inv .inside, c .before .literals-test .left)) (omega (arith, c .before .before .literals .inv .few, c .if7 .left))), tt)
 
 pub ask-spec : {M : Type 1} → statement M
 ask-spec =
@@ -62,14 +92,20 @@ ask-spec =
     (tie.spec
     Inv-literals
     μ-literals
+    returns
+    shared-slice-read-last
+    is-right-requires
+    returns-2
+    is-unset-requires
     literals-holds
     mul-l
     shared-slice-read-l
-    value-of-requires
-    returns
-    returns-2
+    is-right-requires-2
+    returns-3
+    is-unset-requires-2
+    returns-4
     add-i
     literals-less
     literals-again
-    returns-3
-    returns-4)
+    returns-5
+    returns-6)

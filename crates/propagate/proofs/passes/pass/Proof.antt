@@ -57,15 +57,18 @@ mul-l c = search needs
 shared-slice-read-l : tie.Need-shared-slice-read-l Inv-literals μ-literals Inv-clauses μ-clauses
 shared-slice-read-l c = search needs
 
-value-of-requires : tie.Need-value-of-requires Inv-literals μ-literals Inv-clauses μ-clauses
-value-of-requires c κs = asking.next-below (c .before .before .before .literals .inv .0) (c .before .before .if1 .left)
+is-right-requires : tie.Need-is-right-requires Inv-literals μ-literals Inv-clauses μ-clauses
+is-right-requires c κs = asking.next-below (c .before .before .before .literals .inv .0) (c .before .before .if1 .left)
+
+is-unset-requires : tie.Need-is-unset-requires Inv-literals μ-literals Inv-clauses μ-clauses
+is-unset-requires c κs = asking.next-below (c .before .before .before .before .before .before .literals .inv .0) (c .before .before .before .before .before .if1 .left)
 
 clauses-less : tie.Need-clauses-less Inv-literals μ-literals Inv-clauses μ-clauses
 clauses-less c = search needs
 
 clauses-again : tie.Need-clauses-again Inv-literals μ-literals Inv-clauses μ-clauses
 clauses-again c =
-    let sees = asking.sees-right (c .before .before .before .before .before .literals .inv .0) (c .before .before .before .before .if1 .left) (sym (c .before .value-of .ensures) ∙ c .if3 .taken) in
+    let sees = asking.sees-right (c .before .before .before .before .before .literals .inv .0) (c .before .before .before .before .if1 .left) (sym (c .before .is-right .ensures) ∙ c .if3 .taken) in
     (rw (c .before .before .before .before .before .before .wide .ensures) (laws.pass-quiet (c .before .before .before .before .before .before .before .before .before .before .before .before .before .before .pre .1 .0) (c .before .before .before .before .before .before .before .before .before .clauses .inv .0) (c .before .before .before .before .before .before .before .before .clauses-test .taken) (rw (c .before .before .before .before .before .before .wide .ensures) at sees)), c .before .before .before .before .before .literals .inv .1, c .before .before .before .before .before .before .before .before .before .clauses .inv .2)
 
 clauses-less-2 : tie.Need-clauses-less-2 Inv-literals μ-literals Inv-clauses μ-clauses
@@ -73,8 +76,8 @@ clauses-less-2 c = search needs
 
 clauses-again-2 : tie.Need-clauses-again-2 Inv-literals μ-literals Inv-clauses μ-clauses
 clauses-again-2 c =
-    let sees = asking.sees-second (c .before .before .before .before .before .before .before .literals .inv .0) (c .before .before .before .before .before .before .if1 .left) (c .if5 .taken) (sym (c .before .before .before .value-of .ensures) ∙ c .before .if4 .taken) in
-    (rw (c .before .before .before .before .before .before .before .before .wide .ensures) (laws.pass-quiet (c .before .before .before .before .before .before .before .before .before .before .before .before .before .before .before .before .pre .1 .0) (c .before .before .before .before .before .before .before .before .before .before .before .clauses .inv .0) (c .before .before .before .before .before .before .before .before .before .before .clauses-test .taken) (rw (c .before .before .before .before .before .before .before .before .wide .ensures) at sees)), c .before .before .before .before .before .before .before .literals .inv .1, c .before .before .before .before .before .before .before .before .before .before .before .clauses .inv .2)
+    let sees = asking.sees-second (c .before .before .before .before .before .before .before .before .before .literals .inv .0) (c .before .before .before .before .before .before .before .before .if1 .left) (c .if5 .taken) (sym (c .before .before .is-unset .ensures) ∙ c .before .if4 .taken) in
+    (rw (c .before .before .before .before .before .before .before .before .before .before .wide .ensures) (laws.pass-quiet (c .before .before .before .before .before .before .before .before .before .before .before .before .before .before .before .before .before .before .pre .1 .0) (c .before .before .before .before .before .before .before .before .before .before .before .before .before .clauses .inv .0) (c .before .before .before .before .before .before .before .before .before .before .before .before .clauses-test .taken) (rw (c .before .before .before .before .before .before .before .before .before .before .wide .ensures) at sees)), c .before .before .before .before .before .before .before .before .before .literals .inv .1, c .before .before .before .before .before .before .before .before .before .before .before .before .before .clauses .inv .2)
 
 add-i-2 : tie.Need-add-i-2 Inv-literals μ-literals Inv-clauses μ-clauses
 add-i-2 c = search needs
@@ -84,14 +87,14 @@ literals-less c = search needs
 
 literals-again : tie.Need-literals-again Inv-literals μ-literals Inv-clauses μ-clauses
 literals-again c =
-    let w = c .before .before .before .before .before .before .literals .inv .0 in
-    let more = c .before .before .before .before .before .if1 .left in
-    let v = c .before .before .value-of .ensures in (
+    let w = c .before .before .before .before .before .before .before .before .literals .inv .0 in
+    let more = c .before .before .before .before .before .before .before .if1 .left in
+    let u = c .before .is-unset .ensures in (
       ⊎-elim
-          (λ a. rw (a .2, a .3) (asking.step-unset w more (a .1 .left) (sym v ∙ a .0 .taken)))
-          (λ a. rw (a .1, a .2) (asking.step-wrong w more (λ h. c .before .if3 .left (v ∙ h)) (λ h. a .0 .left (v ∙ h))))
+          (λ a. rw (a .2, a .3) (asking.step-unset w more (a .1 .left) (sym u ∙ a .0 .taken)))
+          (λ a. rw (a .1, a .2) (asking.step-wrong w more (sym (c .before .before .before .before .is-right .ensures) ∙ c .before .before .before .if3 .left) (sym u ∙ a .0 .left)))
           (c .if4 .came),
-      c .before .before .before .before .before .before .literals .inv .1,
+      c .before .before .before .before .before .before .before .before .literals .inv .1,
     )
 
 force-requires : tie.Need-force-requires Inv-literals μ-literals Inv-clauses μ-clauses
@@ -146,9 +149,10 @@ pass-spec =
     literals-holds
     mul-l
     shared-slice-read-l
-    value-of-requires
+    is-right-requires
     clauses-less
     clauses-again
+    is-unset-requires
     clauses-less-2
     clauses-again-2
     add-i-2

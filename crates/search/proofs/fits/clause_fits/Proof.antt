@@ -14,8 +14,20 @@ Inv-literals literals variables marks₀ mark i₀ marks i = laws.Fitting litera
 abbrev μ-literals : tie.MeasureT-literals
 μ-literals literals variables marks₀ mark i₀ marks i = length literals - i
 
+three-fit-requires : tie.Need-three-fit-requires Inv-literals μ-literals
+three-fit-requires c κs = c .if1 .taken
+
+returns : tie.Need-returns Inv-literals μ-literals
+returns c = (c .three-fit .ensures, laws.lower-still (c .before .before .before .pre .1) (omega arith))
+
+two-fit-requires : tie.Need-two-fit-requires Inv-literals μ-literals
+two-fit-requires c κs = c .if2 .taken
+
+returns-2 : tie.Need-returns-2 Inv-literals μ-literals
+returns-2 c = (c .two-fit .ensures, laws.lower-still (c .before .before .before .before .pre .1) (omega arith))
+
 literals-holds : tie.Need-literals-holds Inv-literals μ-literals
-literals-holds c = (laws.fitting _ _, laws.marked _ (c .before .pre .1))
+literals-holds c = (laws.fitting _ _, laws.marked _ (c .before .before .before .pre .1))
 
 mul-wide : tie.Need-mul-wide Inv-literals μ-literals
 mul-wide c = search needs
@@ -26,23 +38,23 @@ shared-slice-read-wide c = search needs
 wide-requires : tie.Need-wide-requires Inv-literals μ-literals
 wide-requires c κs = search needs
 
-returns : tie.Need-returns Inv-literals μ-literals
-returns c = (let w = c .before .before .before .before .literals .inv in laws.mark-past (w .0) (w .1) (c .before .before .before .before .before .before .pre .0) (c .before .before .before .literals-test .taken) (c .before .wide .ensures) (c .if1 .taken), c .before .before .before .before .literals .inv .1 .below)
+returns-3 : tie.Need-returns-3 Inv-literals μ-literals
+returns-3 c = (let w = c .before .before .before .before .literals .inv in laws.mark-past (w .0) (w .1) (c .before .before .before .before .before .before .before .before .pre .0) (c .before .before .before .literals-test .taken) (c .before .wide .ensures) (c .if3 .taken), c .before .before .before .before .literals .inv .1 .below)
 
-mul-if2 : tie.Need-mul-if2 Inv-literals μ-literals
-mul-if2 c = search needs
+mul-if4 : tie.Need-mul-if4 Inv-literals μ-literals
+mul-if4 c = search needs
 
-element-copy-out-if2 : tie.Need-element-copy-out-if2 Inv-literals μ-literals
-element-copy-out-if2 c = omega (arith, c .before .before .before .before .before .before .pre .0, c .if1 .left)
+element-copy-out-if4 : tie.Need-element-copy-out-if4 Inv-literals μ-literals
+element-copy-out-if4 c = omega (arith, c .before .before .before .before .before .before .before .before .pre .0, c .if3 .left)
 
-returns-2 : tie.Need-returns-2 Inv-literals μ-literals
-returns-2 c = (let w = c .before .before .before .before .before .before .literals .inv in laws.mark-twice (w .0) (w .1) (c .before .before .before .before .before .before .before .before .pre .0) (c .before .before .before .before .before .literals-test .taken) (c .before .before .before .wide .ensures) (c .before .before .if1 .left) (c .if2 .taken), c .before .before .before .before .before .before .literals .inv .1 .below)
+returns-4 : tie.Need-returns-4 Inv-literals μ-literals
+returns-4 c = (let w = c .before .before .before .before .before .before .literals .inv in laws.mark-twice (w .0) (w .1) (c .before .before .before .before .before .before .before .before .before .before .pre .0) (c .before .before .before .before .before .literals-test .taken) (c .before .before .before .wide .ensures) (c .before .before .if3 .left) (c .if4 .taken), c .before .before .before .before .before .before .literals .inv .1 .below)
 
 mul-marks : tie.Need-mul-marks Inv-literals μ-literals
 mul-marks c = search needs
 
 element-write-marks : tie.Need-element-write-marks Inv-literals μ-literals
-element-write-marks c = omega (arith, c .before .before .before .before .before .before .before .before .pre .0, c .before .before .if1 .left)
+element-write-marks c = omega (arith, c .before .before .before .before .before .before .before .before .before .before .pre .0, c .before .before .if3 .left)
 
 add-i : tie.Need-add-i Inv-literals μ-literals
 add-i c = search needs
@@ -51,10 +63,10 @@ literals-less : tie.Need-literals-less Inv-literals μ-literals
 literals-less c = search needs
 
 literals-again : tie.Need-literals-again Inv-literals μ-literals
-literals-again c = (let w = c .before .before .before .before .before .before .literals .inv in laws.mark-new (w .0) (w .1) (c .before .before .before .before .before .before .before .before .pre .0) (c .before .before .before .before .before .literals-test .taken) (c .before .before .before .wide .ensures) (c .before .before .if1 .left) (c .if2 .left), laws.mark-on (c .before .before .before .before .before .before .literals .inv .1) (c .before .before .before .before .before .literals-test .taken) (c .before .before .before .wide .ensures) (omega (arith, c .before .before .before .before .before .before .before .before .pre .0, c .before .before .if1 .left)))
+literals-again c = (let w = c .before .before .before .before .before .before .literals .inv in laws.mark-new (w .0) (w .1) (c .before .before .before .before .before .before .before .before .before .before .pre .0) (c .before .before .before .before .before .literals-test .taken) (c .before .before .before .wide .ensures) (c .before .before .if3 .left) (c .if4 .left), laws.mark-on (c .before .before .before .before .before .before .literals .inv .1) (c .before .before .before .before .before .literals-test .taken) (c .before .before .before .wide .ensures) (omega (arith, c .before .before .before .before .before .before .before .before .before .before .pre .0, c .before .before .if3 .left)))
 
-returns-3 : tie.Need-returns-3 Inv-literals μ-literals
-returns-3 c = (laws.fit-all (c .before .literals .inv .0) (c .literals-test .left), c .before .literals .inv .1 .below)
+returns-5 : tie.Need-returns-5 Inv-literals μ-literals
+returns-5 c = (laws.fit-all (c .before .literals .inv .0) (c .literals-test .left), c .before .literals .inv .1 .below)
 
 pub clause-fits-spec : {M : Type 1} → statement M
 clause-fits-spec =
@@ -62,17 +74,21 @@ clause-fits-spec =
     (tie.spec
     Inv-literals
     μ-literals
+    three-fit-requires
+    returns
+    two-fit-requires
+    returns-2
     literals-holds
     mul-wide
     shared-slice-read-wide
     wide-requires
-    returns
-    mul-if2
-    element-copy-out-if2
-    returns-2
+    returns-3
+    mul-if4
+    element-copy-out-if4
+    returns-4
     mul-marks
     element-write-marks
     add-i
     literals-less
     literals-again
-    returns-3)
+    returns-5)

@@ -1,0 +1,58 @@
+-- `search::engine::finish` meets its contract: the first closing ends the search, or the turns go on from there. Assumes nothing.
+use Rattle.search.proofs.Turns as laws
+use borrow.Author.Needs.{needs}
+use Rattle.search.proofs.engine.finish.Statement.{statement}
+use Rattle.search.proofs.engine.finish.Tie as tie
+
+settle-requires : tie.Need-settle-requires
+settle-requires c κs = (c .before .before .before .before .before .before .before .before .pre .0 .all-there, ((c .before .before .before .before .before .before .before .before .pre .0 .ready, c .before .before .before .before .before .before .before .before .pre .0 .queue), c .before .before .before .before .before .before .before .before .pre .1))
+
+same-length : tie.Need-same-length
+same-length c = search needs
+
+same-length-2 : tie.Need-same-length-2
+same-length-2 c = search needs
+
+returns : tie.Need-returns
+returns c = laws.first-absent (c .before .before .before .before .before .before .before .before .before .before .before .before .before .before .pre .0) (c .before .before .before .before .before .before .before .before .before .before .before .before .before .before .args .budget) (c .before .before .before .before .before .settle .ensures .0) (c .if1 .taken) 0
+
+not-false-requires : tie.Need-not-false-requires
+not-false-requires c κs = search needs
+
+same-length-3 : tie.Need-same-length-3
+same-length-3 c = search needs
+
+same-length-4 : tie.Need-same-length-4
+same-length-4 c = search needs
+
+returns-2 : tie.Need-returns-2
+returns-2 c = rw (c .before .before .not-false .ensures) (laws.first-solved (c .before .before .before .before .before .before .before .before .before .before .before .before .before .before .before .before .before .before .pre .0) (c .before .before .before .before .before .before .before .before .before .before .before .before .before .before .before .before .before .before .args .budget) (c .before .before .before .before .before .before .before .before .before .settle .ensures .0) (c .before .before .before .before .if1 .left) (c .if2 .taken))
+
+turns-any-requires : tie.Need-turns-any-requires
+turns-any-requires c κs = (c .before .before .before .before .before .before .before .before .before .before .before .before .before .before .before .before .before .before .before .before .before .before .pre .0 .all-there, (laws.first-rested (c .before .before .before .before .before .before .before .before .before .before .before .before .before .before .before .before .before .before .before .before .before .before .pre .0) (c .before .before .before .before .before .before .before .before .before .before .before .before .before .before .before .before .before .before .before .before .before .before .args .budget) (c .before .before .before .before .before .before .before .before .before .before .before .before .before .settle .ensures .0) (c .before .before .before .before .before .before .before .before .if1 .left), (c .before .before .before .before .before .before .before .before .before .before .before .before .before .before .before .before .before .before .before .before .before .before .pre .1 .0, c .before .before .before .before .before .before .before .before .before .before .before .before .before .settle .ensures .1)))
+
+same-length-5 : tie.Need-same-length-5
+same-length-5 c = search needs
+
+same-length-6 : tie.Need-same-length-6
+same-length-6 c = search needs
+
+returns-3 : tie.Need-returns-3
+returns-3 c = laws.first-outcome (c .before .before .before .before .before .before .before .before .before .before .before .before .before .before .before .before .before .before .before .before .before .before .before .before .before .before .before .pre .0) (c .before .before .before .before .before .before .before .before .before .before .before .before .before .before .before .before .before .before .before .before .before .before .before .before .before .before .before .args .budget) (c .before .before .before .before .before .before .before .before .before .before .before .before .before .before .before .before .before .before .settle .ensures .0) (c .before .before .before .before .before .before .before .before .before .before .before .before .before .if1 .left) (c .before .before .before .before .turns-any .result) _ (c .before .before .before .before .before .before .before .before .before .before .before .not-false .ensures) (c .before .before .before .before .turns-any .ensures)
+
+pub finish-spec : {M : Type 1} → statement M
+finish-spec =
+    tie.close
+    (tie.spec
+    settle-requires
+    same-length
+    same-length-2
+    returns
+    not-false-requires
+    same-length-3
+    same-length-4
+    returns-2
+    turns-any-requires
+    same-length-5
+    same-length-6
+    returns-3)
