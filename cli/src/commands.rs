@@ -1,0 +1,77 @@
+//! The commands, each in a module of its own.
+
+mod check;
+mod choose;
+mod clauses;
+mod draw;
+mod fit;
+mod generate;
+mod make;
+mod quotient;
+mod records;
+mod reduce;
+mod report;
+mod script;
+mod season;
+mod show;
+mod tops;
+mod uses;
+mod why;
+
+use crate::arguments::{Call, Command};
+use crate::ends::{Failure, Outcome, Status, say};
+use crate::help;
+use std::ffi::{OsStr, OsString};
+
+/// All commands, in the order of the help.
+const COMMANDS: &[&Command] = &[
+    &reduce::COMMAND,
+    &check::COMMAND,
+    &quotient::COMMAND,
+    &tops::COMMAND,
+    &clauses::COMMAND,
+    &script::COMMAND,
+    &records::COMMAND,
+    &uses::COMMAND,
+    &season::COMMAND,
+    &generate::COMMAND,
+    &fit::COMMAND,
+    &choose::COMMAND,
+    &make::COMMAND,
+    &show::COMMAND,
+    &draw::COMMAND,
+    &report::COMMAND,
+    &why::COMMAND,
+];
+
+/// Runs what the arguments ask for, and says on standard error why it ended early.
+pub fn run(arguments: &[OsString]) -> Status {
+    outcome(arguments).unwrap_or_else(|failure| failure.tell())
+}
+
+/// The command with a name.
+fn named(name: &OsStr) -> Result<&'static Command, Failure> {
+    let found = COMMANDS.iter().find(|command| command.name == name);
+    found.copied().ok_or_else(|| Failure::Wrong(format!("there is no command {}", name.display())))
+}
+
+/// What the arguments come to.
+fn outcome(arguments: &[OsString]) -> Outcome {
+    let (first, rest) = arguments.split_first().ok_or_else(|| Failure::Wrong("a command is missing".into()))?;
+    let said = match first.to_str() {
+        Some("--version") => format!("basilvault {}\n", env!("CARGO_PKG_VERSION")),
+        Some("--help" | "-h" | "help") => match rest.first() {
+            Some(name) => help::of(named(name)?),
+            None => help::general(COMMANDS),
+        },
+        _ => {
+            let command = named(first)?;
+            let asked = rest.iter().take_while(|argument| *argument != "--").any(|argument| argument == "--help" || argument == "-h");
+            if !asked {
+                return (command.run)(&Call::of(command, rest)?);
+            }
+            help::of(command)
+        }
+    };
+    say(said.as_bytes()).map(|()| Status::Done)
+}

@@ -1,0 +1,86 @@
+//! `clauses`: which pairs of states exclude or force which.
+
+use crate::arguments::{Call, Choice, Command, NAMES, ROOM, STATES, SYMBOLS};
+use crate::ends::{Outcome, Status, say};
+use crate::lent;
+use crate::names::Names;
+use crate::progress::Progress;
+use std::fmt::Write;
+
+const DIMACS: Choice = Choice { name: "--dimacs", value: "", says: "print them as DIMACS, for a solver" };
+
+pub const COMMAND: Command = Command {
+    name: "clauses",
+    summary: "print which pairs of states exclude or force which",
+    usage: "TABLE [--dimacs]",
+    help: "\
+Prints the clauses, one a line, and how many there are: a pair in braces says that its two states are joined, and one of the parts of each line must be
+true. Transitivity is among them. As DIMACS, the variable of a pair is named in a comment.
+
+Example:
+
+    basilvault clauses tables/t.txt
+",
+    least: 1,
+    most: 1,
+    choices: &[DIMACS, NAMES, ROOM, STATES, SYMBOLS],
+    run,
+};
+
+/// Prints the clauses.
+fn run(call: &Call) -> Outcome {
+    let (limits, lent) = lent::first(call)?;
+    let (_, names) = lent.named(limits, call)?;
+    let progress = Progress::start("clauses", 1);
+    let mut list = vec![0; call.room()?];
+    let listed = basilvault::clauses_within(limits, &lent.bytes, &mut list).map_err(|refusal| lent.refused(refusal))?;
+    let list = &list[..listed.words];
+    let pairs: Vec<_> = (0..names.states.len()).flat_map(|q| (0..q).map(move |p| (p, q))).collect();
+    let text = if call.has(DIMACS.name) {
+        dimacs(list, listed.clauses, &pairs, &names)
+    } else {
+        format!("{}clauses {} words {}\n", readable(list, &pairs, &names), listed.clauses, listed.words)
+    };
+    drop(progress);
+    say(text.as_bytes()).map(|()| Status::Done)
+}
+
+/// The literals of each clause.
+fn each(mut list: &[u16]) -> impl Iterator<Item = &[u16]> {
+    std::iter::from_fn(move || {
+        let (&length, rest) = list.split_first()?;
+        let (clause, after) = rest.split_at(usize::from(length));
+        list = after;
+        Some(clause)
+    })
+}
+
+/// A pair by its names.
+fn pair((p, q): (usize, usize), names: &Names) -> String {
+    format!("{{{}, {}}}", names.states[p], names.states[q])
+}
+
+/// The clauses in words.
+fn readable(list: &[u16], pairs: &[(usize, usize)], names: &Names) -> String {
+    let literal = |literal: &u16| {
+        let not = if literal % 2 == 1 { "not " } else { "" };
+        format!("{not}{}", pair(pairs[usize::from(literal / 2)], names))
+    };
+    each(list).map(|clause| clause.iter().map(literal).collect::<Vec<_>>().join(" or ") + "\n").collect()
+}
+
+/// The clauses as DIMACS: variable v is number v + 1.
+fn dimacs(list: &[u16], clauses: usize, pairs: &[(usize, usize)], names: &Names) -> String {
+    let mut text = String::new();
+    for (variable, &states) in pairs.iter().enumerate() {
+        let _ = writeln!(text, "c {} is {}", variable + 1, pair(states, names));
+    }
+    let _ = writeln!(text, "p cnf {} {clauses}", pairs.len());
+    for clause in each(list) {
+        for literal in clause {
+            let _ = write!(text, "{}{} ", if literal % 2 == 1 { "-" } else { "" }, literal / 2 + 1);
+        }
+        text.push_str("0\n");
+    }
+    text
+}

@@ -1,0 +1,42 @@
+//! `draw`: a table as a graph.
+
+use crate::arguments::{Call, Choice, Command, NAMES, OUT, STATES, SYMBOLS};
+use crate::ends::{Outcome, Status};
+use crate::files::Spared;
+use crate::{draw, lent, maps};
+use std::path::Path;
+
+const MAP: Choice = Choice { name: "--map", value: "MAP", says: "the map whose classes are drawn" };
+
+pub const COMMAND: Command = Command {
+    name: "draw",
+    summary: "draw a table as a graph for Graphviz",
+    usage: "TABLE [--map MAP] [--names TEXT] [-o OUT]",
+    help: "\
+Prints the graph of a table in the language of Graphviz, whose program `dot` makes a picture of it. With a map that the check accepts, the states of a class
+are drawn together.
+
+Example:
+
+    basilvault draw tables/t.txt -o t.dot
+    dot -Tsvg t.dot -o t.svg
+",
+    least: 1,
+    most: 1,
+    choices: &[MAP, NAMES, OUT, STATES, SYMBOLS],
+    run,
+};
+
+/// Draws the table.
+fn run(call: &Call) -> Outcome {
+    let (limits, lent) = lent::first(call)?;
+    let map = call.path(MAP.name).map(maps::read).transpose()?;
+    let (table, names) = lent.named(limits, call)?;
+    let tops = basilvault::tops_within(limits, &lent.bytes).map_err(|refusal| lent.refused(refusal))?;
+    if let Some(map) = &map {
+        basilvault::check_within(limits, &lent.bytes, map).map_err(|refusal| lent.refused(refusal))?;
+    }
+    let spared = Spared::of([Some(call.file(0)), call.path(MAP.name), call.path(NAMES.name)].into_iter().flatten());
+    let out = call.path(OUT.name).unwrap_or(Path::new("-"));
+    spared.write(out, draw::dot(&table, &tops, &names, map.as_deref()).as_bytes()).map(|()| Status::Done)
+}

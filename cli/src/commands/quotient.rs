@@ -1,0 +1,52 @@
+//! `quotient`: the smaller table of a map.
+
+use crate::arguments::{Call, Choice, Command, NAMES, OUT, STATES, SYMBOLS};
+use crate::ends::{Outcome, Status, note, say};
+use crate::files::{Spared, one_streams};
+use crate::{lent, maps, model, text};
+use basilvault::LONGEST_FILE;
+
+const TEXT: Choice = Choice { name: "--text", value: "FILE", says: "write it as text too, each class named by its states" };
+
+pub const COMMAND: Command = Command {
+    name: "quotient",
+    summary: "write the smaller table that a map gives",
+    usage: "TABLE MAP [-o OUT] [--text FILE]",
+    help: "\
+Checks the map and writes the table with one state a class. It accepts the same scripts. Prints how many states, classes and bytes there are, on
+standard error where standard output takes the table.
+
+Example:
+
+    basilvault quotient tables/t.bin small.map -o small.bin
+    basilvault quotient tables/t.txt small.map --text -
+",
+    least: 2,
+    most: 2,
+    choices: &[OUT, TEXT, NAMES, STATES, SYMBOLS],
+    run,
+};
+
+/// Writes the quotient.
+fn run(call: &Call) -> Outcome {
+    let outs = [call.path(OUT.name), call.path(TEXT.name)];
+    let streams = one_streams(outs)?;
+    let (limits, lent) = lent::first(call)?;
+    let map = maps::read(call.file(1))?;
+    let (table, names) = lent.named(limits, call)?;
+    let mut small = [0; LONGEST_FILE];
+    let written = basilvault::quotient_within(limits, &lent.bytes, &map, &mut small).map_err(|refusal| lent.refused(refusal))?;
+    let small = &small[..written];
+    let quotient = model::Table::from_bytes(limits, small).map_err(|refusal| lent.refused(refusal))?;
+    let shown = text::show(&quotient, &maps::class_names(&map, &names, &quotient), None);
+    let spared = Spared::of([call.file(0), call.file(1)].into_iter().chain(call.path(NAMES.name)));
+    for (path, bytes) in outs.into_iter().zip([small, shown.as_bytes()]) {
+        path.map_or(Ok(()), |path| spared.write(path, bytes))?;
+    }
+    let line = format!("{}: states {} classes {} bytes {written}", lent.file.display(), table.states.len(), quotient.states.len());
+    if streams {
+        note(&line);
+        return Ok(Status::Done);
+    }
+    say(format!("{line}\n").as_bytes()).map(|()| Status::Done)
+}

@@ -1,0 +1,37 @@
+//! `report`: a page about a table.
+
+use crate::arguments::{BUDGET, Call, Command, NAMES, OUT, ROOM, STATES, SYMBOLS};
+use crate::ends::{Outcome, Status};
+use crate::files::Spared;
+use crate::progress::Progress;
+use crate::{lent, report};
+
+pub const COMMAND: Command = Command {
+    name: "report",
+    summary: "write a page about a table and its reduction",
+    usage: "TABLE -o FILE.html",
+    help: "\
+Reduces the table and writes a page for a browser: the table before and after, what was joined, and what was not.
+
+Example:
+
+    basilvault report tables/atlas.txt -o atlas.html
+",
+    least: 1,
+    most: 1,
+    choices: &[OUT, NAMES, BUDGET, ROOM, STATES, SYMBOLS],
+    run,
+};
+
+/// Writes the page.
+fn run(call: &Call) -> Outcome {
+    let out = call.out()?;
+    let (limits, lent) = lent::first(call)?;
+    let (_, names) = lent.named(limits, call)?;
+    let title = lent.file.file_name().unwrap_or_default().to_string_lossy();
+    let progress = Progress::start("report", 1);
+    let page = report::page(limits, &lent.bytes, &names, call.budget()?, call.room()?, &title);
+    drop(progress);
+    let page = page.map_err(|refusal| lent.refused(refusal))?;
+    Spared::of([call.file(0)].into_iter().chain(call.path(NAMES.name))).write(out, page.as_bytes()).map(|()| Status::Done)
+}

@@ -1,0 +1,62 @@
+//! `script`: whether a table accepts a script.
+
+use crate::arguments::{Call, Choice, Command, NAMES, STATES, SYMBOLS};
+use crate::ends::{Failure, Outcome, Status, say};
+use crate::names::Names;
+use crate::words::{Word, collected, quoted, text, words};
+use crate::{files, lent, names};
+use std::path::Path;
+
+const FILE: Choice = Choice { name: "--file", value: "F", says: "the file that has the script" };
+
+pub const COMMAND: Command = Command {
+    name: "script",
+    summary: "try a script on a table",
+    usage: "TABLE [SYMBOL.. | --file F]",
+    help: "\
+Prints yes or no, with status 0 or 1: whether the table accepts the script, symbols by names or numbers, parted by blanks. Without symbols it is the
+empty script. A script with a symbol past the count is refused by 30, one with a 65th open call by 31.
+
+Example:
+
+    basilvault script tables/t.txt country pan close
+",
+    least: 1,
+    most: usize::MAX,
+    choices: &[FILE, NAMES, STATES, SYMBOLS],
+    run,
+};
+
+/// Tries the script.
+fn run(call: &Call) -> Outcome {
+    if call.has(FILE.name) && call.plain.len() > 1 {
+        return Err(Failure::Wrong("the script can not stand in a file and in the call".into()));
+    }
+    let (limits, lent) = lent::first(call)?;
+    let (_, names) = lent.named(limits, call)?;
+    let script = call.path(FILE.name).map_or_else(|| given(call, &names), |file| from_file(file, &names))?;
+    let yes = basilvault::script_within(limits, &lent.bytes, &script).map_err(|refusal| lent.refused(refusal))?;
+    say(if yes { b"yes\n" } else { b"no\n" }).map(|()| Status::from(yes))
+}
+
+/// The script of the call.
+fn given(call: &Call, names: &Names) -> Result<Vec<u8>, Failure> {
+    let all: Vec<_> = call.plain[1..].iter().map(|argument| argument.to_string_lossy()).collect();
+    let symbol = |word: &str| {
+        let found = names::find(&names.symbols, word);
+        found.ok_or_else(|| Failure::Mistaken(vec![format!("basilvault: expected {}, found {}", symbols(names), quoted(word))]))
+    };
+    all.iter().flat_map(|argument| argument.split_whitespace()).map(symbol).collect()
+}
+
+/// The script of a file.
+fn from_file(file: &Path, names: &Names) -> Result<Vec<u8>, Failure> {
+    let bytes = files::read(file)?;
+    let symbol = |word: Word| names::find(&names.symbols, word.text).ok_or_else(|| word.mistake(&symbols(names)));
+    collected(file, words(text(file, &bytes, "a script")?).map(symbol), "a script")
+}
+
+/// What can stand in a script.
+fn symbols(names: &Names) -> String {
+    format!("a symbol ({})", names.symbols.join(", "))
+}

@@ -1,0 +1,71 @@
+//! `season`: several tables on one budget.
+
+use super::reduce::summary;
+use crate::arguments::{BUDGET, Call, Command, INTO, ROOM, STATES, SYMBOLS};
+use crate::ends::{Failure, Outcome, Status, say};
+use crate::files::{Spared, folder, places};
+use crate::lent::Lent;
+use crate::progress::Progress;
+use basilvault::{LONGEST_FILE, Limits, MOST_STATES, MOST_TABLES, Reduced, Refusal};
+use std::path::{Path, PathBuf};
+
+pub const COMMAND: Command = Command {
+    name: "season",
+    summary: "reduce up to eight tables on one budget of guesses",
+    usage: "TABLE.. [--into FOLDER]",
+    help: "\
+Reduces the tables in turn. Each may use its share of the guesses and what earlier ones left. Prints the line of `reduce` for each table, and writes the
+smaller ones to the folder under their own names, a text's with .bin. Where the library refuses a table the others go on; where a file can not be read, or is
+a text with a mistake, nothing is reduced.
+
+Example:
+
+    basilvault season tables/t.bin tables/atlas.bin --into small --budget 50,000
+",
+    least: 1,
+    most: usize::MAX,
+    choices: &[INTO, BUDGET, ROOM, STATES, SYMBOLS],
+    run,
+};
+
+/// Reduces the tables.
+fn run(call: &Call) -> Outcome {
+    let (limits, budget) = (call.limits()?, call.budget()?);
+    let files: Vec<&Path> = call.plain.iter().map(Path::new).collect();
+    let outs = call.path(INTO.name).map_or(Ok(Vec::new()), |into| places(into, &files))?;
+    let lent = files.iter().map(|file| Lent::of(limits, file)).collect::<Result<Vec<_>, _>>()?;
+    let tables: Vec<u8> = lent.iter().flat_map(|lent| lent.bytes.iter().copied()).collect();
+    let lengths: Vec<u64> = lent.iter().map(|lent| lent.bytes.len() as u64).collect();
+    let (mut list, mut maps, mut out) = (vec![0; call.room()?], vec![0; MOST_TABLES * MOST_STATES], vec![0; MOST_TABLES * LONGEST_FILE]);
+    let progress = Progress::start("season", 1);
+    let season = basilvault::season_within(limits, &tables, &lengths, budget, &mut list, &mut maps, &mut out);
+    drop(progress);
+    let season = season.map_err(|refusal| Failure::Refused(format!("a season of {} tables", files.len()), refusal))?;
+    call.path(INTO.name).map_or(Ok(()), folder)?;
+    deliver(limits, &lent, &season, (&maps, &out), &outs, &Spared::of(files))
+}
+
+/// Prints the line of each table and writes the smaller ones: maps and tables stand back to back.
+fn deliver(
+    limits: Limits,
+    lent: &[Lent],
+    season: &[Result<Reduced, Refusal>],
+    (mut maps, mut tables): (&[u8], &[u8]),
+    outs: &[PathBuf],
+    spared: &Spared,
+) -> Outcome {
+    let mut worst = Status::Done;
+    for (place, (lent, answer)) in lent.iter().zip(season).enumerate() {
+        let done = answer.and_then(|reduced| summary(limits, lent, reduced, maps)).map_err(|refusal| lent.refused(refusal));
+        let written = done.and_then(|(line, states, length)| {
+            let small = &tables[..length];
+            (maps, tables) = (&maps[states..], &tables[length..]);
+            outs.get(place).map_or(Ok(()), |out| spared.write(out, small)).map(|()| line)
+        });
+        match written {
+            Ok(line) => say(format!("{line}\n").as_bytes())?,
+            Err(failure) => worst = worst.max(failure.tell()),
+        }
+    }
+    Ok(worst)
+}

@@ -1,0 +1,35 @@
+//! `show`: a table as text.
+
+use crate::arguments::{Call, Command, NAMES, OUT, STATES, SYMBOLS};
+use crate::ends::{Outcome, Status};
+use crate::files::Spared;
+use crate::{lent, text};
+use std::path::Path;
+
+pub const COMMAND: Command = Command {
+    name: "show",
+    summary: "print a table as text",
+    usage: "TABLE [--names TEXT] [-o OUT]",
+    help: "\
+Prints the text of a table, from which `make` makes it again to the byte. Where no text gives names, a symbol is i, c or r by its kind and a state q,
+each with its number. A return that no run can take has the comment `dead`. `basilvault make --help` describes the text.
+
+Example:
+
+    basilvault show tables/t.bin --names tables/t.txt
+",
+    least: 1,
+    most: 1,
+    choices: &[NAMES, OUT, STATES, SYMBOLS],
+    run,
+};
+
+/// Shows the table.
+fn run(call: &Call) -> Outcome {
+    let (limits, lent) = lent::first(call)?;
+    let (table, names) = lent.named(limits, call)?;
+    let tops = basilvault::tops_within(limits, &lent.bytes).map_err(|refusal| lent.refused(refusal))?;
+    let spared = Spared::of([call.file(0)].into_iter().chain(call.path(NAMES.name)));
+    let out = call.path(OUT.name).unwrap_or(Path::new("-"));
+    spared.write(out, text::show(&table, &names, Some(&tops)).as_bytes()).map(|()| Status::Done)
+}

@@ -1,0 +1,71 @@
+//! `uses`: use counts added up by class.
+
+use crate::arguments::{Call, Choice, Command, NAMES, STATES, SYMBOLS};
+use crate::ends::{Failure, Outcome, Status, say};
+use crate::names::Names;
+use crate::words::{Line, Mistake, collected, lines, text};
+use crate::{files, lent, maps, names};
+use std::fmt::Write;
+use std::path::Path;
+
+const BINARY: Choice = Choice { name: "--binary", value: "FILE", says: "lines of 5 bytes: a state, and 32 bits, little-endian" };
+
+pub const COMMAND: Command = Command {
+    name: "uses",
+    summary: "add up use counts of states by the classes of a map",
+    usage: "TABLE MAP [LINES | --binary FILE]",
+    help: "\
+Adds up how often states were used by the classes of a map that the check accepts. LINES is a text with a line `STATE COUNT` for each count, the state by its
+name or number. Prints a line for each class, with its states, and the total.
+
+Example:
+
+    basilvault uses tables/t.txt small.map counts.txt
+",
+    least: 2,
+    most: 3,
+    choices: &[BINARY, NAMES, STATES, SYMBOLS],
+    run,
+};
+
+/// Adds up the counts.
+fn run(call: &Call) -> Outcome {
+    let (limits, lent) = lent::first(call)?;
+    let map = maps::read(call.file(1))?;
+    let (_, names) = lent.named(limits, call)?;
+    let counts = match (call.plain.get(2), call.path(BINARY.name)) {
+        (Some(file), None) => from_text(Path::new(file), &names)?,
+        (None, Some(file)) => files::read(file)?,
+        _ => return Err(Failure::Wrong("the use counts are missing, or given twice: LINES or --binary FILE".into())),
+    };
+    let uses = basilvault::uses_within(limits, &lent.bytes, &map, &counts).map_err(|refusal| lent.refused(refusal))?;
+    let classes = map.iter().max().map_or(0, |&last| usize::from(last) + 1);
+    let mut said = String::new();
+    for (class, sum) in uses.sums.iter().enumerate().take(classes) {
+        let _ = writeln!(said, "class {class} {}: {sum}", maps::members(&map, class, &names));
+    }
+    let _ = writeln!(said, "total {}", uses.total);
+    say(said.as_bytes()).map(|()| Status::Done)
+}
+
+/// The lines of 5 bytes that a text has.
+fn from_text(file: &Path, names: &Names) -> Result<Vec<u8>, Failure> {
+    let bytes = files::read(file)?;
+    let counts = lines(text(file, &bytes, WHAT)?).map(|mut line| counted(&mut line, names));
+    collected(file, counts, WHAT).map(|counts| counts.concat())
+}
+
+/// What the text should be.
+const WHAT: &str = "use counts, lines of a state and a count";
+
+/// The bytes of a line.
+fn counted(line: &mut Line, names: &Names) -> Result<[u8; basilvault::LINE], Mistake> {
+    let word = line.next("a state")?;
+    let state = names::find(&names.states, word.text).ok_or_else(|| word.mistake("a state"))?;
+    let expected = "a count, 0 to 4294967295";
+    let word = line.next(expected)?;
+    let count = word.number().and_then(|count| u32::try_from(count).ok()).ok_or_else(|| word.mistake(expected))?;
+    line.done()?;
+    let [a, b, c, d] = count.to_le_bytes();
+    Ok([state, a, b, c, d])
+}

@@ -1,0 +1,24 @@
+//! What the command `basilvault` is made of: tables as sections and as text, pictures, reports and reasons. All that matters is done by the proved library
+//! behind the crate `basilvault`.
+
+#![forbid(unsafe_code)]
+
+pub mod apart;
+pub mod arguments;
+pub mod commands;
+pub mod draw;
+pub mod ends;
+pub mod files;
+pub mod help;
+pub mod lent;
+pub mod maps;
+pub mod model;
+pub mod names;
+pub mod progress;
+pub mod report;
+pub mod text;
+pub mod why;
+pub mod words;
+
+#[cfg(test)]
+mod samples;

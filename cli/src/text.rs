@@ -1,0 +1,23 @@
+//! A table in text form, line by line, with names for symbols, states and marks.
+
+mod read;
+mod show;
+
+pub use read::read;
+pub use show::{internal, record, show};
+
+use crate::words;
+
+/// The words of the form, which are no names.
+const FORM: [&str; 8] = ["table", "internal", "call", "return", "mark", "state", "over", "->"];
+
+/// Whether a word may be a name: no number, no word of the form, and nothing that a terminal obeys.
+fn is_name(word: &str) -> bool {
+    !words::is_number(word) && !FORM.contains(&word) && !word.chars().any(char::is_control)
+}
+
+/// Whether bytes are meant as text: the first word is `table`.
+pub fn is_meant(bytes: &[u8]) -> bool {
+    let start = String::from_utf8_lossy(&bytes[..bytes.len().min(1 << 16)]);
+    words::words(&start).next().is_some_and(|word| word.text == "table")
+}
