@@ -9,10 +9,10 @@ use lib.ListN.{length, getD}
 use Rattle.cnf.specs.Clauses.{valueOf}
 use Rattle.cnf.specs.Closing.{SettledOr}
 use Rattle.cnf.proofs.Queue.{settled-or-more}
-use Rattle.propagate.specs.Trail.{Ready, Attended}
-use Rattle.propagate.proofs.Trails.{grown-same}
-use Rattle.propagate.proofs.Working.{settled-or-behind, worked-length, worked-on, set-on, worked-trans, ready-part, worked-part}
-use Rattle.propagate.proofs.Queueing.{Queueing, queue-ready, queue-values, next-queued}
+use Rattle.rows.specs.Trail.{Ready, Attended}
+use Rattle.rows.proofs.Trails.{grown-same}
+use Rattle.rows.proofs.Working.{settled-or-behind, worked-length, worked-on, set-on, worked-trans, ready-part, worked-part}
+use Rattle.conclude.proofs.Queueing.{Queueing, queue-ready, queue-values, next-queued}
 
 module _ (cs ds : List (List ℕ)) where
   pub to-ds : (c : List ℕ) → List·Memᴰ c ds → List·Memᴰ c (cs ++ ds)

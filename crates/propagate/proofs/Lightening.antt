@@ -19,9 +19,9 @@ use Rattle.cnf.proofs.Values.{set-cases}
 use Rattle.cnf.proofs.Found.{right-is}
 use Rattle.propagate.specs.Asked.{Over}
 use Rattle.propagate.specs.Chains.{clauseAt}
-use Rattle.propagate.specs.Conclusions.{saying}
+use Rattle.rows.specs.Conclusions.{saying}
 use Rattle.propagate.specs.Sift.{StandsAt, Left, units, unheld, lightened, SetIn, AllSet, Written}
-use Rattle.propagate.specs.Trail.{unsetting}
+use Rattle.rows.specs.Trail.{unsetting}
 use Rattle.propagate.proofs.Walking.{clause-words}
 use Rattle.propagate.proofs.Sifting.{any-more}
 

@@ -11,11 +11,11 @@ use Rattle.lists.proofs.Members.{getD-any}
 use Rattle.cnf.specs.Clauses.{valueOf, clausesIn}
 use Rattle.cnf.specs.Search.{broken, forcing, quiet, seen}
 use Rattle.cnf.specs.Closing.{holds, SettledOr}
+use Rattle.rows.specs.Trail.{Ready, Worked, Attended}
+use Rattle.rows.specs.Rows.{Forced}
+use Rattle.rows.proofs.Working.{worked-none, worked-extends, asked-quiet, worked-broken, worked-store, store-keeps, store-own}
 use Rattle.propagate.specs.Chains.{clauseAt, OnChain, here, later, PlaceOf, Meets, Linked}
-use Rattle.propagate.specs.Trail.{Ready, Worked, Attended}
-use Rattle.propagate.specs.Rows.{Forced}
 use Rattle.propagate.proofs.Linking.{none-on}
-use Rattle.propagate.proofs.Working.{worked-none, worked-extends, asked-quiet, worked-broken, worked-store, store-keeps, store-own}
 
 -- the literal l of x is false: 2x where x is 0, and 2x + 1 where x is 1
 pub record Falsified (v : List ℕ) (x l : ℕ) : Type 0 where

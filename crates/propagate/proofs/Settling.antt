@@ -10,9 +10,9 @@ use lib.Seq.{slice, slice-empty, length-take-le}
 use Rattle.cnf.specs.Clauses.{valueOf}
 use Rattle.cnf.specs.Closing.{Settled, AtRest, Waiting}
 use Rattle.cnf.proofs.Queue.{waiting-more, rest-waiting, waiting-rest}
-use Rattle.propagate.specs.Trail.{unsetting, Ready, Worked, Passed, Queue, Drained, Settles}
-use Rattle.propagate.proofs.Trails.{grown-same, grown-slice}
-use Rattle.propagate.proofs.Working.{worked-none, worked-length, worked-on, worked-count, worked-trans, ready-part, worked-part, drained-broken, drained-settles}
+use Rattle.rows.specs.Trail.{unsetting, Ready, Worked, Passed, Queue, Drained, Settles}
+use Rattle.rows.proofs.Trails.{grown-same, grown-slice}
+use Rattle.rows.proofs.Working.{worked-none, worked-length, worked-on, worked-count, worked-trans, ready-part, worked-part, drained-broken, drained-settles}
 use Rattle.propagate.proofs.Attending.{to-ds, to-cs}
 
 -- clauses at rest wait for the variables that steps by others have set

@@ -10,8 +10,8 @@ use Rattle.cnf.specs.Clauses.{valueOf, clausesIn, wordsOf}
 use Rattle.cnf.specs.Search.{isRight}
 use Rattle.cnf.specs.Closing.{Formed}
 use Rattle.propagate.specs.Chains.{clauseAt}
-use Rattle.propagate.specs.Conclusions.{saying}
-use Rattle.propagate.specs.Trail.{Worked}
+use Rattle.rows.specs.Conclusions.{saying}
+use Rattle.rows.specs.Trail.{Worked}
 
 -- a clause of the list stands at the place
 pub record StandsAt (ws : List ℕ) (p : ℕ) : Type 0 where

@@ -5,16 +5,16 @@ ghost use Prim.Native.Nat.{_+_, _*_, _<_, _≤_};
 ghost use lib.ListN.{length, replicate};
 ghost use Rattle.cnf.specs.Clauses.{valueOf, clausesIn};
 ghost use Rattle.pairs.specs.Entries.{PairTable};
+ghost use Rattle.rows.specs.Conclusions.{withTriangles};
+ghost use Rattle.rows.specs.Rows.{Rows};
+ghost use Rattle.rows.specs.Trail.{Ready, Attended, Queue, Settles};
 ghost use Rattle.propagate.specs.Chains.{LinkRoom, Unlinked, Linked};
-ghost use Rattle.propagate.specs.Conclusions.{withTriangles};
-ghost use Rattle.propagate.specs.Rows.{Rows};
-ghost use Rattle.propagate.specs.Trail.{Ready, Attended, Queue, Settles};
-use super::conclude::conclude;
 use super::passes::Asked;
-use super::passes::Reached;
 use super::passes::ask;
-use super::rows::force;
-use super::wide;
+use conclude::Reached;
+use conclude::conclude;
+use rows::force;
+use rows::wide;
 
 // No chain has a place yet.
 pub fn no_heads() -> [u16; 1560]

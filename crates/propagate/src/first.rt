@@ -9,15 +9,15 @@ ghost use Rattle.cnf.specs.Clauses.{valueOf, clausesIn, whole};
 ghost use Rattle.cnf.specs.Search.{isRight};
 ghost use Rattle.pairs.specs.Entries.{PairTable};
 ghost use Rattle.propagate.specs.Asked.{Over};
-ghost use Rattle.propagate.specs.Conclusions.{saying};
-ghost use Rattle.propagate.specs.Rows.{Rows};
+ghost use Rattle.rows.specs.Conclusions.{saying};
+ghost use Rattle.rows.specs.Rows.{Rows};
 ghost use Rattle.propagate.specs.Sift.{Sifts, SetIn, AllSet, units, lightened, Lightens, Written};
-ghost use Rattle.propagate.specs.Trail.{Ready};
+ghost use Rattle.rows.specs.Trail.{Ready};
 use super::passes::Asked;
 use super::passes::ask;
 use super::passes::is_right;
-use super::rows::force;
-use super::wide;
+use rows::force;
+use rows::wide;
 
 // Whether a clause is broken, how many variables are set, and how many clauses are left.
 pub struct Sifted {

@@ -9,25 +9,13 @@ ghost use Rattle.cnf.specs.Search.{isRight, isUnset, seen};
 ghost use Rattle.pairs.specs.Entries.{PairTable};
 ghost use Rattle.pairs.specs.Triangles.{triangles};
 ghost use Rattle.propagate.specs.Asked.{Over, seenOf, Holds};
-ghost use Rattle.propagate.specs.Conclusions.{withTriangles};
-ghost use Rattle.propagate.specs.Rows.{Rows};
-ghost use Rattle.propagate.specs.Trail.{Ready, Passed, Queue, Settles};
-use super::conclude::drain;
-use super::rows::force;
-use super::wide;
-
-// Whether a clause is broken, and how many variables are set.
-pub struct Reached {
-    pub broken: bool,
-    pub count: usize,
-}
-
-// The value of its variable that makes a literal true.
-pub fn wanted(l: u16) -> u8
-    ensures { λ r. ⌜ r ≡ 1 - l % 2 ⌝ }
-{
-    (1 - l % 2) as u8
-}
+ghost use Rattle.rows.specs.Conclusions.{withTriangles};
+ghost use Rattle.rows.specs.Rows.{Rows};
+ghost use Rattle.rows.specs.Trail.{Ready, Passed, Queue, Settles};
+use conclude::Reached;
+use conclude::drain;
+use rows::force;
+use rows::wide;
 
 // Whether a literal is right where its variable is x.
 fn says(l: u16, x: u8) -> bool

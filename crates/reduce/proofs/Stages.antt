@@ -40,7 +40,7 @@ use Rattle.encoding.specs.declared.Listed.the-variants.{List as Words, Refused 
 use Rattle.encoding.proofs.Short.{short-formed, short-tried}
 use Rattle.clauses.specs.Emit.{listedBy}
 use Rattle.search.specs.Turns.{noneSet, Fresh, EndsWith}
-use Rattle.propagate.specs.Conclusions.{withTriangles}
+use Rattle.rows.specs.Conclusions.{withTriangles}
 use Rattle.search.specs.declared.engine.Ending.{Ending}
 use Rattle.search.specs.declared.engine.Ending.the-variants.{Found, Absent, Spent}
 use Rattle.search.proofs.Answering.{prefix-is, prefix-values}

@@ -13,9 +13,9 @@ use Rattle.cnf.specs.Trials.{searchTried}
 use Rattle.cnf.specs.Closing.{Formed}
 use Rattle.search.specs.declared.engine.Ending.{Ending}
 use Rattle.search.specs.declared.engine.Ending.the-variants.{Found, Absent, Spent}
-use Rattle.propagate.specs.Conclusions.{withTriangles}
+use Rattle.rows.specs.Conclusions.{withTriangles}
 use Rattle.search.specs.Turns.{noneSet, Fresh, EndsWith, outcomeOf}
-use Rattle.propagate.proofs.Triangles.{with-none}
+use Rattle.conclude.proofs.Triangles.{with-none}
 use Rattle.search.proofs.Turns.{ends-outcome}
 
 -- ---- the values and the outcome

@@ -7,10 +7,10 @@ use native.Mathlib.Omega.{arith}
 use lib.ListN.{length, getD, take}
 use lib.Seq.{slice, take-take}
 use Rattle.cnf.specs.Trials.{onlyTrue, satisfied}
-use Rattle.propagate.specs.Trail.{unsetting}
+use Rattle.rows.specs.Trail.{unsetting}
 use Rattle.search.specs.Trial.{heldIf, backAlong, Retraceable}
-use Rattle.propagate.specs.Undo.{Undoable}
-use Rattle.propagate.proofs.Trails.{length-unsetting}
+use Rattle.rows.specs.Undo.{Undoable}
+use Rattle.rows.proofs.Trails.{length-unsetting}
 
 -- the walk came from the values v₀, with d₀ guesses and count₀ variables on the trail t, to v, with d and count
 pub record Retracing (cs : List (List ℕ)) (ms v₀ t : List ℕ) (d₀ count₀ : ℕ) (v : List ℕ) (d count : ℕ) : Type 0 where

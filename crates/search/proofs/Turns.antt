@@ -29,21 +29,21 @@ use Rattle.cnf.proofs.Trying.{closedTrials, endOf, TriesTo, there, turn, tried-
 use Rattle.cnf.proofs.Trials.{latest as latestTrial, Holds, holds-start, holds-closed, holds-undone, holds-guess, holds-latest, horn-trial, solved-held, tried-alike}
 use Rattle.pairs.specs.Triangles.{triangles}
 use Rattle.propagate.specs.Sift.{Left, Sifts, AllSet, lightened, Lightens}
-use Rattle.propagate.specs.Trail.{unsetting, Ready, Grown, Worked, Queue, closedBy, Settles}
-use Rattle.propagate.specs.Rows.{Rows, Own, Settable, Forced}
-use Rattle.propagate.specs.Conclusions.{withTriangles}
+use Rattle.rows.specs.Trail.{unsetting, Ready, Grown, Worked, Queue, closedBy, Settles}
+use Rattle.rows.specs.Rows.{Rows, Own, Settable, Forced}
+use Rattle.rows.specs.Conclusions.{withTriangles}
 use Rattle.search.specs.Trial.{heldIf, backAlong, Retraceable}
 use Rattle.search.specs.Turns.{NextUnset, Fresh, Begun, Rested, EndsWith, outcomeOf}
-use Rattle.propagate.specs.Undo.{Undoable, Undone}
+use Rattle.rows.specs.Undo.{Undoable, Undone}
 use Rattle.search.specs.declared.engine.Ending.{Ending}
 use Rattle.search.specs.declared.engine.Ending.the-variants.{Found, Absent, Spent}
-use Rattle.propagate.proofs.Trails.{unsetting-append, length-unsetting, unsetting-store, grown-length, grown-store}
-use Rattle.propagate.proofs.Working.{worked-length, worked-on, worked-part, ready-part}
+use Rattle.rows.proofs.Trails.{unsetting-append, length-unsetting, unsetting-store, grown-length, grown-store}
+use Rattle.rows.proofs.Working.{worked-length, worked-on, worked-part, ready-part}
 use Rattle.propagate.proofs.Attending.{to-cs}
 use Rattle.propagate.proofs.Settling.{worked-queue}
 use Rattle.propagate.proofs.Lightening.{covered, lighter-to, lighter-from, lighter-formed}
-use Rattle.propagate.proofs.Marking.{rows-start}
-use Rattle.propagate.proofs.Triangles.{with-formed, triangles-horn, unset-rest}
+use Rattle.rows.proofs.Marking.{rows-start}
+use Rattle.conclude.proofs.Triangles.{with-formed, triangles-horn, unset-rest}
 
 -- ---- the guesses that stand
 

@@ -5,7 +5,7 @@ use Prim.Native.Nat.{ℕ, zero, suc, _≤_, _<_}
 use lib.ListN.{length, getD, take, drop, replicate}
 use lib.Dec.{eqb}
 use Rattle.cnf.specs.Trials.{onlyTrue, satisfied}
-use Rattle.propagate.specs.Trail.{unsetting}
+use Rattle.rows.specs.Trail.{unsetting}
 
 -- a value of the trial where that holds, else false
 abbrev pub heldValue : ℕ → Bool → ℕ

@@ -12,8 +12,8 @@ use Rattle.cnf.specs.Trials.{Tried}
 use Rattle.cnf.specs.Closing.{Formed, unsetCount, _⊑_, AtRest, rests, Closes}
 use Rattle.pairs.specs.Pairs.{pairs}
 use Rattle.pairs.specs.Triangles.{triangles}
-use Rattle.propagate.specs.Trail.{Ready, Queue}
-use Rattle.propagate.specs.Conclusions.{withTriangles}
+use Rattle.rows.specs.Trail.{Ready, Queue}
+use Rattle.rows.specs.Conclusions.{withTriangles}
 use Rattle.search.specs.declared.engine.Ending.{Ending}
 use Rattle.search.specs.declared.engine.Ending.the-variants.{Found, Absent, Spent}
 

@@ -6,25 +6,25 @@ ghost use lib.ListN.{length};
 ghost use Rattle.cnf.specs.Clauses.{whole};
 ghost use Rattle.cnf.specs.Trials.{notFalse, searchTried};
 ghost use Rattle.pairs.specs.Entries.{PairTable};
+ghost use Rattle.rows.specs.Conclusions.{withTriangles};
+ghost use Rattle.rows.specs.Rows.{Rows};
+ghost use Rattle.rows.specs.Trail.{Ready, Queue, Settles};
 ghost use Rattle.propagate.specs.Chains.{LinkRoom, Chained};
-ghost use Rattle.propagate.specs.Conclusions.{withTriangles};
-ghost use Rattle.propagate.specs.Rows.{Rows};
-ghost use Rattle.propagate.specs.Trail.{Ready, Queue, Settles};
 ghost use Rattle.search.specs.Turns.{NextUnset, Fresh, Begun, Rested, EndsWith};
 use super::trial::not_false;
 use super::trial::walk_back;
+use conclude::Reached;
 use pairs::pair_table;
-use propagate::Reached;
-use propagate::force;
 use propagate::lighten;
 use propagate::link;
 use propagate::no_heads;
-use propagate::own_rows;
 use propagate::settle;
 use propagate::settle_linked;
 use propagate::sift;
-use propagate::undo;
-use propagate::wide;
+use rows::force;
+use rows::own_rows;
+use rows::undo;
+use rows::wide;
 
 // How the search ends, with the guesses made. The values left are those found, or where the budget is spent the trial that is held.
 pub enum Ending {

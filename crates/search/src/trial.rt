@@ -9,11 +9,11 @@ ghost use Rattle.cnf.specs.Search.{isRight};
 ghost use Rattle.cnf.specs.Trials.{onlyTrue, satisfied, notFalse};
 ghost use Rattle.cnf.specs.Closing.{Formed};
 ghost use Rattle.pairs.specs.Entries.{PairTable};
+ghost use Rattle.rows.specs.Rows.{Rows};
 ghost use Rattle.propagate.specs.Asked.{Over};
-ghost use Rattle.propagate.specs.Rows.{Rows};
 ghost use Rattle.search.specs.Trial.{heldValue, heldIf, backAlong, Retraceable};
-use propagate::unwind;
-use propagate::wide;
+use rows::unwind;
+use rows::wide;
 
 // How many variables are not false.
 pub fn not_false(values: &[u8]) -> usize

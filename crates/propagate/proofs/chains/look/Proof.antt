@@ -2,9 +2,9 @@
 -- literal is settled or has a variable that was set. Assumes nothing.
 use borrow.Author.Needs.{needs}
 use native.Mathlib.Omega.{arith}
-use Rattle.propagate.specs.Rows.{Rows}
+use Rattle.rows.specs.Rows.{Rows}
+use Rattle.rows.proofs.Working.{worked-length, asked-below, can-force}
 use Rattle.propagate.proofs.Asking.{lent-over, lent-seen}
-use Rattle.propagate.proofs.Working.{worked-length, asked-below, can-force}
 use Rattle.propagate.proofs.Looking as laws
 use Rattle.propagate.proofs.chains.look.Statement.{statement}
 use Rattle.propagate.proofs.chains.look.Tie as tie

@@ -5,10 +5,10 @@ use Prim.Native.Nat.{_-_}
 use lib.ListN.{length}
 use Rattle.cnf.specs.Clauses.{clausesIn}
 use Rattle.pairs.specs.Triangles.{triangles}
-use Rattle.propagate.specs.Rows.{Rows}
-use Rattle.propagate.proofs.Working.{drained-settles}
+use Rattle.rows.specs.Rows.{Rows}
+use Rattle.rows.proofs.Working.{drained-settles}
+use Rattle.conclude.proofs.Queueing as laws
 use Rattle.propagate.proofs.Attending as groups
-use Rattle.propagate.proofs.Queueing as laws
 use Rattle.propagate.proofs.chains.settle_linked.Statement.{statement}
 use Rattle.propagate.proofs.chains.settle_linked.Tie as tie
 

@@ -5,10 +5,10 @@ use native.Mathlib.Omega.{arith}
 use Prim.Native.Nat.{_-_}
 use mathlib.Core.Path.{_≡_, refl, ap, _∙_}
 use lib.ListN.{length}
-use Rattle.propagate.specs.Rows.{Rows}
+use Rattle.rows.specs.Rows.{Rows}
 use Rattle.propagate.proofs.Walking.{end-inside, clause-in}
 use Rattle.propagate.proofs.Asking.{lent-over, lent-seen, lent-holds}
-use Rattle.propagate.proofs.Working.{worked-length, asked-below, can-force}
+use Rattle.rows.proofs.Working.{worked-length, asked-below, can-force}
 use Rattle.propagate.proofs.Sifting as laws
 use Rattle.propagate.proofs.first.sift.Statement.{statement}
 use Rattle.propagate.proofs.first.sift.Tie as tie

@@ -1,7 +1,7 @@
 -- `propagate::passes::is_right` meets its contract. Assumes nothing.
 use borrow.Author.Needs.{needs}
 use mathlib.Core.Path.{_∙_}
-use Rattle.propagate.proofs.Trails.{right-at}
+use Rattle.rows.proofs.Trails.{right-at}
 use Rattle.propagate.proofs.passes.is_right.Statement.{statement}
 use Rattle.propagate.proofs.passes.is_right.Tie as tie
 

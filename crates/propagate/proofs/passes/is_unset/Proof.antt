@@ -1,6 +1,6 @@
 -- `propagate::passes::is_unset` meets its contract. Assumes nothing.
 use borrow.Author.Needs.{needs}
-use Rattle.propagate.proofs.Trails.{unset-at}
+use Rattle.rows.proofs.Trails.{unset-at}
 use Rattle.propagate.proofs.passes.is_unset.Statement.{statement}
 use Rattle.propagate.proofs.passes.is_unset.Tie as tie
 

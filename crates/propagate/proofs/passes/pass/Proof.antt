@@ -8,10 +8,10 @@ use mathlib.Core.Path.{_≡_, refl, sym, _∙_}
 use mathlib.Core.Logic.{⊎-elim}
 use mathlib.Core.Bool.{false}
 use lib.ListN.{length}
-use Rattle.propagate.specs.Rows.{Rows}
+use Rattle.rows.specs.Rows.{Rows}
+use Rattle.rows.proofs.Working.{worked-length, can-force}
 use Rattle.propagate.proofs.Walking.{end-inside, clause-in}
 use Rattle.propagate.proofs.Asking as asking
-use Rattle.propagate.proofs.Working.{worked-length, can-force}
 use Rattle.propagate.proofs.Passing as laws
 use Rattle.propagate.proofs.passes.pass.Statement.{statement}
 use Rattle.propagate.proofs.passes.pass.Tie as tie

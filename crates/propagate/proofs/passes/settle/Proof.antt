@@ -4,7 +4,7 @@ use Prim.Native.Nat.{_-_}
 use lib.ListN.{length}
 use Rattle.cnf.specs.Clauses.{clausesIn}
 use Rattle.pairs.specs.Triangles.{triangles}
-use Rattle.propagate.specs.Rows.{Rows}
+use Rattle.rows.specs.Rows.{Rows}
 use Rattle.propagate.proofs.Settling as laws
 use Rattle.propagate.proofs.passes.settle.Statement.{statement}
 use Rattle.propagate.proofs.passes.settle.Tie as tie

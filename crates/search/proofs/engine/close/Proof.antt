@@ -3,9 +3,9 @@ use borrow.Author.Needs.{needs}
 use native.Mathlib.Omega.{arith}
 use Rattle.cnf.specs.Clauses.{clausesIn}
 use Rattle.pairs.specs.Triangles.{triangles}
-use Rattle.propagate.proofs.Working.{queue-part, drained-settles}
+use Rattle.rows.proofs.Working.{queue-part, drained-settles}
+use Rattle.conclude.proofs.Queueing.{queueing, queue-end}
 use Rattle.propagate.proofs.Attending.{to-ds}
-use Rattle.propagate.proofs.Queueing.{queueing, queue-end}
 use Rattle.search.proofs.engine.close.Statement.{statement}
 use Rattle.search.proofs.engine.close.Tie as tie
 

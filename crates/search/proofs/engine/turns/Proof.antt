@@ -7,8 +7,8 @@ use mathlib.Core.Path.{refl, sym, _∙_}
 use lib.ListN.{length}
 use Rattle.cnf.specs.Clauses.{clausesIn}
 use Rattle.cnf.specs.Trials.{notFalse}
-use Rattle.propagate.specs.Conclusions.{withTriangles}
-use Rattle.propagate.specs.Rows.{Rows}
+use Rattle.rows.specs.Conclusions.{withTriangles}
+use Rattle.rows.specs.Rows.{Rows}
 use Rattle.search.proofs.Turns as laws
 use Rattle.search.proofs.engine.turns.Statement.{statement}
 use Rattle.search.proofs.engine.turns.Tie as tie

@@ -2,7 +2,7 @@
 use borrow.Author.Needs.{needs}
 use Rattle.cnf.specs.Clauses.{clausesIn}
 use Rattle.pairs.specs.Triangles.{triangles}
-use Rattle.propagate.proofs.Working.{formed-part}
+use Rattle.rows.proofs.Working.{formed-part}
 use Rattle.propagate.proofs.Attending.{to-cs}
 use Rattle.propagate.proofs.Linking.{unlinked}
 use Rattle.search.proofs.engine.turns_linked.Statement.{statement}

@@ -4,7 +4,7 @@ use native.Mathlib.Omega.{arith}
 use mathlib.Core.Path.{sym, _∙_}
 use Prim.Native.Nat.{_-_}
 use Rattle.cnf.specs.Clauses.{clausesIn}
-use Rattle.propagate.specs.Rows.{Rows}
+use Rattle.rows.specs.Rows.{Rows}
 use Rattle.search.proofs.Retracing as laws
 use Rattle.search.proofs.trial.walk_back.Statement.{statement}
 use Rattle.search.proofs.trial.walk_back.Tie as tie

@@ -1,0 +1,4 @@
+pub mod Triangles
+pub mod Spreading
+pub mod Concluding
+pub mod Queueing

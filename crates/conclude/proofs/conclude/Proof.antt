@@ -1,0 +1,76 @@
+-- `conclude::conclude` meets its contract: the variable is read as its pair. Assumes nothing.
+use Rattle.rows.proofs.Setting.{pair-of}
+use Rattle.rows.proofs.Working.{worked-length}
+use Rattle.conclude.proofs.Concluding as laws
+use borrow.Author.Needs.{needs}
+use Rattle.conclude.proofs.conclude.Statement.{statement}
+use Rattle.conclude.proofs.conclude.Tie as tie
+
+returns : tie.Need-returns
+returns c = (laws.attended-none (c .before .before .before .before .pre .0 .0) (c .if1 .taken), c .before .before .before .before .pre .0 .1)
+
+pair-of-requires : tie.Need-pair-of-requires
+pair-of-requires c κs = search needs
+
+wide-requires : tie.Need-wide-requires
+wide-requires c κs = search needs
+
+slice-read-if2 : tie.Need-slice-read-if2
+slice-read-if2 c = search needs
+
+conclude-joined-requires : tie.Need-conclude-joined-requires
+conclude-joined-requires c κs =
+    let w = c .before .before .before .before .before .before .before .before .before .before .before .before .pre .0 .0 in
+    let b = c .before .before .before .before .before .before .before .before .before .before .before .before .pre .1 .1 in
+    let pair = pair-of (c .before .before .before .before .before .before .before .before .before .before .before .before .pre .0 .1) (b .0) (c .before .before .before .before .before .before .before .before .if1 .left) (c .before .before .before .before .before .before .before .before .before .before .before .before .pre .1 .0) (c .before .before .before .before .before .before .before .pair-of .ensures) in
+    (c .before .before .before .before .before .before .before .before .before .before .before .before .pre .0, (pair .order, pair .inside, laws.value-joined w pair b (c .before .before .before .before .before .before .wide .ensures) (c .before .before .before .before .if2 .taken)))
+
+same-length : tie.Need-same-length
+same-length c = worked-length (c .before .before .before .before .before .before .before .before .before .before .before .before .before .before .before .before .before .pre .0 .0) (c .before .before .before .before .conclude-joined .ensures .0 .worked)
+
+same-length-2 : tie.Need-same-length-2
+same-length-2 c = c .before .before .before .before .conclude-joined .ensures .0 .worked .grown .long
+
+returns-2 : tie.Need-returns-2
+returns-2 c =
+    let w = c .before .before .before .before .before .before .before .before .before .before .before .before .before .before .before .before .before .pre .0 .0 in
+    let b = c .before .before .before .before .before .before .before .before .before .before .before .before .before .before .before .before .before .pre .1 .1 in
+    let pair = pair-of (c .before .before .before .before .before .before .before .before .before .before .before .before .before .before .before .before .before .pre .0 .1) (b .0) (c .before .before .before .before .before .before .before .before .before .before .before .before .before .if1 .left) (c .before .before .before .before .before .before .before .before .before .before .before .before .before .before .before .before .before .pre .1 .0) (c .before .before .before .before .before .before .before .before .before .before .before .before .pair-of .ensures) in
+    (laws.at-variable w pair (c .before .before .before .before .conclude-joined .ensures .0), c .before .before .before .before .conclude-joined .ensures .1)
+
+conclude-apart-requires : tie.Need-conclude-apart-requires
+conclude-apart-requires c κs =
+    let w = c .before .before .before .before .before .before .before .before .before .before .before .before .pre .0 .0 in
+    let b = c .before .before .before .before .before .before .before .before .before .before .before .before .pre .1 .1 in
+    let pair = pair-of (c .before .before .before .before .before .before .before .before .before .before .before .before .pre .0 .1) (b .0) (c .before .before .before .before .before .before .before .before .if1 .left) (c .before .before .before .before .before .before .before .before .before .before .before .before .pre .1 .0) (c .before .before .before .before .before .before .before .pair-of .ensures) in
+    (c .before .before .before .before .before .before .before .before .before .before .before .before .pre .0, (pair .order, pair .inside, laws.value-apart w pair b (c .before .before .before .before .before .before .wide .ensures) (c .before .before .before .before .if2 .left)))
+
+same-length-3 : tie.Need-same-length-3
+same-length-3 c = worked-length (c .before .before .before .before .before .before .before .before .before .before .before .before .before .before .before .before .before .pre .0 .0) (c .before .before .before .before .conclude-apart .ensures .0 .worked)
+
+same-length-4 : tie.Need-same-length-4
+same-length-4 c = c .before .before .before .before .conclude-apart .ensures .0 .worked .grown .long
+
+returns-3 : tie.Need-returns-3
+returns-3 c =
+    let w = c .before .before .before .before .before .before .before .before .before .before .before .before .before .before .before .before .before .pre .0 .0 in
+    let b = c .before .before .before .before .before .before .before .before .before .before .before .before .before .before .before .before .before .pre .1 .1 in
+    let pair = pair-of (c .before .before .before .before .before .before .before .before .before .before .before .before .before .before .before .before .before .pre .0 .1) (b .0) (c .before .before .before .before .before .before .before .before .before .before .before .before .before .if1 .left) (c .before .before .before .before .before .before .before .before .before .before .before .before .before .before .before .before .before .pre .1 .0) (c .before .before .before .before .before .before .before .before .before .before .before .before .pair-of .ensures) in
+    (laws.at-variable w pair (c .before .before .before .before .conclude-apart .ensures .0), c .before .before .before .before .conclude-apart .ensures .1)
+
+pub conclude-spec : {M : Type 1} → statement M
+conclude-spec =
+    tie.close
+    (tie.spec
+    returns
+    pair-of-requires
+    wide-requires
+    slice-read-if2
+    conclude-joined-requires
+    same-length
+    same-length-2
+    returns-2
+    conclude-apart-requires
+    same-length-3
+    same-length-4
+    returns-3)

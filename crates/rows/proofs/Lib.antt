@@ -1,0 +1,7 @@
+pub mod Trails
+pub mod Working
+pub mod Words
+pub mod Marking
+pub mod Setting
+pub mod Undoing
+pub mod Unwinding

@@ -1,0 +1,42 @@
+-- `rows::rows::assign` meets its contract. Assumes nothing.
+use Rattle.rows.proofs.Setting as laws
+use borrow.Author.Needs.{needs}
+use Rattle.rows.proofs.rows.assign.Statement.{statement}
+use Rattle.rows.proofs.rows.assign.Tie as tie
+
+wide-requires : tie.Need-wide-requires
+wide-requires c κs = search needs
+
+slice-write-values : tie.Need-slice-write-values
+slice-write-values c = search needs
+
+same-length : tie.Need-same-length
+same-length c = search needs
+
+returns : tie.Need-returns
+returns c = laws.assigned-none (c .before .before .before .before .pre .1 .rows) (c .before .wide .ensures) (c .if1 .taken)
+
+pair-of-requires : tie.Need-pair-of-requires
+pair-of-requires c κs = search needs
+
+mark-pair-requires : tie.Need-mark-pair-requires
+mark-pair-requires c κs = laws.pair-states (c .before .before .before .before .before .before .before .pre .1 .rows) (c .before .before .before .before .wide .ensures) (laws.pair-of (c .before .before .before .before .before .before .before .pre .1 .rows) (c .before .before .before .before .before .before .before .pre .1 .inside) (c .before .before .before .if1 .left) (c .before .before .before .before .before .before .before .pre .0) (c .before .before .pair-of .ensures))
+
+same-length-2 : tie.Need-same-length-2
+same-length-2 c = search needs
+
+returns-2 : tie.Need-returns-2
+returns-2 c = laws.assigned-marked (c .before .before .before .before .before .before .before .before .pre .1 .rows) (c .before .before .before .before .before .wide .ensures) (laws.pair-of (c .before .before .before .before .before .before .before .before .pre .1 .rows) (c .before .before .before .before .before .before .before .before .pre .1 .inside) (c .before .before .before .before .if1 .left) (c .before .before .before .before .before .before .before .before .pre .0) (c .before .before .before .pair-of .ensures)) (c .before .before .before .before .before .before .before .before .pre .1 .unset) (c .before .before .before .before .before .before .before .before .pre .1 .small) (c .mark-pair .ensures)
+
+pub assign-spec : {M : Type 1} → statement M
+assign-spec =
+    tie.close
+    (tie.spec
+    wide-requires
+    slice-write-values
+    same-length
+    returns
+    pair-of-requires
+    mark-pair-requires
+    same-length-2
+    returns-2)

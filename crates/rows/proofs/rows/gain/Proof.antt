@@ -1,0 +1,39 @@
+-- `rows::rows::gain` meets its contract. Assumes nothing.
+use borrow.Author.Needs.{needs}
+use Rattle.rows.specs.Rows.{gain}
+use Rattle.rows.proofs.rows.gain.Statement.{statement}
+use Rattle.rows.proofs.rows.gain.Tie as tie
+
+index-requires : tie.Need-index-requires
+index-requires c κs = search needs
+
+mul-words : tie.Need-mul-words
+mul-words c = search needs
+
+element-copy-out-words : tie.Need-element-copy-out-words
+element-copy-out-words c = search needs
+
+bit-requires : tie.Need-bit-requires
+bit-requires c κs = search needs
+
+mul-words-2 : tie.Need-mul-words-2
+mul-words-2 c = search needs
+
+element-write-words : tie.Need-element-write-words
+element-write-words c = search needs
+
+returns : tie.Need-returns
+unfolding gain
+returns c = rw (c .bit .ensures, c .before .before .index .ensures)
+
+pub gain-spec : {M : Type 1} → statement M
+gain-spec =
+    tie.close
+    (tie.spec
+    index-requires
+    mul-words
+    element-copy-out-words
+    bit-requires
+    mul-words-2
+    element-write-words
+    returns)

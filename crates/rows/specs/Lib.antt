@@ -1,0 +1,4 @@
+pub mod Trail
+pub mod Rows
+pub mod Conclusions
+pub mod Undo
