@@ -1,18 +1,18 @@
 -- Laws for judging a list of clause words: what is still to come of each loop. Assumes nothing.
 use mathlib.Core.Path.{_≡_, refl, sym, ap, _∙_, subst}
 use mathlib.Core.Logic.{_⊎_, inl, inr}
-use mathlib.Core.Bool.{Bool, true, false, _&&_, _||_, not, and-false, or-false as or-none}
-use mathlib.Core.List.{List, [], _∷_, _++_, map, map-append, List·Memᴰ, List·Memᴰ·head, List·Memᴰ·tail, Memᴰ·append-right, List·Memᴰ·append-cases as append-cases, List·Memᴰ·not-nil as not-nil, List·Memᴰ·eq-of-singleton as eq-of-singleton}
-use Prim.Native.Nat.{ℕ, suc, _+_, _-_, _/_, _≤_, _<_}
+use mathlib.Core.Bool.{Bool, true, false, _&&_, _||_, not, and-false, true≢false}
+use mathlib.Core.List.{List, [], _∷_, map, List·Memᴰ, List·Memᴰ·not-nil as not-nil, List·Memᴰ·cases-cons as cases-cons}
+use Prim.Native.Nat.{ℕ, zero, suc, _+_, _-_, _/_, _≤_, _<_}
 use native.Mathlib.Numerals.{add-one}
 use native.Mathlib.Omega.{arith}
 use native.Mathlib.Decide.{ℕ-discrete}
 use lib.ListN.{length, getD, set, take, drop, replicate, getD-replicate, length-set, length-drop, drop-of-length-le}
-use lib.Seq.{getD-set-same, getD-set-other, take-suc, drop-cons, drop-drop, take-all, split-at}
+use lib.Seq.{getD-set-same, getD-set-other, drop-cons, drop-drop}
 use lib.Dec.{eqb, leb, ltb}
-use borrow.Author.Tests.{eqb-false, eq-eqb, ne-eqb, le-leb, lt-leb, not-true}
+use borrow.Author.Tests.{eq-eqb, ne-eqb, le-leb, lt-leb}
 use Rattle.lists.specs.Lists.{any, all, mem}
-use Rattle.lists.proofs.Members.{and-true, or-right, or-false, not-so, mem-true, mem-false, mem-snoc}
+use Rattle.lists.proofs.Members.{and-true, and-of, or-left, not-so, getD-mem, one-on}
 use Rattle.search.specs.Marks.{Below}
 use Rattle.cnf.specs.Clauses.{clausesIn, whole, distinct, clauseFits}
 use Rattle.cnf.proofs.Words.{clauses-nil, clauses-cons, whole-nil, whole-cons, fits-below, fits-distinct, fits-of}
@@ -23,15 +23,21 @@ variablesOf = map (λ l. l / 2)
 
 -- ---- the marks of the variables met in a clause
 
+-- from the last literal down to the one at i
 pub record Marked (ls marks : List ℕ) (mark i : ℕ) : Type 0 where
   pub below : Below marks (mark + 1)
-  pub met : (x : ℕ) → x < 780 → eqb (getD marks x 0) mark ≡ mem x (variablesOf (take i ls))
+  pub met : (x : ℕ) → x < 780 → eqb (getD marks x 0) mark ≡ mem x (variablesOf (drop i ls))
 
-pub marked : (ls : List ℕ) {marks : List ℕ} {mark : ℕ} → Below marks mark → Marked ls marks mark 0
+-- none is left behind the last one
+none-on : (ls : List ℕ) → drop (length ls) ls ≡ []
+none-on [] = refl
+none-on (l ∷ ls) = none-on ls
+
+pub marked : (ls : List ℕ) {marks : List ℕ} {mark : ℕ} → Below marks mark → Marked ls marks mark (length ls)
 unfolding mem any
 marked ls {marks} {mark} b = record {
   below = record { long = b .long; lower = λ x h. omega (arith, b .lower x h) };
-  met = λ x h. ne-eqb (getD marks x 0) mark (λ e. omega (arith, b .lower x h, e));
+  met = λ x h. rw (none-on ls) (ne-eqb (getD marks x 0) mark (λ e. omega (arith, b .lower x h, e)));
 }
 
 pub none-marked : Below (replicate 780 0) 1
@@ -40,17 +46,19 @@ none-marked = record { long = refl; lower = λ x h. omega (arith, getD-replicate
 pub lower-still : {marks : List ℕ} {a b : ℕ} → Below marks a → a ≤ b → Below marks b
 lower-still p h = record { long = p .long; lower = λ x k. omega (arith, p .lower x k) }
 
-pub mark-on : {ls marks : List ℕ} {mark i x : ℕ} → Marked ls marks mark i → i < length ls → x ≡ getD ls i 0 / 2 → x < 780 → Marked ls (set marks x mark) mark (i + 1)
-mark-on {ls} {marks} {mark} {i} {x} p h e k = record {
+-- the variables from a literal on
+variables-on : (ls : List ℕ) (i : ℕ) → i < length ls → variablesOf (drop i ls) ≡ (getD ls i 0 / 2) ∷ variablesOf (drop (i + 1) ls)
+variables-on ls i h = ap variablesOf (one-on ls i h)
+
+pub mark-on : {ls marks : List ℕ} {mark i j x : ℕ} → j ≡ i + 1 → Marked ls marks mark j → i < length ls → x ≡ getD ls i 0 / 2 → x < 780 → Marked ls (set marks x mark) mark i
+unfolding mem any
+mark-on {ls} {marks} {mark} {i} {j} {x} s g h e k = record {
   below = record { long = length-set marks x mark ∙ p .below .long; lower = λ y l. omega (arith, lows y l (ℕ-discrete y x)) };
-  met = λ y l. mets y l (ℕ-discrete y x) ∙ sym (ap (mem y) grown ∙ mem-snoc y x (variablesOf (take i ls)));
+  met = λ y l. mets y l (ℕ-discrete y x) ∙ ap (λ z. eqb y z || mem y (variablesOf (drop (i + 1) ls))) e ∙ sym (ap (mem y) (variables-on ls i h));
 }
   where
-    more : take (i + 1) ls ≡ take i ls ++ (getD ls i 0 ∷ [])
-    more = rw add-one (take-suc ls i 0 h)
-
-    grown : variablesOf (take (i + 1) ls) ≡ variablesOf (take i ls) ++ (x ∷ [])
-    grown = ap variablesOf more ∙ map-append (λ l. l / 2) (take i ls) (getD ls i 0 ∷ []) ∙ ap (λ z. variablesOf (take i ls) ++ (z ∷ [])) (sym e)
+    p : Marked ls marks mark (i + 1)
+    p = subst (Marked ls marks mark) s g
 
     here : getD (set marks x mark) x 0 ≡ mark
     here = getD-set-same marks x mark 0 (omega (arith, p .below .long))
@@ -59,81 +67,69 @@ mark-on {ls} {marks} {mark} {i} {x} p h e k = record {
     lows y l (yes q) = omega (arith, ap (λ z. getD (set marks x mark) z 0) q, here)
     lows y l (no q) = omega (arith, getD-set-other marks x y mark 0 q, p .below .lower y l)
 
-    mets : (y : ℕ) → y < 780 → Dec (y ≡ x) → eqb (getD (set marks x mark) y 0) mark ≡ (mem y (variablesOf (take i ls)) || eqb y x)
-    mets y l (yes q) = eq-eqb _ _ (ap (λ z. getD (set marks x mark) z 0) q ∙ here) ∙ sym (or-right (mem y (variablesOf (take i ls))) (eq-eqb y x q))
-    mets y l (no q) = ap (λ z. eqb z mark) (getD-set-other marks x y mark 0 q) ∙ p .met y l ∙ sym (rw (ne-eqb y x q) (or-none (mem y (variablesOf (take i ls)))))
+    mets : (y : ℕ) → y < 780 → Dec (y ≡ x) → eqb (getD (set marks x mark) y 0) mark ≡ (eqb y x || mem y (variablesOf (drop (i + 1) ls)))
+    mets y l (yes q) = eq-eqb _ _ (ap (λ z. getD (set marks x mark) z 0) q ∙ here) ∙ sym (or-left (mem y (variablesOf (drop (i + 1) ls))) (eq-eqb y x q))
+    mets y l (no q) = ap (λ z. eqb z mark) (getD-set-other marks x y mark 0 q) ∙ p .met y l ∙ sym (rw (ne-eqb y x q))
 
 -- ---- whether a clause fits
 
-distinct-snoc : (y : ℕ) (xs : List ℕ) → distinct xs ≡ true → mem y xs ≡ false → distinct (xs ++ (y ∷ [])) ≡ true
-unfolding distinct mem any
-distinct-snoc y [] d m = refl
-distinct-snoc y (x ∷ xs) d m =
-    let p = and-true (not (mem x xs)) (distinct xs) d in
-    let q = or-false (eqb y x) (mem y xs) m in
-    let other : eqb x y ≡ false = ne-eqb x y (λ e. eqb-false y x (q .0) (sym e)) in
-    rw (mem-snoc x y xs, not-true (mem x xs) (p .0), other, distinct-snoc y xs (p .1) (q .1))
-
-distinct-twice : (y : ℕ) (xs ys : List ℕ) → distinct (xs ++ y ∷ ys) ≡ true → List·Memᴰ y xs → ⊥
+distinct-on : (ls : List ℕ) (i : ℕ) → distinct (variablesOf ls) ≡ true → distinct (variablesOf (drop i ls)) ≡ true
 unfolding distinct
-distinct-twice y (x ∷ xs) ys d (List·Memᴰ·head e) =
-    let p = and-true (not (mem x (xs ++ y ∷ ys))) (distinct (xs ++ y ∷ ys)) d in
-    mem-false x (xs ++ y ∷ ys) (not-true (mem x (xs ++ y ∷ ys)) (p .0)) y (Memᴰ·append-right xs (List·Memᴰ·head refl)) (sym e)
-distinct-twice y (x ∷ xs) ys d (List·Memᴰ·tail m) = distinct-twice y xs ys (and-true (not (mem x (xs ++ y ∷ ys))) (distinct (xs ++ y ∷ ys)) d .1) m
-distinct-twice y [] ys d m = elim m [ ]
+distinct-on ls zero d = d
+distinct-on [] (suc i) d = d
+distinct-on (l ∷ ls) (suc i) d = distinct-on ls i (and-true (not (mem (l / 2) (variablesOf ls))) (distinct (variablesOf ls)) d .1)
 
 pub record Fitting (ls : List ℕ) (n i : ℕ) : Type 0 where
   pub inside : i ≤ length ls
-  pub below : (l : ℕ) → List·Memᴰ l (take i ls) → l / 2 < n
-  pub once : distinct (variablesOf (take i ls)) ≡ true
+  pub below : (l : ℕ) → List·Memᴰ l (drop i ls) → l / 2 < n
+  pub once : distinct (variablesOf (drop i ls)) ≡ true
 
-pub fitting : (ls : List ℕ) (n : ℕ) → Fitting ls n 0
+pub fitting : (ls : List ℕ) (n : ℕ) → Fitting ls n (length ls)
 unfolding distinct
-fitting ls n = record { inside = omega arith; below = λ l m. absurd (not-nil m); once = refl }
+fitting ls n =
+    record { inside = omega arith; below = λ l m. absurd (not-nil (rw (none-on ls) at m)); once = rw (none-on ls) }
 
-module _ {ls : List ℕ} {n i : ℕ} (p : Fitting ls n i) where
-  snoc-at : i < length ls → take (i + 1) ls ≡ take i ls ++ (getD ls i 0 ∷ [])
-  snoc-at h = rw add-one (take-suc ls i 0 h)
+pub fit-all : {ls : List ℕ} {n : ℕ} → Fitting ls n 0 → true ≡ clauseFits n ls
+fit-all {ls} {n} p = sym (fits-of n ls (p .below) (p .once))
 
-  split : i < length ls → take i ls ++ getD ls i 0 ∷ drop (suc i) ls ≡ ls
-  split h = sym (split-at ls i 0 h)
+pub fit-done : {ls : List ℕ} {n i : ℕ} → Fitting ls n i → i ≤ 0 → true ≡ clauseFits n ls
+fit-done {ls} {n} {i} p h = let e : i ≡ 0 = omega (arith, h) in fit-all (subst (Fitting ls n) e p)
 
-  pub fit-past : i < length ls → n ≤ getD ls i 0 / 2 → false ≡ clauseFits n ls
-  fit-past h k = sym (not-so (clauseFits n ls) (λ e. bad (fits-below n ls e (getD ls i 0) (subst (λ (zs : List ℕ). List·Memᴰ (getD ls i 0) zs) (split h) (Memᴰ·append-right (take i ls) (List·Memᴰ·head refl))))))
+-- the next literal down, by its mark
+module _ {ls marks : List ℕ} {n mark i j x : ℕ} (s : j ≡ i + 1) (p : Fitting ls n j) (m : Marked ls marks mark j) (most : n ≤ 780) (h : i < length ls) (e : x ≡ getD ls i 0 / 2) where
+  pub mark-past : n ≤ x → false ≡ clauseFits n ls
+  mark-past k = sym (not-so (clauseFits n ls) (λ f. bad (fits-below n ls f (getD ls i 0) (getD-mem ls i 0 h))))
     where
       bad : getD ls i 0 / 2 < n → ⊥
       bad l = omega arith
 
-  pub fit-twice : i < length ls → mem (getD ls i 0 / 2) (variablesOf (take i ls)) ≡ true → false ≡ clauseFits n ls
-  fit-twice h k = sym (not-so (clauseFits n ls) (λ e. distinct-twice (getD ls i 0 / 2) (variablesOf (take i ls)) (variablesOf (drop (suc i) ls)) (parted (fits-distinct n ls e)) (mem-true _ _ k)))
-    where
-      parted : distinct (variablesOf ls) ≡ true → distinct (variablesOf (take i ls) ++ (getD ls i 0 / 2) ∷ variablesOf (drop (suc i) ls)) ≡ true
-      parted d = ap distinct (sym (map-append (λ l. l / 2) (take i ls) (getD ls i 0 ∷ drop (suc i) ls)) ∙ ap variablesOf (split h)) ∙ d
-
-  pub fit-on : i < length ls → getD ls i 0 / 2 < n → mem (getD ls i 0 / 2) (variablesOf (take i ls)) ≡ false → Fitting ls n (i + 1)
-  fit-on h k m = record {
-    inside = omega arith;
-    below = λ l q. pick l (append-cases (take i ls) (rw (snoc-at h) at q));
-    once = rw (snoc-at h, map-append) (distinct-snoc _ (variablesOf (take i ls)) (p .once) m);
-  }
-    where
-      pick : (l : ℕ) → List·Memᴰ l (take i ls) ⊎ List·Memᴰ l (getD ls i 0 ∷ []) → l / 2 < n
-      pick l (inl q) = p .below l q
-      pick l (inr q) = let e = eq-of-singleton q in rw e k
-
-  pub fit-all : length ls ≤ i → true ≡ clauseFits n ls
-  fit-all h = sym (fits-of n ls (rw (take-all i ls h) at (p .below)) (rw (take-all i ls h) at (p .once)))
-
--- the same by the marks
-module _ {ls marks : List ℕ} {n mark i x : ℕ} (p : Fitting ls n i) (m : Marked ls marks mark i) (most : n ≤ 780) (h : i < length ls) (e : x ≡ getD ls i 0 / 2) where
-  pub mark-past : n ≤ x → false ≡ clauseFits n ls
-  mark-past k = fit-past p h (omega arith)
+  met-is : x < n → eqb (getD marks x 0) mark ≡ mem (getD ls i 0 / 2) (variablesOf (drop (i + 1) ls))
+  met-is k = (subst (Marked ls marks mark) s m) .met x (omega arith) ∙ ap (λ z. mem z (variablesOf (drop (i + 1) ls))) e
 
   pub mark-twice : x < n → getD marks x 0 ≡ mark → false ≡ clauseFits n ls
-  mark-twice k q = fit-twice p h (ap (λ z. mem z (variablesOf (take i ls))) (sym e) ∙ sym (m .met x (omega arith)) ∙ eq-eqb _ _ q)
+  unfolding distinct
+  mark-twice k q = sym (not-so (clauseFits n ls) (λ f. twice (distinct-on ls i (fits-distinct n ls f))))
+    where
+      there : mem (getD ls i 0 / 2) (variablesOf (drop (i + 1) ls)) ≡ true
+      there = sym (met-is k) ∙ eq-eqb _ _ q
 
-  pub mark-new : x < n → (getD marks x 0 ≡ mark → ⊥) → Fitting ls n (i + 1)
-  mark-new k q = fit-on p h (omega arith) (ap (λ z. mem z (variablesOf (take i ls))) (sym e) ∙ sym (m .met x (omega arith)) ∙ ne-eqb _ _ q)
+      twice : distinct (variablesOf (drop i ls)) ≡ true → ⊥
+      twice d = true≢false (sym (rw (variables-on ls i h, distinct, there) at d))
+
+  pub mark-new : x < n → (getD marks x 0 ≡ mark → ⊥) → Fitting ls n i
+  unfolding distinct
+  mark-new k q = record {
+    inside = omega arith;
+    below = λ l g. pick l (cases-cons (rw (one-on ls i h) at g));
+    once = ap distinct (variables-on ls i h) ∙ and-of (ap not absent) ((subst (Fitting ls n) s p) .once);
+  }
+    where
+      absent : mem (getD ls i 0 / 2) (variablesOf (drop (i + 1) ls)) ≡ false
+      absent = sym (met-is k) ∙ ne-eqb _ _ q
+
+      pick : (l : ℕ) → (l ≡ getD ls i 0) ⊎ List·Memᴰ l (drop (i + 1) ls) → l / 2 < n
+      pick l (inl g) = rw g (omega (arith, e, k))
+      pick l (inr g) = (subst (Fitting ls n) s p) .below l g
 
 -- ---- short clauses, without marks
 

@@ -75,8 +75,9 @@ fn clause_fits(literals: &[u16], variables: usize, marks: &mut [usize; 780], mar
     if literals.len() == 2 {
         return two_fit(literals, variables);
     }
-    let mut i: usize = 0;
-    'literals: while i < literals.len() {
+    let mut i = literals.len();
+    'literals: while 0 < i {
+        i -= 1;
         let x = wide(literals[i] / 2);
         if variables <= x {
             return false;
@@ -85,7 +86,6 @@ fn clause_fits(literals: &[u16], variables: usize, marks: &mut [usize; 780], mar
             return false;
         }
         marks[x] = mark;
-        i += 1;
     }
     true
 }

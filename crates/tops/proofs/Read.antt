@@ -122,15 +122,15 @@ module _ (L : Limits) (b : List ℕ) where
       rw (ne-eqb (readNumber L b) 0 (λ z. r .1 (sym (r .0) ∙ z)), examinedOf) (λ i. record { number = sym (r .0) i; starts = record { symbols = 0; states = 0; internals = 0; calls = 0; returns = 0 }; words = replicate stateMost 0; found = 0 })
 
   -- the tops alone
-  pub examined-tops : record { number = examinedOf L b .number; words = examinedOf L b .words; found = examinedOf L b .found } ≡ topsOf L b
-  unfolding examinedOf topsOf
-  examined-tops = go (eqb (readNumber L b) 0) refl
-    where
-      go : (x : Bool) → eqb (readNumber L b) 0 ≡ x → record { number = examinedOf L b .number; words = examinedOf L b .words; found = examinedOf L b .found } ≡ topsOf L b
-      go true p = rw (p, examinedOf, topsOf)
-      go false p = rw (p, examinedOf, topsOf)
+  pub tops-answer : {s : Starts} {t : TopWords} → SectionsAt s ≡ readOf L b → t ≡ topsFound (tableOf b) → (t ≡ topsOf L b) × TopsExact L b t
+  unfolding topsOf topsFound
+  tops-answer {s} {t} e f =
+      let g : t ≡ topsOf L b = rw (eq-eqb (readNumber L b) 0 (read-sections e .0), topsOf) f in
+      (g, subst (λ (t : TopWords). TopsExact L b t) (sym g) (tops-exact L b))
 
-  pub tops-answer : {x : Examined} → x ≡ examinedOf L b → (record { number = x .number; words = x .words; found = x .found } ≡ topsOf L b) × TopsExact L b (record { number = x .number; words = x .words; found = x .found })
-  tops-answer {x} e =
-      let f : record { number = x .number; words = x .words; found = x .found } ≡ topsOf L b = (λ i. record { number = e i .number; words = e i .words; found = e i .found }) ∙ examined-tops in
-      (f, subst (λ (t : TopWords). TopsExact L b t) (sym f) (tops-exact L b))
+  pub tops-refused : {k : ℕ} → RefusedBy k ≡ readOf L b → (record { number = k; words = replicate stateMost 0; found = 0 } ≡ topsOf L b) × TopsExact L b (record { number = k; words = replicate stateMost 0; found = 0 })
+  unfolding topsOf
+  tops-refused {k} e =
+      let r = read-refused e in
+      let g : record { number = k; words = replicate stateMost 0; found = 0 } ≡ topsOf L b = rw (ne-eqb (readNumber L b) 0 (λ z. r .1 (sym (r .0) ∙ z)), topsOf) (λ i. record { number = sym (r .0) i; words = replicate stateMost 0; found = 0 }) in
+      (g, subst (λ (t : TopWords). TopsExact L b t) (sym g) (tops-exact L b))

@@ -184,9 +184,9 @@ fn tops_in(word: u64) -> u32
 }
 
 // The number of tops in the first n words.
-fn count_tops(words: [u64; 40], n: usize) -> u32
-    requires { ⌜ n ≤ 40 ⌝ }
-    ensures { λ r. ⌜ r ≡ onesOver 64 (take n words) ⌝ }
+fn count_tops(words: &[u64; 40], n: usize) -> u32
+    requires { ⌜ (n ≤ 40) × (length (now words) ≡ 40) ⌝ }
+    ensures { λ r. ⌜ r ≡ onesOver 64 (take n (now (words .entry))) ⌝ }
 {
     let mut found: u32 = 0;
     let mut q: usize = 0;
@@ -203,10 +203,11 @@ fn tops_of(states: &[u8], internals: &[u8], calls: &[u8], returns: &[u8]) -> Top
     ensures { λ r. ⌜ r ≡ topsFound (sectioned 0 [] (now (states .entry)) (now (internals .entry)) (now (calls .entry)) (now (returns .entry))) ⌝ }
 {
     let words = words_of(states, internals, calls, returns);
+    let found = count_tops(&words, states.len());
     TopWords {
         number: 0,
-        words: words,
-        found: count_tops(words, states.len()),
+        words,
+        found,
     }
 }
 
@@ -259,12 +260,14 @@ pub fn tops_within(limits: Limits, table: &[u8]) -> TopWords
     ensures { λ r. ⌜ r ≡ topsOf limits (now (table .entry)) ⌝ }
     ensures exact { λ r. ⌜ TopsExact limits (now (table .entry)) r ⌝ }
 {
-    let e = examine(limits, table);
-    let words = e.words;
-    TopWords {
-        number: e.number,
-        words,
-        found: e.found,
+    let reading = table::read_within(limits, table);
+    match reading {
+        Reading::Sections(starts) => tops_read(table, starts),
+        Reading::Refused(number) => TopWords {
+            number,
+            words: [0u64; 40],
+            found: 0,
+        },
     }
 }
 

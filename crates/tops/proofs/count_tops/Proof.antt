@@ -10,25 +10,25 @@ use Rattle.tops.proofs.count_tops.Statement.{statement}
 use Rattle.tops.proofs.count_tops.Tie as tie
 
 abbrev Inv-words : tie.InvT-words
-Inv-words n words found₀ q₀ found q = Summing (onesIn 64) 64 words n found q
+Inv-words words n found₀ q₀ found q = Summing (onesIn 64) 64 words n found q
 
 abbrev μ-words : tie.MeasureT-words
-μ-words n words found₀ q₀ found q = n - q
+μ-words words n found₀ q₀ found q = n - q
 
 words-holds : tie.Need-words-holds Inv-words μ-words
-words-holds c = summing _ _ _ _ (omega (arith, c .pre, c .good .0 .1 .0 .1))
+words-holds c = summing _ _ _ _ (omega (arith, c .pre))
 
 mul-tops-in : tie.Need-mul-tops-in Inv-words μ-words
 mul-tops-in c = search needs
 
-array-read-tops-in : tie.Need-array-read-tops-in Inv-words μ-words
-array-read-tops-in c = search needs
+element-copy-out-tops-in : tie.Need-element-copy-out-tops-in Inv-words μ-words
+element-copy-out-tops-in c = omega (arith, c .before .before .pre, c .words-test .taken)
 
 tops-in-requires : tie.Need-tops-in-requires Inv-words μ-words
 tops-in-requires c κs = search needs
 
 add-found : tie.Need-add-found Inv-words μ-words
-add-found c = record { fits = let h = sum-fits (c .before .before .words .inv) (c .before .before .before .pre) (c .before .words-test .taken) (c .tops-in .ensures) (ones-le 64 _) in omega arith }
+add-found c = record { fits = let h = sum-fits (c .before .before .before .words .inv) (c .before .before .before .before .pre .0) (c .before .before .words-test .taken) (c .tops-in .ensures) (ones-le 64 _) in omega arith }
 
 add-q : tie.Need-add-q Inv-words μ-words
 add-q c = search needs
@@ -37,7 +37,7 @@ words-less : tie.Need-words-less Inv-words μ-words
 words-less c = search needs
 
 words-again : tie.Need-words-again Inv-words μ-words
-words-again c = sum-on (c .before .before .words .inv) (c .before .words-test .taken) (c .tops-in .ensures) (ones-le 64 _)
+words-again c = sum-on (c .before .before .before .words .inv) (c .before .before .words-test .taken) (c .tops-in .ensures) (ones-le 64 _)
 
 returns : tie.Need-returns Inv-words μ-words
 returns c = summed (c .before .words .inv) (c .words-test .left) ∙ ones-total 64 _
@@ -50,7 +50,7 @@ count-tops-spec =
     μ-words
     words-holds
     mul-tops-in
-    array-read-tops-in
+    element-copy-out-tops-in
     tops-in-requires
     add-found
     add-q

@@ -1,6 +1,6 @@
 -- `tops::tops_of` meets its contract. Assumes nothing.
-use borrow.Author.Needs.{needs}
 use Rattle.tops.proofs.Padded.{answer-made}
+use borrow.Author.Needs.{needs}
 use Rattle.tops.proofs.tops_of.Statement.{statement}
 use Rattle.tops.proofs.tops_of.Tie as tie
 
@@ -11,7 +11,7 @@ count-tops-requires : tie.Need-count-tops-requires
 count-tops-requires c κs = search needs
 
 returns : tie.Need-returns
-returns c = answer-made (c .before .before .before .before .before .before .pre) (c .before .words-of .ensures) (c .count-tops .ensures)
+returns c = answer-made (c .before .before .before .before .before .before .before .pre) (c .before .before .words-of .ensures) (c .count-tops .ensures)
 
 pub tops-of-spec : {M : Type 1} → statement M
 tops-of-spec = tie.close (tie.spec words-of-requires count-tops-requires returns)
