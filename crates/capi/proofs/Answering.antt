@@ -1,10 +1,11 @@
 -- An answer's values stored where there is room, and an answer as a number, buffers and values. Assumes nothing.
 use mathlib.Core.Path.{_≡_, sym, ap, _∙_}
 use mathlib.Core.Logic.{_≢_}
-use mathlib.Core.List.{List, [], _∷_, _++_}
+use mathlib.Core.List.{List, [], _∷_, _++_, append-assoc}
 use Prim.Native.Nat.{ℕ, _≤_, _<_}
 use native.Mathlib.Omega.{arith}
-use lib.ListN.{length, drop, replicate}
+use lib.ListN.{length, getD, set, drop, length-append}
+use lib.Seq.{drop-cons, set-at}
 use borrow.Author.Tests.{le-leb, lt-leb, ne-eqb}
 use Rattle.lists.specs.Lists.{over}
 use Rattle.reach.specs.declared.TopWords.{TopWords}
@@ -17,7 +18,6 @@ use Rattle.choices.specs.Choose.{choiceValues}
 use Rattle.choices.specs.Demands.{NumberTells}
 use Rattle.seasons.specs.declared.Season.{Season}
 use Rattle.seasons.specs.Seasons.{seasonValues}
-use Rattle.lists.proofs.Copying.{Writing, write-all}
 use Rattle.capi.specs.Answers.{stored, out}
 
 -- ---- storing
@@ -34,11 +34,23 @@ pub stored-none : (values : List ℕ) → stored [] values ≡ values
 unfolding over
 stored-none values = stored-all [] values (omega arith)
 
--- the words stand in all places but the last
-module _ {last : ℕ} {words all : List ℕ} {q : ℕ} (l : length words ≡ 40) (w : Writing words (replicate 41 last) all q) where
-  pub last-kept : 40 ≤ q → all ≡ words ++ (last ∷ [])
+-- words, and one number behind them
+module _ (words values : List ℕ) (last : ℕ) (l : length words ≡ 40) where
+  long : length (words ++ (last ∷ [])) ≡ 41
+  long = omega (arith, length-append words (last ∷ []), l)
+
+  pub last-short : length values < 41 → values ≡ stored (words ++ (last ∷ [])) values
+  last-short h = sym (stored-short (words ++ (last ∷ [])) values (omega (arith, long)))
+
+  pub last-stored : 41 ≤ length values → set (stored words values) 40 last ≡ stored (words ++ (last ∷ [])) values
   unfolding over
-  last-kept h = write-all w (omega arith) ∙ ap (λ n. words ++ drop n (replicate 41 last)) l
+  last-stored h =
+      ap (λ (r : List ℕ). set r 40 last) parted
+      ∙ set-at words (getD values 40 0) (drop 41 values) last 40 l
+      ∙ sym (stored-all (words ++ (last ∷ [])) values (omega (arith, long)) ∙ rw long (append-assoc words (last ∷ []) (drop 41 values)))
+    where
+      parted : stored words values ≡ words ++ getD values 40 0 ∷ drop 41 values
+      parted = stored-all words values (omega (arith, l)) ∙ rw (l, drop-cons values 40 0 (omega arith))
 
 -- ---- an answer whose number is m and whose values are vs, as the code found them
 

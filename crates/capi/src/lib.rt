@@ -3,6 +3,7 @@
 // Each function returns the refusal's number, or 0. The answer's values are the first elements of `values` where it has room for all of them.
 ghost use mathlib.Core.Path.{_≡_};
 ghost use mathlib.Core.List.{[], _∷_, _++_};
+ghost use lib.ListN.{length};
 ghost use Rattle.limits.specs.Limits.{standard};
 ghost use Rattle.format.specs.Reading.{readOf};
 ghost use Rattle.reach.specs.Tops.{topsOf};
@@ -45,17 +46,16 @@ fn store(answer: &[u64], values: &mut [u64])
     }
 }
 
-// The words, then one number more: the words take all places but the last.
-fn words_and_count(words: [u64; 40], last: u64) -> [u64; 41]
-    ensures { λ r. ⌜ r ≡ words ++ (last ∷ []) ⌝ }
+// Stores words and one number behind them, where there is room for all.
+fn store_words(words: &[u64; 40], last: u64, values: &mut [u64])
+    requires { ⌜ length (now words) ≡ 40 ⌝ }
+    ensures { λ _. ⌜ now (values .exit) ≡ stored (now (words .entry) ++ (last ∷ [])) (now (values .entry)) ⌝ }
 {
-    let mut all = [last; 41];
-    let mut q: usize = 0;
-    'words: while q < 40 {
-        all[q] = words[q];
-        q += 1;
+    if values.len() < 41 {
+        return;
     }
-    all
+    store(words, values);
+    values[40] = last;
 }
 
 // Reads a table. Five values: the starts of symbols, states, internals, calls and returns.
@@ -117,8 +117,7 @@ pub extern "C" fn basilvault_tops_within(
         return number as u32;
     }
     let words = tops.words;
-    let answer = words_and_count(words, tops.found as u64);
-    store(&answer, values);
+    store_words(&words, tops.found as u64, values);
     0
 }
 
@@ -402,8 +401,7 @@ pub extern "C" fn basilvault_uses_within(
         return number as u32;
     }
     let sums = counted.sums;
-    let answer = words_and_count(sums, counted.total);
-    store(&answer, values);
+    store_words(&sums, counted.total, values);
     0
 }
 
