@@ -66,7 +66,7 @@ pub extern "C" fn basilvault_read_within(
     table: &[u8],
     values: &mut [u64],
 ) -> u32
-    ensures { λ r. ⌜
+    ensures answers { λ r. ⌜
         record { number = r; buffers = []; values = now (values .exit) }
         ≡ readOut (now (values .entry)) (readOf (record { states = states; symbols = symbols }) (now (table .entry))) ⌝ }
 {
@@ -91,7 +91,7 @@ pub extern "C" fn basilvault_read_within(
 // The same at the limits of a caller that gives none.
 #[no_mangle]
 pub extern "C" fn basilvault_read(table: &[u8], values: &mut [u64]) -> u32
-    ensures { λ r. ⌜
+    ensures answers { λ r. ⌜
         record { number = r; buffers = []; values = now (values .exit) }
         ≡ readOut (now (values .entry)) (readOf standard (now (table .entry))) ⌝ }
 {
@@ -106,7 +106,7 @@ pub extern "C" fn basilvault_tops_within(
     table: &[u8],
     values: &mut [u64],
 ) -> u32
-    ensures { λ r. ⌜
+    ensures answers { λ r. ⌜
         record { number = r; buffers = []; values = now (values .exit) }
         ≡ topsOut (now (values .entry)) (topsOf (record { states = states; symbols = symbols }) (now (table .entry))) ⌝ }
 {
@@ -124,7 +124,7 @@ pub extern "C" fn basilvault_tops_within(
 // The same at the limits of a caller that gives none.
 #[no_mangle]
 pub extern "C" fn basilvault_tops(table: &[u8], values: &mut [u64]) -> u32
-    ensures { λ r. ⌜
+    ensures answers { λ r. ⌜
         record { number = r; buffers = []; values = now (values .exit) }
         ≡ topsOut (now (values .entry)) (topsOf standard (now (table .entry))) ⌝ }
 {
@@ -140,7 +140,7 @@ pub extern "C" fn basilvault_clauses_within(
     list: &mut [u16],
     values: &mut [u64],
 ) -> u32
-    ensures { λ r. ⌜
+    ensures answers { λ r. ⌜
         record { number = r; buffers = now (list .exit) ∷ []; values = now (values .exit) }
         ≡ clausesOut (now (values .entry)) (clausesOf (record { states = states; symbols = symbols }) (now (table .entry)) (now (list .entry))) ⌝ }
 {
@@ -159,7 +159,7 @@ pub extern "C" fn basilvault_clauses_within(
 // The same at the limits of a caller that gives none.
 #[no_mangle]
 pub extern "C" fn basilvault_clauses(table: &[u8], list: &mut [u16], values: &mut [u64]) -> u32
-    ensures { λ r. ⌜
+    ensures answers { λ r. ⌜
         record { number = r; buffers = now (list .exit) ∷ []; values = now (values .exit) }
         ≡ clausesOut (now (values .entry)) (clausesOf standard (now (table .entry)) (now (list .entry))) ⌝ }
 {
@@ -177,7 +177,7 @@ pub extern "C" fn basilvault_search_within(
     answer: &mut [u8],
     values: &mut [u64],
 ) -> u32
-    ensures { λ r. ⌜
+    ensures answers { λ r. ⌜
         record { number = r; buffers = now (answer .exit) ∷ []; values = now (values .exit) }
         ≡ searchOut (now (values .entry)) (searchOf (record { states = states; symbols = symbols }) (now (list .entry)) variables budget (now (answer .entry))) ⌝ }
 {
@@ -202,7 +202,7 @@ pub extern "C" fn basilvault_search(
     answer: &mut [u8],
     values: &mut [u64],
 ) -> u32
-    ensures { λ r. ⌜
+    ensures answers { λ r. ⌜
         record { number = r; buffers = now (answer .exit) ∷ []; values = now (values .exit) }
         ≡ searchOut (now (values .entry)) (searchOf standard (now (list .entry)) variables budget (now (answer .entry))) ⌝ }
 {
@@ -226,7 +226,7 @@ pub extern "C" fn basilvault_check_within(
     map: &[u8],
     values: &mut [u64],
 ) -> u32
-    ensures { λ r. ⌜
+    ensures answers { λ r. ⌜
         record { number = r; buffers = []; values = now (values .exit) }
         ≡ checkOut (now (values .entry)) (checkOf (record { states = states; symbols = symbols }) (now (table .entry)) (now (map .entry))) ⌝ }
 {
@@ -245,7 +245,7 @@ pub extern "C" fn basilvault_check_within(
 // The same at the limits of a caller that gives none.
 #[no_mangle]
 pub extern "C" fn basilvault_check(table: &[u8], map: &[u8], values: &mut [u64]) -> u32
-    ensures { λ r. ⌜
+    ensures answers { λ r. ⌜
         record { number = r; buffers = []; values = now (values .exit) }
         ≡ checkOut (now (values .entry)) (checkOf standard (now (table .entry)) (now (map .entry))) ⌝ }
 {
@@ -277,7 +277,7 @@ pub extern "C" fn basilvault_quotient_within(
     out: &mut [u8],
     values: &mut [u64],
 ) -> u32
-    ensures { λ r. ⌜
+    ensures answers { λ r. ⌜
         record { number = r; buffers = now (out .exit) ∷ []; values = now (values .exit) }
         ≡ quotientOut (now (values .entry)) (quotientOf (record { states = states; symbols = symbols }) (now (table .entry)) (now (map .entry)) (now (out .entry))) ⌝ }
 {
@@ -294,7 +294,7 @@ pub extern "C" fn basilvault_quotient(
     out: &mut [u8],
     values: &mut [u64],
 ) -> u32
-    ensures { λ r. ⌜
+    ensures answers { λ r. ⌜
         record { number = r; buffers = now (out .exit) ∷ []; values = now (values .exit) }
         ≡ quotientOut (now (values .entry)) (quotientOf standard (now (table .entry)) (now (map .entry)) (now (out .entry))) ⌝ }
 {
@@ -320,7 +320,7 @@ pub extern "C" fn basilvault_reduce_within(
     out: &mut [u8],
     values: &mut [u64],
 ) -> u32
-    ensures { λ r. ⌜
+    ensures answers { λ r. ⌜
         record { number = r; buffers = now (list .exit) ∷ now (map .exit) ∷ now (out .exit) ∷ []; values = now (values .exit) }
         ≡ reduceOut (now (values .entry))
         (reduceOf (record { states = states; symbols = symbols }) (now (table .entry)) budget (now (list .entry)) (now (map .entry)) (now (out .entry))) ⌝ }
@@ -363,7 +363,7 @@ pub extern "C" fn basilvault_reduce(
     out: &mut [u8],
     values: &mut [u64],
 ) -> u32
-    ensures { λ r. ⌜
+    ensures answers { λ r. ⌜
         record { number = r; buffers = now (list .exit) ∷ now (map .exit) ∷ now (out .exit) ∷ []; values = now (values .exit) }
         ≡ reduceOut (now (values .entry))
         (reduceOf standard (now (table .entry)) budget (now (list .entry)) (now (map .entry)) (now (out .entry))) ⌝ }
@@ -390,7 +390,7 @@ pub extern "C" fn basilvault_uses_within(
     lines: &[u8],
     values: &mut [u64],
 ) -> u32
-    ensures { λ r. ⌜
+    ensures answers { λ r. ⌜
         record { number = r; buffers = []; values = now (values .exit) }
         ≡ usesOut (now (values .entry)) (usesOf (record { states = states; symbols = symbols }) (now (table .entry)) (now (map .entry)) (now (lines .entry))) ⌝ }
 {
@@ -408,7 +408,7 @@ pub extern "C" fn basilvault_uses_within(
 // The same at the limits of a caller that gives none.
 #[no_mangle]
 pub extern "C" fn basilvault_uses(table: &[u8], map: &[u8], lines: &[u8], values: &mut [u64]) -> u32
-    ensures { λ r. ⌜
+    ensures answers { λ r. ⌜
         record { number = r; buffers = []; values = now (values .exit) }
         ≡ usesOut (now (values .entry)) (usesOf standard (now (table .entry)) (now (map .entry)) (now (lines .entry))) ⌝ }
 {
@@ -425,7 +425,7 @@ pub extern "C" fn basilvault_choose_within(
     second: &[u8],
     values: &mut [u64],
 ) -> u32
-    ensures { λ r. ⌜
+    ensures answers { λ r. ⌜
         record { number = r; buffers = []; values = now (values .exit) }
         ≡ chooseOut (now (values .entry)) (choiceOf (record { states = states; symbols = symbols }) (now (table .entry)) (now (first .entry)) (now (second .entry))) ⌝ }
 {
@@ -453,7 +453,7 @@ pub extern "C" fn basilvault_choose(
     second: &[u8],
     values: &mut [u64],
 ) -> u32
-    ensures { λ r. ⌜
+    ensures answers { λ r. ⌜
         record { number = r; buffers = []; values = now (values .exit) }
         ≡ chooseOut (now (values .entry)) (choiceOf standard (now (table .entry)) (now (first .entry)) (now (second .entry))) ⌝ }
 {
@@ -481,7 +481,7 @@ pub extern "C" fn basilvault_generate_within(
     out: &mut [u8],
     values: &mut [u64],
 ) -> u32
-    ensures { λ r. ⌜
+    ensures answers { λ r. ⌜
         record { number = r; buffers = now (out .exit) ∷ []; values = now (values .exit) }
         ≡ quotientOut (now (values .entry)) (generateOf (record { states = most; symbols = symbols }) (loadOf seed states internals calls returns density) (now (out .entry))) ⌝ }
 {
@@ -514,7 +514,7 @@ pub extern "C" fn basilvault_generate(
     out: &mut [u8],
     values: &mut [u64],
 ) -> u32
-    ensures { λ r. ⌜
+    ensures answers { λ r. ⌜
         record { number = r; buffers = now (out .exit) ∷ []; values = now (values .exit) }
         ≡ quotientOut (now (values .entry)) (generateOf standard (loadOf seed states internals calls returns density) (now (out .entry))) ⌝ }
 {
@@ -548,7 +548,7 @@ pub extern "C" fn basilvault_script_within(
     script: &[u8],
     values: &mut [u64],
 ) -> u32
-    ensures { λ r. ⌜
+    ensures answers { λ r. ⌜
         record { number = r; buffers = []; values = now (values .exit) }
         ≡ scriptOut (now (values .entry)) (scriptOf (record { states = states; symbols = symbols }) (now (table .entry)) (now (script .entry))) ⌝ }
 {
@@ -567,7 +567,7 @@ pub extern "C" fn basilvault_script_within(
 // The same at the limits of a caller that gives none.
 #[no_mangle]
 pub extern "C" fn basilvault_script(table: &[u8], script: &[u8], values: &mut [u64]) -> u32
-    ensures { λ r. ⌜
+    ensures answers { λ r. ⌜
         record { number = r; buffers = []; values = now (values .exit) }
         ≡ scriptOut (now (values .entry)) (scriptOf standard (now (table .entry)) (now (script .entry))) ⌝ }
 {
@@ -584,7 +584,7 @@ pub extern "C" fn basilvault_records_within(
     out: &mut [u8],
     values: &mut [u64],
 ) -> u32
-    ensures { λ r. ⌜
+    ensures answers { λ r. ⌜
         record { number = r; buffers = now (out .exit) ∷ []; values = now (values .exit) }
         ≡ recordsOut (now (values .entry)) (recordsOf (record { states = states; symbols = symbols }) (now (table .entry)) (now (map .entry)) (now (out .entry))) ⌝ }
 {
@@ -613,7 +613,7 @@ pub extern "C" fn basilvault_records(
     out: &mut [u8],
     values: &mut [u64],
 ) -> u32
-    ensures { λ r. ⌜
+    ensures answers { λ r. ⌜
         record { number = r; buffers = now (out .exit) ∷ []; values = now (values .exit) }
         ≡ recordsOut (now (values .entry)) (recordsOf standard (now (table .entry)) (now (map .entry)) (now (out .entry))) ⌝ }
 {
@@ -623,7 +623,7 @@ pub extern "C" fn basilvault_records(
 // Says whether the second table accepts every word of the first. One value: 1 yes, 0 no.
 #[no_mangle]
 pub extern "C" fn basilvault_fit(first: &[u8], second: &[u8], values: &mut [u64]) -> u32
-    ensures { λ r. ⌜
+    ensures answers { λ r. ⌜
         record { number = r; buffers = []; values = now (values .exit) }
         ≡ fitOut (now (values .entry)) (fitOf (now (first .entry)) (now (second .entry))) ⌝ }
 {
@@ -655,7 +655,7 @@ pub extern "C" fn basilvault_season_within(
     out: &mut [u8],
     values: &mut [u64],
 ) -> u32
-    ensures { λ r. ⌜
+    ensures answers { λ r. ⌜
         record { number = r; buffers = now (list .exit) ∷ now (maps .exit) ∷ now (out .exit) ∷ []; values = now (values .exit) }
         ≡ seasonOut (now (values .entry))
         (seasonOf (record { states = states; symbols = symbols }) (now (tables .entry)) (now (lengths .entry)) guesses (now (list .entry)) (now (maps .entry)) (now (out .entry))) ⌝ }
@@ -682,7 +682,7 @@ pub extern "C" fn basilvault_season(
     out: &mut [u8],
     values: &mut [u64],
 ) -> u32
-    ensures { λ r. ⌜
+    ensures answers { λ r. ⌜
         record { number = r; buffers = now (list .exit) ∷ now (maps .exit) ∷ now (out .exit) ∷ []; values = now (values .exit) }
         ≡ seasonOut (now (values .entry))
         (seasonOf standard (now (tables .entry)) (now (lengths .entry)) guesses (now (list .entry)) (now (maps .entry)) (now (out .entry))) ⌝ }

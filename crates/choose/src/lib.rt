@@ -35,7 +35,7 @@ fn which_known(table: &[u8], starts: Starts, words: &[u64], first: &[u8], second
 
 // The number and which map, of a table that is read at limits: it is read and its tops are worked out once for both maps.
 pub fn decide_within(limits: Limits, table: &[u8], first: &[u8], second: &[u8]) -> Choice
-    ensures { λ r. ⌜ r ≡ choiceOf limits (now (table .entry)) (now (first .entry)) (now (second .entry)) ⌝ }
+    ensures answers { λ r. ⌜ r ≡ choiceOf limits (now (table .entry)) (now (first .entry)) (now (second .entry)) ⌝ }
     ensures tells { λ r. ⌜ NumberTells r ⌝ }
 {
     let examined = tops::examine(limits, table);
@@ -72,7 +72,7 @@ pub fn choose_within<'a>(
     first: &'a [u8],
     second: &'a [u8],
 ) -> &'a [u8]
-    ensures { λ r. ⌜ sliceOf r ≡ chooseOf limits (now (table .entry)) (sliceOf (first .entry)) (sliceOf (second .entry)) ⌝ }
+    ensures answers { λ r. ⌜ sliceOf r ≡ chooseOf limits (now (table .entry)) (sliceOf (first .entry)) (sliceOf (second .entry)) ⌝ }
     ensures chosen { λ r. ⌜ HandedBack limits (now (table .entry)) (first .entry) (second .entry) r ⌝ }
 {
     let choice = decide_within(limits, table, first, second);
@@ -86,7 +86,7 @@ pub fn choose_within<'a>(
 
 // The refusal's number, 0 when a map is handed back.
 pub fn choose_number_within(limits: Limits, table: &[u8], first: &[u8], second: &[u8]) -> u8
-    ensures { λ r. ⌜ r ≡ chooseNumber limits (now (table .entry)) (now (first .entry)) (now (second .entry)) ⌝ }
+    ensures answers { λ r. ⌜ r ≡ chooseNumber limits (now (table .entry)) (now (first .entry)) (now (second .entry)) ⌝ }
     ensures neither { λ r. ⌜ NeitherPasses limits (now (table .entry)) (now (first .entry)) (now (second .entry)) r ⌝ }
 {
     let choice = decide_within(limits, table, first, second);
@@ -95,7 +95,7 @@ pub fn choose_number_within(limits: Limits, table: &[u8], first: &[u8], second: 
 
 // The number and which map, at the limits of a caller that gives none.
 pub fn decide(table: &[u8], first: &[u8], second: &[u8]) -> Choice
-    ensures { λ r. ⌜ r ≡ choiceOf standard (now (table .entry)) (now (first .entry)) (now (second .entry)) ⌝ }
+    ensures answers { λ r. ⌜ r ≡ choiceOf standard (now (table .entry)) (now (first .entry)) (now (second .entry)) ⌝ }
     ensures tells { λ r. ⌜ NumberTells r ⌝ }
 {
     decide_within(limits::standard(), table, first, second)
@@ -103,7 +103,7 @@ pub fn decide(table: &[u8], first: &[u8], second: &[u8]) -> Choice
 
 // Hands back one of two lent maps, at the limits of a caller that gives none.
 pub fn choose<'a>(table: &[u8], first: &'a [u8], second: &'a [u8]) -> &'a [u8]
-    ensures { λ r. ⌜ sliceOf r ≡ chooseOf standard (now (table .entry)) (sliceOf (first .entry)) (sliceOf (second .entry)) ⌝ }
+    ensures answers { λ r. ⌜ sliceOf r ≡ chooseOf standard (now (table .entry)) (sliceOf (first .entry)) (sliceOf (second .entry)) ⌝ }
     ensures chosen { λ r. ⌜ HandedBack standard (now (table .entry)) (first .entry) (second .entry) r ⌝ }
 {
     choose_within(limits::standard(), table, first, second)
@@ -111,7 +111,7 @@ pub fn choose<'a>(table: &[u8], first: &'a [u8], second: &'a [u8]) -> &'a [u8]
 
 // The refusal's number, at the limits of a caller that gives none.
 pub fn choose_number(table: &[u8], first: &[u8], second: &[u8]) -> u8
-    ensures { λ r. ⌜ r ≡ chooseNumber standard (now (table .entry)) (now (first .entry)) (now (second .entry)) ⌝ }
+    ensures answers { λ r. ⌜ r ≡ chooseNumber standard (now (table .entry)) (now (first .entry)) (now (second .entry)) ⌝ }
     ensures neither { λ r. ⌜ NeitherPasses standard (now (table .entry)) (now (first .entry)) (now (second .entry)) r ⌝ }
 {
     choose_number_within(limits::standard(), table, first, second)

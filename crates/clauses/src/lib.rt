@@ -48,7 +48,10 @@ fn all_groups(
     list: &mut [u16],
 ) -> Tally
     requires { ⌜ Ready (now states) (now internals) (now calls) (now returns) × Ordered tally ⌝ }
-    ensures { λ r. ⌜ state r (now (list .exit)) ≡ emit (listBy whole (now (states .entry)) (now (internals .entry)) (now (calls .entry)) (now (returns .entry)) (now (tops .entry))) (state tally (now (list .entry))) ⌝ }
+    ensures { λ r. ⌜
+        state r (now (list .exit))
+        ≡ emit (listBy whole (now (states .entry)) (now (internals .entry)) (now (calls .entry)) (now (returns .entry)) (now (tops .entry)))
+        (state tally (now (list .entry))) ⌝ }
 {
     let count = states.len() as u8;
     let first = looks_apart(states, tally, list);
@@ -69,7 +72,10 @@ fn list_sections(
     list: &mut [u16],
 ) -> Listed
     requires { ⌜ Ready (now states) (now internals) (now calls) (now returns) ⌝ }
-    ensures { λ r. ⌜ record { answer = r; list = now (list .exit) } ≡ listedBy (listBy whole (now (states .entry)) (now (internals .entry)) (now (calls .entry)) (now (returns .entry)) (now (tops .entry))) (now (list .entry)) ⌝ }
+    ensures { λ r. ⌜
+        record { answer = r; list = now (list .exit) }
+        ≡ listedBy (listBy whole (now (states .entry)) (now (internals .entry)) (now (calls .entry)) (now (returns .entry)) (now (tops .entry)))
+        (now (list .entry)) ⌝ }
 {
     let measuring = Tally {
         write: false,
@@ -134,7 +140,7 @@ pub fn list_read(
 
 // The clause list of a table that is read at limits.
 pub fn clauses_within(limits: Limits, table: &[u8], list: &mut [u16]) -> Listed
-    ensures { λ r. ⌜ record { answer = r; list = now (list .exit) } ≡ clausesOf limits (now (table .entry)) (now (list .entry)) ⌝ }
+    ensures answers { λ r. ⌜ record { answer = r; list = now (list .exit) } ≡ clausesOf limits (now (table .entry)) (now (list .entry)) ⌝ }
     ensures sound { λ r. ⌜ ListSound limits (now (table .entry)) (now (list .exit)) r ⌝ }
 {
     let e = tops::examine(limits, table);
@@ -148,7 +154,7 @@ pub fn clauses_within(limits: Limits, table: &[u8], list: &mut [u16]) -> Listed
 
 // The clause list of a table, at the limits of a caller that gives none.
 pub fn clauses(table: &[u8], list: &mut [u16]) -> Listed
-    ensures { λ r. ⌜ record { answer = r; list = now (list .exit) } ≡ clausesOf standard (now (table .entry)) (now (list .entry)) ⌝ }
+    ensures answers { λ r. ⌜ record { answer = r; list = now (list .exit) } ≡ clausesOf standard (now (table .entry)) (now (list .entry)) ⌝ }
     ensures sound { λ r. ⌜ ListSound standard (now (table .entry)) (now (list .exit)) r ⌝ }
 {
     clauses_within(limits::standard(), table, list)

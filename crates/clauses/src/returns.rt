@@ -90,7 +90,10 @@ fn return_record(
     list: &mut [u16],
 ) -> Tally
     requires { ⌜ Sorted 4 (now section) × (count ≤ 40) × Ordered tally ⌝ }
-    ensures { λ r. ⌜ state r (now (list .exit)) ≡ emit (gather (λ q. gather (λ u. returnOf (records 4 (now (section .entry))) x q u) (topStates (now (tops .entry)) count q)) (upto count)) (state tally (now (list .entry))) ⌝ }
+    ensures { λ r. ⌜
+        state r (now (list .exit))
+        ≡ emit (gather (λ q. gather (λ u. returnOf (records 4 (now (section .entry))) x q u) (topStates (now (tops .entry)) count q)) (upto count))
+        (state tally (now (list .entry))) ⌝ }
 {
     let mut at = tally;
     let mut q: u8 = 0;

@@ -36,7 +36,9 @@ fn spread(
 ) -> Reached
     requires { ⌜ Ready (triangles n) (now values) (now trail) start × Rows n (now values) (now joined) (now apart) ⌝ }
     requires { ⌜ Spreads n (now values) q todo x ⌝ }
-    ensures { λ r. ⌜ Spread n (now (values .entry)) (now (trail .entry)) start q todo x (now (values .exit)) (now (trail .exit)) (r .broken) (r .count) × Rows n (now (values .exit)) (now (joined .exit)) (now (apart .exit)) ⌝ }
+    ensures { λ r. ⌜
+        Spread n (now (values .entry)) (now (trail .entry)) start q todo x (now (values .exit)) (now (trail .exit)) (r .broken) (r .count)
+        × Rows n (now (values .exit)) (now (joined .exit)) (now (apart .exit)) ⌝ }
 {
     let mut count = start;
     let mut rest = todo;
@@ -78,7 +80,9 @@ fn spread_both(
 ) -> Reached
     requires { ⌜ Ready (triangles n) (now values) (now trail) start × Rows n (now values) (now joined) (now apart) ⌝ }
     requires { ⌜ Spreads n (now values) q todo x × Spreads n (now values) p back x ⌝ }
-    ensures { λ r. ⌜ SpreadBoth n (now (values .entry)) (now (trail .entry)) start p q todo back x (now (values .exit)) (now (trail .exit)) (r .broken) (r .count) × Rows n (now (values .exit)) (now (joined .exit)) (now (apart .exit)) ⌝ }
+    ensures { λ r. ⌜
+        SpreadBoth n (now (values .entry)) (now (trail .entry)) start p q todo back x (now (values .exit)) (now (trail .exit)) (r .broken) (r .count)
+        × Rows n (now (values .exit)) (now (joined .exit)) (now (apart .exit)) ⌝ }
 {
     let a = spread(n, q, todo, x, values, trail, joined, apart, start);
     if a.broken {
@@ -100,7 +104,10 @@ fn conclude_joined(
 ) -> Reached
     requires { ⌜ Ready (triangles n) (now values) (now trail) start × Rows n (now values) (now joined) (now apart) ⌝ }
     requires { ⌜ (p < q) × (q < n) × (valueOf (now values) (variableOf p q) ≡ 1) ⌝ }
-    ensures { λ r. ⌜ Attended (triangles n) (variableOf p q) (now (values .entry)) (now (trail .entry)) start (now (values .exit)) (now (trail .exit)) (r .broken) (r .count) × Rows n (now (values .exit)) (now (joined .exit)) (now (apart .exit)) ⌝ }
+    ensures { λ r. ⌜
+        Attended (triangles n) (variableOf p q) (now (values .entry)) (now (trail .entry)) start (now (values .exit)) (now (trail .exit)) (r .broken)
+        (r .count)
+        × Rows n (now (values .exit)) (now (joined .exit)) (now (apart .exit)) ⌝ }
 {
     let to_q = lacking(joined, p, joined, q);
     let to_p = lacking(joined, q, joined, p);
@@ -138,7 +145,10 @@ fn conclude_apart(
 ) -> Reached
     requires { ⌜ Ready (triangles n) (now values) (now trail) start × Rows n (now values) (now joined) (now apart) ⌝ }
     requires { ⌜ (p < q) × (q < n) × (valueOf (now values) (variableOf p q) ≡ 0) ⌝ }
-    ensures { λ r. ⌜ Attended (triangles n) (variableOf p q) (now (values .entry)) (now (trail .entry)) start (now (values .exit)) (now (trail .exit)) (r .broken) (r .count) × Rows n (now (values .exit)) (now (joined .exit)) (now (apart .exit)) ⌝ }
+    ensures { λ r. ⌜
+        Attended (triangles n) (variableOf p q) (now (values .entry)) (now (trail .entry)) start (now (values .exit)) (now (trail .exit)) (r .broken)
+        (r .count)
+        × Rows n (now (values .exit)) (now (joined .exit)) (now (apart .exit)) ⌝ }
 {
     let from_q = lacking(joined, p, apart, q);
     let from_p = lacking(joined, q, apart, p);
@@ -171,7 +181,9 @@ pub fn conclude(
     requires { ⌜ Ready (triangles n) (now values) (now trail) start × Rows n (now values) (now joined) (now apart) ⌝ }
     requires { ⌜ PairTable (now table) ⌝ }
     requires { ⌜ (x < length (now values)) × (valueOf (now values) x ≢ 2) ⌝ }
-    ensures { λ r. ⌜ Attended (triangles n) x (now (values .entry)) (now (trail .entry)) start (now (values .exit)) (now (trail .exit)) (r .broken) (r .count) × Rows n (now (values .exit)) (now (joined .exit)) (now (apart .exit)) ⌝ }
+    ensures { λ r. ⌜
+        Attended (triangles n) x (now (values .entry)) (now (trail .entry)) start (now (values .exit)) (now (trail .exit)) (r .broken) (r .count)
+        × Rows n (now (values .exit)) (now (joined .exit)) (now (apart .exit)) ⌝ }
 {
     if n == 0 {
         return Reached {
@@ -201,7 +213,9 @@ pub fn drain(
 ) -> Reached
     requires { ⌜ Ready (triangles n) (now values) (now trail) start × Rows n (now values) (now joined) (now apart) ⌝ }
     requires { ⌜ PairTable (now table) × Queue (triangles n) (now values) (now trail) from start ⌝ }
-    ensures { λ r. ⌜ Drained (triangles n) (now (values .entry)) (now (trail .entry)) start (now (values .exit)) (now (trail .exit)) (r .broken) (r .count) × Rows n (now (values .exit)) (now (joined .exit)) (now (apart .exit)) ⌝ }
+    ensures { λ r. ⌜
+        Drained (triangles n) (now (values .entry)) (now (trail .entry)) start (now (values .exit)) (now (trail .exit)) (r .broken) (r .count)
+        × Rows n (now (values .exit)) (now (joined .exit)) (now (apart .exit)) ⌝ }
 {
     let mut at = from;
     let mut count = start;

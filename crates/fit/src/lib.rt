@@ -53,7 +53,7 @@ fn fit_second(first: &[u8], one: Starts, second: &[u8]) -> Fitting
 // Says whether the second table accepts every word of the first; or the first refusal that applies. Both are read at the limits of a caller that
 // gives none.
 pub fn fit(first: &[u8], second: &[u8]) -> Fitting
-    ensures { λ r. ⌜ r ≡ fitOf (now (first .entry)) (now (second .entry)) ⌝ }
+    ensures answers { λ r. ⌜ r ≡ fitOf (now (first .entry)) (now (second .entry)) ⌝ }
     ensures exact { λ r. ⌜ YesExactly (now (first .entry)) (now (second .entry)) r ⌝ }
     ensures apart { λ r. ⌜ NoApart (now (first .entry)) (now (second .entry)) r ⌝ }
     ensures quotient { λ r. ⌜ FitsQuotient (now (first .entry)) (now (second .entry)) r ⌝ }

@@ -44,7 +44,9 @@ fn rest(
     rows: &mut [u64; 6000],
 )
     requires { ⌜ Named 3 24 (now internals) × Named 3 24 (now calls) × Named 4 24 (now returns) × Nexts n (now moves) × Nexts n (now pushes) × Nexts n (now pops) × (k ≤ 24) ⌝ }
-    ensures { λ _. ⌜ Rests (now (internals .entry)) (now (calls .entry)) (now (returns .entry)) (now (moves .entry)) (now (pushes .entry)) (now (pops .entry)) k n (now (rows .entry)) (now (rows .exit)) ⌝ }
+    ensures { λ _. ⌜
+        Rests (now (internals .entry)) (now (calls .entry)) (now (returns .entry)) (now (moves .entry)) (now (pushes .entry)) (now (pops .entry)) k n
+        (now (rows .entry)) (now (rows .exit)) ⌝ }
 {
     let pairs = k * (n + 1);
     let mut left = pairs * (pairs + 1) + 1;

@@ -95,7 +95,7 @@ pub fn generate_within(
     density: u32,
     out: &mut [u8],
 ) -> Written
-    ensures { λ r. ⌜ record { answer = r; out = now (out .exit) } ≡ generateOf limits (loadOf seed states internals calls returns density) (now (out .entry)) ⌝ }
+    ensures answers { λ r. ⌜ record { answer = r; out = now (out .exit) } ≡ generateOf limits (loadOf seed states internals calls returns density) (now (out .entry)) ⌝ }
     ensures readable { λ r. ⌜ WritesReadable limits r (now (out .exit)) ⌝ }
     ensures described { λ r. ⌜ WritesDescribed (loadOf seed states internals calls returns density) r (now (out .exit)) ⌝ }
 {
@@ -118,7 +118,7 @@ pub fn generate(
     density: u32,
     out: &mut [u8],
 ) -> Written
-    ensures { λ r. ⌜ record { answer = r; out = now (out .exit) } ≡ generateOf standard (loadOf seed states internals calls returns density) (now (out .entry)) ⌝ }
+    ensures answers { λ r. ⌜ record { answer = r; out = now (out .exit) } ≡ generateOf standard (loadOf seed states internals calls returns density) (now (out .entry)) ⌝ }
     ensures readable { λ r. ⌜ WritesReadable standard r (now (out .exit)) ⌝ }
     ensures described { λ r. ⌜ WritesDescribed (loadOf seed states internals calls returns density) r (now (out .exit)) ⌝ }
 {

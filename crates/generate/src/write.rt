@@ -79,7 +79,11 @@ pub(crate) fn write_keys(
     out: &mut [u8],
 ) -> Written
     requires { ⌜ Counts states symbols × (internals + calls ≤ symbols) × FewKeys (now moves) (now pushes) (now pops) ⌝ }
-    ensures { λ r. ⌜ record { answer = r; out = now (out .exit) } ≡ writtenFor (bytesOf (keyedTable 1 (symbolBytes internals calls symbols) (stateBytes states) (now (moves .entry)) (now (pushes .entry)) (now (pops .entry)))) (now (out .entry)) ⌝ }
+    ensures { λ r. ⌜
+        record { answer = r; out = now (out .exit) }
+        ≡ writtenFor
+        (bytesOf (keyedTable 1 (symbolBytes internals calls symbols) (stateBytes states) (now (moves .entry)) (now (pushes .entry)) (now (pops .entry))))
+        (now (out .entry)) ⌝ }
 {
     let records = 3 * moves.len() + 3 * pushes.len() + 4 * pops.len();
     let length = symbols + states + records + 12;

@@ -71,7 +71,7 @@ pub fn map_number(table: &[u8], starts: Starts, words: &[u64], map: &[u8]) -> u8
 
 // Checks a map of a table that is read at limits: the class count, or the first refusal that applies.
 pub fn check_within(limits: Limits, table: &[u8], map: &[u8]) -> Checked
-    ensures { λ r. ⌜ r ≡ checkOf limits (now (table .entry)) (now (map .entry)) ⌝ }
+    ensures answers { λ r. ⌜ r ≡ checkOf limits (now (table .entry)) (now (map .entry)) ⌝ }
     ensures exact { λ r. ⌜ AcceptsExactly limits (now (table .entry)) (now (map .entry)) r ⌝ }
 {
     let examined = tops::examine(limits, table);
@@ -89,7 +89,7 @@ pub fn check_within(limits: Limits, table: &[u8], map: &[u8]) -> Checked
 
 // Checks a map, at the limits of a caller that gives none.
 pub fn check(table: &[u8], map: &[u8]) -> Checked
-    ensures { λ r. ⌜ r ≡ checkOf standard (now (table .entry)) (now (map .entry)) ⌝ }
+    ensures answers { λ r. ⌜ r ≡ checkOf standard (now (table .entry)) (now (map .entry)) ⌝ }
     ensures exact { λ r. ⌜ AcceptsExactly standard (now (table .entry)) (now (map .entry)) r ⌝ }
 {
     check_within(limits::standard(), table, map)

@@ -115,7 +115,10 @@ fn return_matched(
 ) -> bool
     requires { ⌜ (ascend (records 4 (now section)) ≡ true) × (length (now fields) ≡ 4) × (q < 256) × (u < 256) × (under ≡ classOf (now map) (getD (now fields) 2 0)) ⌝ }
     requires { ⌜ (has (now words) (getD (now fields) 0 0) (getD (now fields) 2 0) ≡ true) × (joins (now map) (getD (now fields) 0 0) q ≡ true) ⌝ }
-    ensures { λ r. ⌜ r ≡ returnMatched (now (words .entry)) (records 4 (now (section .entry))) (now (map .entry)) (getD (now (fields .entry)) 0 0) (getD (now (fields .entry)) 1 0) (getD (now (fields .entry)) 2 0) (getD (now (fields .entry)) 3 0) q u ⌝ }
+    ensures { λ r. ⌜
+        r
+        ≡ returnMatched (now (words .entry)) (records 4 (now (section .entry))) (now (map .entry)) (getD (now (fields .entry)) 0 0)
+        (getD (now (fields .entry)) 1 0) (getD (now (fields .entry)) 2 0) (getD (now (fields .entry)) 3 0) q u ⌝ }
 {
     if !is_in(map, under, u) {
         return true;

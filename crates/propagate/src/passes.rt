@@ -104,7 +104,10 @@ fn pass(
     requires { ⌜ whole (now list) ≡ true ⌝ }
     requires { ⌜ Ready (clausesIn (now list)) (now values) (now trail) start ⌝ }
     requires { ⌜ PairTable (now table) × Rows n (now values) (now joined) (now apart) ⌝ }
-    ensures { λ r. ⌜ Passed (clausesIn (now (list .entry))) (now (values .entry)) (now (trail .entry)) start (now (values .exit)) (now (trail .exit)) (r .broken) (r .count) × Rows n (now (values .exit)) (now (joined .exit)) (now (apart .exit)) ⌝ }
+    ensures { λ r. ⌜
+        Passed (clausesIn (now (list .entry))) (now (values .entry)) (now (trail .entry)) start (now (values .exit)) (now (trail .exit)) (r .broken)
+        (r .count)
+        × Rows n (now (values .exit)) (now (joined .exit)) (now (apart .exit)) ⌝ }
 {
     let mut broken = false;
     let mut count = start;
@@ -156,7 +159,10 @@ pub fn settle(
     requires { ⌜ whole (now list) ≡ true ⌝ }
     requires { ⌜ Ready (withTriangles (now list) n) (now values) (now trail) start × Queue (triangles n) (now values) (now trail) from start ⌝ }
     requires { ⌜ PairTable (now table) × Rows n (now values) (now joined) (now apart) ⌝ }
-    ensures { λ r. ⌜ Settles (withTriangles (now (list .entry)) n) (now (values .entry)) (now (trail .entry)) start (now (values .exit)) (now (trail .exit)) (r .broken) (r .count) × Rows n (now (values .exit)) (now (joined .exit)) (now (apart .exit)) ⌝ }
+    ensures { λ r. ⌜
+        Settles (withTriangles (now (list .entry)) n) (now (values .entry)) (now (trail .entry)) start (now (values .exit)) (now (trail .exit)) (r .broken)
+        (r .count)
+        × Rows n (now (values .exit)) (now (joined .exit)) (now (apart .exit)) ⌝ }
 {
     let mut at = from;
     let mut count = start;

@@ -34,7 +34,11 @@ fn write_parts(
     out: &mut [u8],
 ) -> Written
     requires { ⌜ Sized (now symbols) (now internals) (now calls) (now returns) ⌝ }
-    ensures { λ r. ⌜ record { answer = r; out = now (out .exit) } ≡ writtenFor (bytesOf (partedQuotient version (now (symbols .entry)) (now (states .entry)) (now (internals .entry)) (now (calls .entry)) (now (returns .entry)) (now (words .entry)) (now (map .entry)))) (now (out .entry)) ⌝ }
+    ensures { λ r. ⌜
+        record { answer = r; out = now (out .exit) }
+        ≡ writtenFor
+        (bytesOf (partedQuotient version (now (symbols .entry)) (now (states .entry)) (now (internals .entry)) (now (calls .entry)) (now (returns .entry)) (now (words .entry)) (now (map .entry))))
+        (now (out .entry)) ⌝ }
 {
     let classes = class_count(map);
     let mut internal_keys = [0u32; 1024];
@@ -100,7 +104,7 @@ pub fn quotient_known(
 
 // Writes the quotient of a table that is read at limits under a map: its length, or the first refusal that applies, the output then unchanged.
 pub fn quotient_within(limits: Limits, table: &[u8], map: &[u8], out: &mut [u8]) -> Written
-    ensures { λ r. ⌜ record { answer = r; out = now (out .exit) } ≡ quotientOf limits (now (table .entry)) (now (map .entry)) (now (out .entry)) ⌝ }
+    ensures answers { λ r. ⌜ record { answer = r; out = now (out .exit) } ≡ quotientOf limits (now (table .entry)) (now (map .entry)) (now (out .entry)) ⌝ }
     ensures exact { λ r. ⌜ WritesQuotient limits r (now (table .entry)) (now (map .entry)) (now (out .exit)) ⌝ }
     ensures words { λ r. ⌜ WritesSameWords r (now (table .entry)) (now (out .exit)) ⌝ }
     ensures open { λ r. ⌜ WritesNoneOpen r (now (table .entry)) (now (out .exit)) ⌝ }
@@ -119,7 +123,7 @@ pub fn quotient_within(limits: Limits, table: &[u8], map: &[u8], out: &mut [u8])
 
 // Writes the quotient, at the limits of a caller that gives none.
 pub fn quotient(table: &[u8], map: &[u8], out: &mut [u8]) -> Written
-    ensures { λ r. ⌜ record { answer = r; out = now (out .exit) } ≡ quotientOf standard (now (table .entry)) (now (map .entry)) (now (out .entry)) ⌝ }
+    ensures answers { λ r. ⌜ record { answer = r; out = now (out .exit) } ≡ quotientOf standard (now (table .entry)) (now (map .entry)) (now (out .entry)) ⌝ }
     ensures exact { λ r. ⌜ WritesQuotient standard r (now (table .entry)) (now (map .entry)) (now (out .exit)) ⌝ }
     ensures words { λ r. ⌜ WritesSameWords r (now (table .entry)) (now (out .exit)) ⌝ }
     ensures open { λ r. ⌜ WritesNoneOpen r (now (table .entry)) (now (out .exit)) ⌝ }

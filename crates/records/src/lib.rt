@@ -53,7 +53,10 @@ fn tell_parts(
     out: &mut [u8],
 ) -> Recorded
     requires { ⌜ FittingParts (now internals) (now calls) (now returns) (now map) ⌝ }
-    ensures { λ r. ⌜ record { answer = r; out = now (out .exit) } ≡ toldFor (partedFates (now (internals .entry)) (now (calls .entry)) (now (returns .entry)) (now (words .entry)) (now (map .entry))) (now (out .entry)) ⌝ }
+    ensures { λ r. ⌜
+        record { answer = r; out = now (out .exit) }
+        ≡ toldFor (partedFates (now (internals .entry)) (now (calls .entry)) (now (returns .entry)) (now (words .entry)) (now (map .entry)))
+        (now (out .entry)) ⌝ }
 {
     let all = internals.len() / 3 + calls.len() / 3 + returns.len() / 4;
     if out.len() < all {
@@ -106,7 +109,7 @@ fn records_known(
 // Tells where the records went of a table that is read at limits, under a map: how many there are, how many are kept, folded and dead, and a byte
 // for each in the output; or the first refusal that applies, the output then unchanged.
 pub fn records_within(limits: Limits, table: &[u8], map: &[u8], out: &mut [u8]) -> Recorded
-    ensures { λ r. ⌜ record { answer = r; out = now (out .exit) } ≡ recordsOf limits (now (table .entry)) (now (map .entry)) (now (out .entry)) ⌝ }
+    ensures answers { λ r. ⌜ record { answer = r; out = now (out .exit) } ≡ recordsOf limits (now (table .entry)) (now (map .entry)) (now (out .entry)) ⌝ }
     ensures counts { λ r. ⌜ AddUp r ⌝ }
     ensures kept { λ r. ⌜ KeptAreQuotients (now (table .entry)) (now (map .entry)) r ⌝ }
     ensures all { λ r. ⌜ AllAreInputs (now (table .entry)) r ⌝ }
@@ -122,7 +125,7 @@ pub fn records_within(limits: Limits, table: &[u8], map: &[u8], out: &mut [u8]) 
 
 // The same at the limits of a caller that gives none.
 pub fn records(table: &[u8], map: &[u8], out: &mut [u8]) -> Recorded
-    ensures { λ r. ⌜ record { answer = r; out = now (out .exit) } ≡ recordsOf standard (now (table .entry)) (now (map .entry)) (now (out .entry)) ⌝ }
+    ensures answers { λ r. ⌜ record { answer = r; out = now (out .exit) } ≡ recordsOf standard (now (table .entry)) (now (map .entry)) (now (out .entry)) ⌝ }
     ensures counts { λ r. ⌜ AddUp r ⌝ }
     ensures kept { λ r. ⌜ KeptAreQuotients (now (table .entry)) (now (map .entry)) r ⌝ }
     ensures all { λ r. ⌜ AllAreInputs (now (table .entry)) r ⌝ }

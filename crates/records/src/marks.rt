@@ -111,7 +111,9 @@ pub(crate) fn mark_section(
     out: &mut [u8],
 )
     requires { ⌜ Fitting width (now section) (now map) × (recordsIn width (now section) ≤ length (now out)) × (first ≤ 80) × UpTo first (now room) ⌝ }
-    ensures { λ _. ⌜ (now (out .exit) ≡ over (sectionFates (kept (now (words .entry))) (now (map .entry)) (records width (now (section .entry)))) (now (out .entry))) × UpTo (first + 40) (now (room .exit)) ⌝ }
+    ensures { λ _. ⌜
+        (now (out .exit) ≡ over (sectionFates (kept (now (words .entry))) (now (map .entry)) (records width (now (section .entry)))) (now (out .entry)))
+        × UpTo (first + 40) (now (room .exit)) ⌝ }
 {
     let ends = ends_of(section, width, map);
     let classes = class_count(map);

@@ -13,7 +13,8 @@ ghost use Rattle.maps.specs.Sections.{Known};
 ghost use Rattle.encoding.specs.Clauses.{shortWords};
 ghost use Rattle.encoding.specs.Maps.{mapOf};
 ghost use Rattle.reductions.specs.Reduce.{Reduced, triedOfTable, deliver, afterSearch, reduceOf};
-ghost use Rattle.reductions.specs.Demands.{KeepsWords, DeliversQuotient, DeliversChecked, DeliversMaximal, FewGuesses, DeliversCeiling, SameSearch, SpentSaid, DeliversNoneOpen, DeliversSteps, KeepsMarks, KeepsScripts};
+ghost use Rattle.reductions.specs.Demands.{KeepsWords, DeliversQuotient, DeliversChecked, DeliversMaximal, FewGuesses, DeliversCeiling};
+ghost use Rattle.reductions.specs.Demands.{SameSearch, SpentSaid, DeliversNoneOpen, DeliversSteps, KeepsMarks, KeepsScripts};
 ghost use Rattle.reduce.specs.Held.{MadeBy, HeldFor};
 use encoding::Listed;
 use format::Starts;
@@ -71,7 +72,11 @@ fn deliver_held(
 ) -> Reduction
     requires { ⌜ Known (now table) starts (now tops) × (n ≤ 40) × (n ≤ length (now map)) × (words ≡ length (shortWords (tableOf (now table)))) ⌝ }
     requires { ⌜ HeldFor (tableOf (now table)) n (now values) ⌝ }
-    ensures { λ r. ⌜ ((L : Limits) → Readable L (now (table .entry)) → (list : List ℕ) → _≡_ {A = Reduced} (record { answer = r; list = over (shortWords (tableOf (now (table .entry)))) list; map = now (map .exit); out = now (out .exit) }) (deliver L (now (table .entry)) list (now (map .entry)) (now (out .entry)) (mapOf (now (values .entry)) n) guesses ceiling spent)) ⌝ }
+    ensures { λ r. ⌜
+        ((L : Limits) → Readable L (now (table .entry)) → (list : List ℕ) →
+        _≡_ {A = Reduced}
+        (record { answer = r; list = over (shortWords (tableOf (now (table .entry)))) list; map = now (map .exit); out = now (out .exit) })
+        (deliver L (now (table .entry)) list (now (map .entry)) (now (out .entry)) (mapOf (now (values .entry)) n) guesses ceiling spent)) ⌝ }
 {
     let classes = map_of(values, n);
     let joined = search::not_false(values);
@@ -108,7 +113,11 @@ fn solve_listed(
     out: &mut [u8],
 ) -> Reduction
     requires { ⌜ Known (now table) starts (now tops) × (n ≡ count (tableOf (now table))) × (n ≤ length (now map)) × (now list ≡ shortWords (tableOf (now table))) ⌝ }
-    ensures { λ r. ⌜ ((L : Limits) → Readable L (now (table .entry)) → (before : List ℕ) → _≡_ {A = Reduced} (record { answer = r; list = over (shortWords (tableOf (now (table .entry)))) before; map = now (map .exit); out = now (out .exit) }) (afterSearch L (now (table .entry)) before (now (map .entry)) (now (out .entry)) (triedOfTable (now (table .entry)) budget))) ⌝ }
+    ensures { λ r. ⌜
+        ((L : Limits) → Readable L (now (table .entry)) → (before : List ℕ) →
+        _≡_ {A = Reduced}
+        (record { answer = r; list = over (shortWords (tableOf (now (table .entry)))) before; map = now (map .exit); out = now (out .exit) })
+        (afterSearch L (now (table .entry)) before (now (map .entry)) (now (out .entry)) (triedOfTable (now (table .entry)) budget))) ⌝ }
 {
     let variables = pairs::pairs_of(n) as usize;
     let mut values = search::none_set();
@@ -145,7 +154,11 @@ fn reduce_known(
     out: &mut [u8],
 ) -> Reduction
     requires { ⌜ Known (now table) starts (now tops) × (n ≡ count (tableOf (now table))) × (n ≤ length (now map)) ⌝ }
-    ensures { λ r. ⌜ ((L : Limits) → Readable L (now (table .entry)) → _≡_ {A = Reduced} (record { answer = r; list = now (list .exit); map = now (map .exit); out = now (out .exit) }) (reduceOf L (now (table .entry)) budget (now (list .entry)) (now (map .entry)) (now (out .entry)))) ⌝ }
+    ensures { λ r. ⌜
+        ((L : Limits) → Readable L (now (table .entry)) →
+        _≡_ {A = Reduced}
+        (record { answer = r; list = now (list .exit); map = now (map .exit); out = now (out .exit) })
+        (reduceOf L (now (table .entry)) budget (now (list .entry)) (now (map .entry)) (now (out .entry)))) ⌝ }
 {
     let listed = clauses::list_read(false, table, starts, tops, list);
     match listed {
@@ -165,7 +178,9 @@ pub fn reduce_within(
     map: &mut [u8],
     out: &mut [u8],
 ) -> Reduction
-    ensures { λ r. ⌜ _≡_ {A = Reduced} (record { answer = r; list = now (list .exit); map = now (map .exit); out = now (out .exit) }) (reduceOf limits (now (table .entry)) budget (now (list .entry)) (now (map .entry)) (now (out .entry))) ⌝ }
+    ensures answers { λ r. ⌜
+        _≡_ {A = Reduced} (record { answer = r; list = now (list .exit); map = now (map .exit); out = now (out .exit) })
+        (reduceOf limits (now (table .entry)) budget (now (list .entry)) (now (map .entry)) (now (out .entry))) ⌝ }
     ensures words { λ r. ⌜ KeepsWords r (now (table .entry)) (now (out .exit)) ⌝ }
     ensures exact { λ r. ⌜ DeliversQuotient limits r (now (table .entry)) (now (map .exit)) (now (out .exit)) ⌝ }
     ensures checked { λ r. ⌜ DeliversChecked limits r (now (table .entry)) (now (map .exit)) ⌝ }
@@ -201,7 +216,9 @@ pub fn reduce(
     map: &mut [u8],
     out: &mut [u8],
 ) -> Reduction
-    ensures { λ r. ⌜ _≡_ {A = Reduced} (record { answer = r; list = now (list .exit); map = now (map .exit); out = now (out .exit) }) (reduceOf standard (now (table .entry)) budget (now (list .entry)) (now (map .entry)) (now (out .entry))) ⌝ }
+    ensures answers { λ r. ⌜
+        _≡_ {A = Reduced} (record { answer = r; list = now (list .exit); map = now (map .exit); out = now (out .exit) })
+        (reduceOf standard (now (table .entry)) budget (now (list .entry)) (now (map .entry)) (now (out .entry))) ⌝ }
     ensures words { λ r. ⌜ KeepsWords r (now (table .entry)) (now (out .exit)) ⌝ }
     ensures exact { λ r. ⌜ DeliversQuotient standard r (now (table .entry)) (now (map .exit)) (now (out .exit)) ⌝ }
     ensures checked { λ r. ⌜ DeliversChecked standard r (now (table .entry)) (now (map .exit)) ⌝ }

@@ -113,7 +113,9 @@ pub fn put(
     count: usize,
 ) -> usize
     requires { ⌜ (p < 40) × (q < 40) × (x < length (now values)) × (count < length (now trail)) ⌝ }
-    ensures { λ r. ⌜ Put (now (values .entry)) (now (trail .entry)) (now (joined .entry)) (now (apart .entry)) count x p q k (now (values .exit)) (now (trail .exit)) (now (joined .exit)) (now (apart .exit)) r ⌝ }
+    ensures { λ r. ⌜
+        Put (now (values .entry)) (now (trail .entry)) (now (joined .entry)) (now (apart .entry)) count x p q k (now (values .exit)) (now (trail .exit))
+        (now (joined .exit)) (now (apart .exit)) r ⌝ }
 {
     values[wide(x)] = k;
     trail[count] = x;

@@ -328,7 +328,7 @@ fn read_known(table: &[u8], starts: Starts, script: &[u8]) -> Read
 
 // Reads a script on a table that is read at limits: yes or no, or the first refusal that applies.
 pub fn script_within(limits: Limits, table: &[u8], script: &[u8]) -> Read
-    ensures { λ r. ⌜ r ≡ scriptOf limits (now (table .entry)) (now (script .entry)) ⌝ }
+    ensures answers { λ r. ⌜ r ≡ scriptOf limits (now (table .entry)) (now (script .entry)) ⌝ }
     ensures exact { λ r. ⌜ ScriptExact limits (now (table .entry)) (now (script .entry)) r ⌝ }
 {
     let reading = table::read_within(limits, table);
@@ -340,7 +340,7 @@ pub fn script_within(limits: Limits, table: &[u8], script: &[u8]) -> Read
 
 // Reads a script, at the limits of a caller that gives none.
 pub fn script(table: &[u8], script: &[u8]) -> Read
-    ensures { λ r. ⌜ r ≡ scriptOf standard (now (table .entry)) (now (script .entry)) ⌝ }
+    ensures answers { λ r. ⌜ r ≡ scriptOf standard (now (table .entry)) (now (script .entry)) ⌝ }
     ensures exact { λ r. ⌜ ScriptExact standard (now (table .entry)) (now (script .entry)) r ⌝ }
 {
     script_within(limits::standard(), table, script)

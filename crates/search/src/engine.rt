@@ -80,7 +80,10 @@ fn close(
     requires { ⌜ Ready (withTriangles (now list) n) (now values) (now trail) start ⌝ }
     requires { ⌜ Queue (withTriangles (now list) n) (now values) (now trail) from start × (length (now values) ≤ 780) ⌝ }
     requires { ⌜ PairTable (now table) × Rows n (now values) (now joined) (now apart) ⌝ }
-    ensures { λ r. ⌜ Settles (withTriangles (now (list .entry)) n) (now (values .entry)) (now (trail .entry)) start (now (values .exit)) (now (trail .exit)) (r .broken) (r .count) × Rows n (now (values .exit)) (now (joined .exit)) (now (apart .exit)) ⌝ }
+    ensures { λ r. ⌜
+        Settles (withTriangles (now (list .entry)) n) (now (values .entry)) (now (trail .entry)) start (now (values .exit)) (now (trail .exit)) (r .broken)
+        (r .count)
+        × Rows n (now (values .exit)) (now (joined .exit)) (now (apart .exit)) ⌝ }
 {
     if from == start {
         return Reached {

@@ -137,7 +137,9 @@ fn run(
     out: &mut [u8],
 ) -> [u64; 64]
     requires { ⌜ (lengthsFit (length (now tables)) (now lengths) ≡ true) × (length (now lengths) * share < 2 ^ 64) ⌝ }
-    ensures { λ r. ⌜ Ran limits share (now (lengths .entry)) (now (tables .entry)) (now (list .entry)) (now (maps .entry)) (now (out .entry)) r (now (list .exit)) (now (maps .exit)) (now (out .exit)) ⌝ }
+    ensures { λ r. ⌜
+        Ran limits share (now (lengths .entry)) (now (tables .entry)) (now (list .entry)) (now (maps .entry)) (now (out .entry)) r (now (list .exit))
+        (now (maps .exit)) (now (out .exit)) ⌝ }
 {
     let mut values = [0u64; 64];
     let mut saved: u64 = 0;
@@ -187,7 +189,9 @@ pub fn season_within(
     maps: &mut [u8],
     out: &mut [u8],
 ) -> Season
-    ensures { λ r. ⌜ _≡_ {A = SeasonDone} (record { answer = r; list = now (list .exit); maps = now (maps .exit); out = now (out .exit) }) (seasonOf limits (now (tables .entry)) (now (lengths .entry)) guesses (now (list .entry)) (now (maps .entry)) (now (out .entry))) ⌝ }
+    ensures answers { λ r. ⌜
+        _≡_ {A = SeasonDone} (record { answer = r; list = now (list .exit); maps = now (maps .exit); out = now (out .exit) })
+        (seasonOf limits (now (tables .entry)) (now (lengths .entry)) guesses (now (list .entry)) (now (maps .entry)) (now (out .entry))) ⌝ }
     ensures alone { λ r. ⌜ Alone limits (now (tables .entry)) (now (lengths .entry)) guesses (now (list .entry)) (now (maps .entry)) (now (out .entry)) r (now (maps .exit)) (now (out .exit)) ⌝ }
     ensures total { λ r. ⌜ WithinAll guesses r ⌝ }
     ensures solved { λ r. ⌜ SolvedWithin limits (now (tables .entry)) (now (lengths .entry)) guesses (now (list .entry)) (now (maps .entry)) (now (out .entry)) r ⌝ }
@@ -213,11 +217,15 @@ pub fn season(
     maps: &mut [u8],
     out: &mut [u8],
 ) -> Season
-    ensures { λ r. ⌜ _≡_ {A = SeasonDone} (record { answer = r; list = now (list .exit); maps = now (maps .exit); out = now (out .exit) }) (seasonOf standard (now (tables .entry)) (now (lengths .entry)) guesses (now (list .entry)) (now (maps .entry)) (now (out .entry))) ⌝ }
+    ensures answers { λ r. ⌜
+        _≡_ {A = SeasonDone} (record { answer = r; list = now (list .exit); maps = now (maps .exit); out = now (out .exit) })
+        (seasonOf standard (now (tables .entry)) (now (lengths .entry)) guesses (now (list .entry)) (now (maps .entry)) (now (out .entry))) ⌝ }
     ensures alone { λ r. ⌜ Alone standard (now (tables .entry)) (now (lengths .entry)) guesses (now (list .entry)) (now (maps .entry)) (now (out .entry)) r (now (maps .exit)) (now (out .exit)) ⌝ }
     ensures total { λ r. ⌜ WithinAll guesses r ⌝ }
     ensures solved { λ r. ⌜ SolvedWithin standard (now (tables .entry)) (now (lengths .entry)) guesses (now (list .entry)) (now (maps .entry)) (now (out .entry)) r ⌝ }
-    ensures each { λ r. ⌜ EachPromised standard (now (tables .entry)) (now (lengths .entry)) guesses (now (list .entry)) (now (maps .entry)) (now (out .entry)) r (now (maps .exit)) (now (out .exit)) ⌝ }
+    ensures each { λ r. ⌜
+        EachPromised standard (now (tables .entry)) (now (lengths .entry)) guesses (now (list .entry)) (now (maps .entry)) (now (out .entry)) r
+        (now (maps .exit)) (now (out .exit)) ⌝ }
 {
     season_within(
         limits::standard(),

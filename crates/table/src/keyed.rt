@@ -132,7 +132,8 @@ fn last_at(section: &[u8], width: usize, wanted: u32, from: usize) -> usize
 
 // The part of the section whose records start with the key, by the key's number.
 pub fn starting<'a>(section: &'a [u8], width: usize, wanted: u32) -> &'a [u8]
-    ensures { λ r. ⌜ ((k : List ℕ) → Keyed width k wanted → ascend (records width (now (section .entry))) ≡ true → records width (now r) ≡ keep (startsWith k) (records width (now (section .entry)))) ⌝ }
+    ensures { λ r. ⌜
+        ((k : List ℕ) → Keyed width k wanted → ascend (records width (now (section .entry))) ≡ true → records width (now r) ≡ keep (startsWith k) (records width (now (section .entry)))) ⌝ }
 {
     if width < 3 {
         return &section[..0];

@@ -370,7 +370,7 @@ fn read_fit(limits: Limits, table: &[u8]) -> Reading
 
 // Reads a table at limits: the five section starts, or the first refusal that applies.
 pub fn read_within(limits: Limits, table: &[u8]) -> Reading
-    ensures { λ r. ⌜ r ≡ readOf limits (now (table .entry)) ⌝ }
+    ensures answers { λ r. ⌜ r ≡ readOf limits (now (table .entry)) ⌝ }
 {
     if !limits_fit(limits) {
         return Reading::Refused(39);
@@ -380,7 +380,7 @@ pub fn read_within(limits: Limits, table: &[u8]) -> Reading
 
 // Reads a table at the limits of a caller that gives none.
 pub fn read(table: &[u8]) -> Reading
-    ensures { λ r. ⌜ r ≡ readOf standard (now (table .entry)) ⌝ }
+    ensures answers { λ r. ⌜ r ≡ readOf standard (now (table .entry)) ⌝ }
 {
     read_within(limits::standard(), table)
 }

@@ -148,7 +148,10 @@ fn sum_of(words: &[u64; 40], n: usize) -> u64
 // (reach/proofs/Exact).
 fn rest(states: &[u8], internals: &[u8], calls: &[u8], returns: &[u8], words: &mut [u64; 40])
     requires { ⌜ Sections (now states) (now internals) (now calls) (now returns) × Small (now words) ⌝ }
-    ensures { λ _. ⌜ now (words .exit) ≡ rounds (suc (length (now (states .entry)) * suc (length (now (states .entry))))) (sectioned 0 [] (now (states .entry)) (now (internals .entry)) (now (calls .entry)) (now (returns .entry))) (now (words .entry)) ⌝ }
+    ensures { λ _. ⌜
+        now (words .exit)
+        ≡ rounds (suc (length (now (states .entry)) * suc (length (now (states .entry)))))
+        (sectioned 0 [] (now (states .entry)) (now (internals .entry)) (now (calls .entry)) (now (returns .entry))) (now (words .entry)) ⌝ }
 {
     let n = states.len();
     let mut left = n * (n + 1) + 1;
@@ -257,7 +260,7 @@ pub fn examine(limits: Limits, table: &[u8]) -> Examined
 
 // The reachable tops of a table that is read at limits.
 pub fn tops_within(limits: Limits, table: &[u8]) -> TopWords
-    ensures { λ r. ⌜ r ≡ topsOf limits (now (table .entry)) ⌝ }
+    ensures answers { λ r. ⌜ r ≡ topsOf limits (now (table .entry)) ⌝ }
     ensures exact { λ r. ⌜ TopsExact limits (now (table .entry)) r ⌝ }
 {
     let reading = table::read_within(limits, table);
@@ -273,7 +276,7 @@ pub fn tops_within(limits: Limits, table: &[u8]) -> TopWords
 
 // The reachable tops of a table, at the limits of a caller that gives none.
 pub fn tops(table: &[u8]) -> TopWords
-    ensures { λ r. ⌜ r ≡ topsOf standard (now (table .entry)) ⌝ }
+    ensures answers { λ r. ⌜ r ≡ topsOf standard (now (table .entry)) ⌝ }
     ensures exact { λ r. ⌜ TopsExact standard (now (table .entry)) r ⌝ }
 {
     tops_within(limits::standard(), table)

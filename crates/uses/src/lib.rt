@@ -127,7 +127,7 @@ fn uses_under(map: &[u8], lines: &[u8]) -> Counted
 
 // Adds up the use counts of lines by the classes of a map, of a table that is read at limits; or the first refusal that applies.
 pub fn uses_within(limits: Limits, table: &[u8], map: &[u8], lines: &[u8]) -> Counted
-    ensures { λ r. ⌜ r ≡ usesOf limits (now (table .entry)) (now (map .entry)) (now (lines .entry)) ⌝ }
+    ensures answers { λ r. ⌜ r ≡ usesOf limits (now (table .entry)) (now (map .entry)) (now (lines .entry)) ⌝ }
     ensures order { λ r. ⌜ AnyOrder limits (now (table .entry)) (now (map .entry)) (now (lines .entry)) r ⌝ }
     ensures states { λ r. ⌜ ByStates (now (table .entry)) (now (map .entry)) (now (lines .entry)) r ⌝ }
     ensures total { λ r. ⌜ sum (r .sums) ≡ r .total ⌝ }
@@ -143,7 +143,7 @@ pub fn uses_within(limits: Limits, table: &[u8], map: &[u8], lines: &[u8]) -> Co
 
 // Adds up the use counts of lines by class, at the limits of a caller that gives none.
 pub fn uses(table: &[u8], map: &[u8], lines: &[u8]) -> Counted
-    ensures { λ r. ⌜ r ≡ usesOf standard (now (table .entry)) (now (map .entry)) (now (lines .entry)) ⌝ }
+    ensures answers { λ r. ⌜ r ≡ usesOf standard (now (table .entry)) (now (map .entry)) (now (lines .entry)) ⌝ }
     ensures order { λ r. ⌜ AnyOrder standard (now (table .entry)) (now (map .entry)) (now (lines .entry)) r ⌝ }
     ensures states { λ r. ⌜ ByStates (now (table .entry)) (now (map .entry)) (now (lines .entry)) r ⌝ }
     ensures total { λ r. ⌜ sum (r .sums) ≡ r .total ⌝ }

@@ -107,7 +107,11 @@ pub fn put_table(
     out: &mut [u8],
 )
     requires { ⌜ length (bytesOf (keyedTable version (now symbols) (now states) (now internals) (now calls) (now returns))) ≤ length (now out) ⌝ }
-    ensures { λ _. ⌜ now (out .exit) ≡ over (bytesOf (keyedTable version (now (symbols .entry)) (now (states .entry)) (now (internals .entry)) (now (calls .entry)) (now (returns .entry)))) (now (out .entry)) ⌝ }
+    ensures { λ _. ⌜
+        now (out .exit)
+        ≡ over
+        (bytesOf (keyedTable version (now (symbols .entry)) (now (states .entry)) (now (internals .entry)) (now (calls .entry)) (now (returns .entry))))
+        (now (out .entry)) ⌝ }
 {
     put_bytes(symbols, out);
     let mut at = symbols.len();
