@@ -1,15 +1,25 @@
 -- An answer's values stored where there is room, and an answer as a number, buffers and values. Assumes nothing.
-use mathlib.Core.Path.{_≡_, sym, ap, _∙_}
+use mathlib.Core.Path.{_≡_, refl, sym, ap, _∙_}
 use mathlib.Core.Logic.{_≢_}
 use mathlib.Core.List.{List, [], _∷_, _++_, append-assoc}
 use Prim.Native.Nat.{ℕ, _≤_, _<_}
 use native.Mathlib.Omega.{arith}
-use lib.ListN.{length, getD, set, drop, length-append}
+use lib.ListN.{length, getD, set, drop, replicate, length-append}
 use lib.Seq.{drop-cons, set-at}
 use borrow.Author.Tests.{le-leb, lt-leb, ne-eqb}
 use Rattle.lists.specs.Lists.{over}
+use Rattle.limits.specs.declared.Limits.{Limits}
+use Rattle.format.specs.File.{tableOf}
+use Rattle.format.specs.Reading.{readOf}
+use Rattle.format.specs.declared.Starts.{Starts}
+use Rattle.format.specs.declared.Reading.the-variants.{Sections as SectionsAt, Refused as RefusedBy}
+use Rattle.format.proofs.Bytes.{read-well-formed}
 use Rattle.reach.specs.declared.TopWords.{TopWords}
-use Rattle.reach.specs.Tops.{topsValues}
+use Rattle.reach.specs.Tops.{topWords, topsOf, topsValues}
+use Rattle.reach.proofs.Exact.{length-words}
+use Rattle.reach.proofs.Formed.{bounded}
+use Rattle.tops.specs.Sections.{topsFound}
+use Rattle.tops.proofs.Read.{read-sections, read-refused, tops-answer, tops-refused as unread}
 use Rattle.usage.specs.declared.Counted.{Counted}
 use Rattle.usage.specs.Uses.{countedValues}
 use Rattle.choices.specs.declared.Which.the-variants.{Neither, First, Second}
@@ -18,7 +28,7 @@ use Rattle.choices.specs.Choose.{choiceValues}
 use Rattle.choices.specs.Demands.{NumberTells}
 use Rattle.seasons.specs.declared.Season.{Season}
 use Rattle.seasons.specs.Seasons.{seasonValues}
-use Rattle.capi.specs.Answers.{stored, out}
+use Rattle.capi.specs.Answers.{stored, out, topsOut}
 
 -- ---- storing
 
@@ -71,6 +81,36 @@ tops-found r e = rw (e, topsValues)
 pub tops-refused : (r : TopWords) → r .number ≢ 0 → topsValues r ≡ []
 unfolding topsValues
 tops-refused r h = rw (ne-eqb (r .number) 0 h, topsValues)
+
+-- the tops of a table that was read, or of one that was not
+module _ (values : List ℕ) (L : Limits) (b : List ℕ) where
+  module _ {s : Starts} (e : SectionsAt s ≡ readOf L b) where
+    words-long : length (topWords (tableOf b)) ≡ 40
+    words-long = length-words (bounded (read-well-formed L b (read-sections L b e .0)))
+
+    pub tops-short : length values < 41 → record { number = 0; buffers = []; values = values } ≡ topsOut values (topsOf L b)
+    unfolding topsOut topsFound
+    tops-short h =
+        answered values refl (tops-found (topsFound (tableOf b)) refl) (last-short (topWords (tableOf b)) values _ words-long h)
+        ∙ ap (topsOut values) (tops-answer L b e refl .0)
+
+    pub tops-stored :
+        {words new : List ℕ} {found : ℕ} → 41 ≤ length values → record { number = 0; words = words; found = found } ≡ topsFound (tableOf b) →
+        new ≡ set (words ++ drop 40 values) 40 found →
+        record { number = 0; buffers = []; values = new } ≡ topsOut values (topsOf L b)
+    unfolding topsOut topsFound over
+    tops-stored {words} {new} {found} h f g =
+        let t : TopWords = record { number = 0; words = words; found = found } in
+        let l : length words ≡ 40 = ap (λ (t : TopWords). length (t .words)) f ∙ words-long in
+        let front : words ++ drop 40 values ≡ stored words values = sym (stored-all words values (omega (arith, l)) ∙ rw l) in
+        answered values refl (tops-found t refl) (g ∙ ap (λ (r : List ℕ). set r 40 found) front ∙ last-stored words values found l h)
+        ∙ ap (topsOut values) (tops-answer L b e f .0)
+
+  pub tops-none : {k : ℕ} → RefusedBy k ≡ readOf L b → record { number = k; buffers = []; values = values } ≡ topsOut values (topsOf L b)
+  unfolding topsOut
+  tops-none {k} e =
+      refused values refl (tops-refused (record { number = k; words = replicate 40 0; found = 0 }) (read-refused L b e .1))
+      ∙ ap (topsOut values) (unread L b e .0)
 
 pub uses-counted : (r : Counted) → r .number ≡ 0 → countedValues r ≡ r .sums ++ (r .total ∷ [])
 unfolding countedValues

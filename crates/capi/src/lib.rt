@@ -98,7 +98,7 @@ pub extern "C" fn basilvault_read(table: &[u8], values: &mut [u64]) -> u32
     basilvault_read_within(limits::STATES, limits::SYMBOLS, table, values)
 }
 
-// Works out the reachable tops. 41 values: a word for each possible state, then the number of tops found.
+// Works out the reachable tops. 41 values: a word for each possible state, then the number of tops found. The words are worked out where they are stored.
 #[no_mangle]
 pub extern "C" fn basilvault_tops_within(
     states: usize,
@@ -111,14 +111,18 @@ pub extern "C" fn basilvault_tops_within(
         ≡ topsOut (now (values .entry)) (topsOf (record { states = states; symbols = symbols }) (now (table .entry))) ⌝ }
 {
     let limits = Limits { states, symbols };
-    let tops = tops::tops_within(limits, table);
-    let number = tops.number;
-    if number != 0 {
-        return number as u32;
+    let reading = table::read_within(limits, table);
+    match reading {
+        Reading::Sections(starts) => {
+            if values.len() < 41 {
+                return 0;
+            }
+            let found = tops::tops_read(table, starts, &mut values[..40]);
+            values[40] = found as u64;
+            0
+        }
+        Reading::Refused(number) => number as u32,
     }
-    let words = tops.words;
-    store_words(&words, tops.found as u64, values);
-    0
 }
 
 // The same at the limits of a caller that gives none.

@@ -220,7 +220,8 @@ fn reads(
     let moves = starts_of(internals, 3);
     let opens = starts_of(calls, 3);
     let closes = starts_of(returns, 4);
-    let mut level = tops::start_words(states);
+    let mut level = [0u64; 40];
+    tops::start_words(states, &mut level);
     let mut levels = [[0u64; 40]; 64];
     let mut depth: usize = 0;
     let mut i: usize = 0;

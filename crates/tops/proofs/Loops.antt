@@ -2,29 +2,29 @@
 use mathlib.Core.Path.{_≡_, refl, sym, ap, _∙_}
 use mathlib.Core.Logic.{_≢_}
 use mathlib.Core.Bool.{Bool, true, false, _&&_}
-use mathlib.Core.List.{List, [], _∷_, _++_, map, map-append, List·Memᴰ, List·Memᴰ·head, List·Memᴰ·tail}
+use mathlib.Core.List.{List, [], _∷_, _++_, append-nil, map, map-append, List·Memᴰ, List·Memᴰ·head, List·Memᴰ·tail}
 use Prim.Native.Nat.{ℕ, suc, _+_, _-_, _*_, _%_, _^_, _<_, _≤_}
 use native.Mathlib.Omega.{arith}
 use native.Mathlib.Nat.{add-zero, sub-zero, add-mod-right, mod-eq-of-lt, mul-le-mul, mul-add}
 use native.Mathlib.Numerals.{add-one}
 use native.Mathlib.Decide.{decLt}
-use lib.ListN.{length, getD, take, drop, set, replicate, length-map, drop-of-length-le}
+use lib.ListN.{length, getD, take, drop, set, replicate, length-map, length-append, length-replicate, length-drop, drop-of-length-le}
 use lib.Seq.{drop-cons, getD-take, getD-drop, length-take-le, take-suc, take-all, append-snoc, set-at}
 use lib.Dec.{eqb}
+use borrow.Author.Fill.{fill-none, fill-more}
 use lib.Count.{onesIn}
-use borrow.Author.Tests.{eq-eqb, ne-eqb}
 use Rattle.lists.specs.Lists.{same}
-use Rattle.lists.specs.Bits.{onesOver}
+use Rattle.lists.specs.Bits.{has, onesOver}
 use Rattle.lists.proofs.Members.{same-true}
 use Rattle.limits.specs.Limits.{stateMost}
 use Rattle.format.specs.File.{Table, records}
-use Rattle.format.specs.Reading.{isInitial}
 use Rattle.table.specs.Sections.{sectioned}
 use Rattle.table.proofs.Walks.{records-cons, records-end}
-use Rattle.reach.specs.Tops.{live, byInternals, byCalls, byReturns, round, rounds, startWords}
+use Rattle.reach.specs.Tops.{add, live, byInternals, byCalls, byReturns, round, rounds, startWords}
 use Rattle.tops.specs.declared.Kind.{Kind}
 use Rattle.tops.specs.declared.Kind.the-variants.{Internal, Call, Return}
-use Rattle.tops.specs.Sections.{Section, widthOf, stepBy, byRecords, total}
+use Rattle.reach.proofs.Walks.{length-add}
+use Rattle.tops.specs.Sections.{Section, widthOf, startWord, stepBy, byRecords, total}
 
 -- ---- records
 
@@ -61,10 +61,26 @@ pub record Walking (k : Kind) (s before : List ℕ) (at : ℕ) (words : List ℕ
   pub inside : at ≤ length s
   pub whole : (length s - at) % widthOf k ≡ 0
   pub states : (r : List ℕ) → List·Memᴰ r (records (widthOf k) (drop at s)) → (i : ℕ) → i ≢ 1 → i < widthOf k → getD r i 0 < stateMost
+  pub long : length words ≡ length before
   pub meets : byRecords k (records (widthOf k) s) before ≡ byRecords k (records (widthOf k) (drop at s)) words
 
 pub walking : (k : Kind) {s : List ℕ} (f : List ℕ) → Section (widthOf k) stateMost s → Walking k s f 0 f
-walking k f h = record { inside = omega arith; whole = rw sub-zero (h .whole); states = h .states; meets = refl }
+walking k f h = record { inside = omega arith; whole = rw sub-zero (h .whole); states = h .states; long = refl; meets = refl }
+
+-- a step keeps the number of words
+step-long : (k : Kind) (f : List ℕ) (q s q' : ℕ) → length (stepBy k f q s q') ≡ length f
+unfolding stepBy
+step-long Internal f q s q' = length-add f q' (getD f q 0)
+step-long Call f q s q' = go (eqb (getD f q 0) 0)
+  where
+    go : (b : Bool) → length {A = ℕ} (elim b as (λ _. List ℕ) [ true ↦ f | false ↦ add f q' (2 ^ q) ]) ≡ length f
+    go true = refl
+    go false = length-add f q' (2 ^ q)
+step-long Return f q s q' = go (has f q s)
+  where
+    go : (b : Bool) → length {A = ℕ} (elim b as (λ _. List ℕ) [ true ↦ add f q' (getD f s 0) | false ↦ f ]) ≡ length f
+    go true = length-add f q' (getD f s 0)
+    go false = refl
 
 module _ {k : Kind} {s f : List ℕ} {at : ℕ} {g : List ℕ} (p : Walking k s f at g) where
   pub walked : length s ≤ at → g ≡ byRecords k (records (widthOf k) s) f
@@ -116,6 +132,7 @@ module _ {k : Kind} {s f : List ℕ} {at : ℕ} {g : List ℕ} (p : Walking k s 
                 let left : length s - at ≡ length s - (at + widthOf k) + widthOf k = omega (arith, room) in
                 sym (add-mod-right (length s - (at + widthOf k)) (widthOf k)) ∙ ap (λ n. n % widthOf k) (sym left) ∙ p .whole;
             states = λ r m. p .states r (rw here (List·Memᴰ·tail m));
+            long = ap length q ∙ step-long k g a b c ∙ p .long;
             meets = p .meets ∙ ap (λ rs. byRecords k rs g) here ∙ by-cons k _ rs g ∙ (λ i. byRecords k rs (stepBy k g (first i) (third i) (last i))) ∙ ap (byRecords k rs) (sym q);
           })
 
@@ -155,19 +172,37 @@ unfolding total onesOver
 ones-total k [] = refl
 ones-total k (w ∷ ws) = ap (λ n. onesIn k w + n) (ones-total k ws)
 
--- ---- the words at the start
+-- ---- the words cleared
 
--- a state's first word, by its byte
-unfoldable pub startWord : ℕ → ℕ
-startWord byte = elim (isInitial byte) [ true ↦ 2 ^ stateMost | false ↦ 0 ]
+pub record Clearing (old words : List ℕ) (q : ℕ) : Type 0 where
+  pub inside : q ≤ stateMost
+  pub long : length old ≡ stateMost
+  pub meets : words ≡ replicate q 0 ++ drop q old
+
+pub clearing : (old : List ℕ) → length old ≡ stateMost → Clearing old old 0
+clearing old h = record { inside = omega arith; long = h; meets = fill-none old 0 }
+
+module _ {old words : List ℕ} {q : ℕ} (p : Clearing old words q) where
+  pub clear-on : q < stateMost → Clearing old (set words q 0) (q + 1)
+  clear-on h = record { inside = omega arith; long = p .long; meets = ap (λ ws. set ws q 0) (p .meets) ∙ fill-more q 0 old (omega (arith, p .long)) }
+
+  pub clear-long : length words ≡ length old
+  clear-long = ap length (p .meets) ∙ length-append (replicate q 0) (drop q old) ∙ (λ i. length-replicate {A = ℕ} q 0 i + length-drop q old i) ∙ omega (arith, p .inside, p .long)
+
+  pub cleared : stateMost ≤ q → words ≡ replicate stateMost 0
+  cleared h =
+      let e : q ≡ stateMost = omega (arith, p .inside) in
+      p .meets ∙ (λ i. replicate {A = ℕ} (e i) 0 ++ drop (e i) old) ∙ rw (drop-of-length-le old {i = stateMost} (omega (arith, p .long)), append-nil (replicate {A = ℕ} stateMost 0))
+
+-- ---- the words at the start
 
 pub record Starting (s words : List ℕ) (q : ℕ) : Type 0 where
   pub few : length s ≤ stateMost
   pub inside : q ≤ length s
   pub meets : words ≡ map startWord (take q s) ++ replicate (stateMost - q) 0
 
-pub starting : (s : List ℕ) → length s ≤ stateMost → Starting s (replicate stateMost 0) 0
-starting s h = record { few = h; inside = omega arith; meets = refl }
+pub starting : (s : List ℕ) {words : List ℕ} → length s ≤ stateMost → words ≡ replicate stateMost 0 → Starting s words 0
+starting s h e = record { few = h; inside = omega arith; meets = e }
 
 module _ {s words : List ℕ} {q : ℕ} (p : Starting s words q) where
   zeros : q < length s → replicate {A = ℕ} (stateMost - q) 0 ≡ 0 ∷ replicate (stateMost - (q + 1)) 0
@@ -181,25 +216,16 @@ module _ {s words : List ℕ} {q : ℕ} (p : Starting s words q) where
       let e : map startWord (take (q + 1) s) ≡ map startWord (take q s) ++ (startWord (getD s q 0) ∷ []) = rw (add-one, take-suc s q 0 h) (map-append startWord (take q s) (getD s q 0 ∷ [])) in
       sym (ap (λ ws. ws ++ replicate (stateMost - (q + 1)) 0) e ∙ append-snoc (map startWord (take q s)) (startWord (getD s q 0)) (replicate (stateMost - (q + 1)) 0))
 
-  pub start-set : q < length s → {v : ℕ} → getD s q 0 % 2 ≡ 1 → v ≡ 2 ^ stateMost → Starting s (set words q v) (q + 1)
-  unfolding startWord isInitial
-  start-set h {v} e k =
-      let f : v ≡ startWord (getD s q 0) = k ∙ sym (rw (eq-eqb _ _ e, startWord)) in
+  pub start-on : q < length s → {v : ℕ} → v ≡ startWord (getD s q 0) → Starting s (set words q v) (q + 1)
+  start-on h {v} f =
       record {
         few = p .few;
         inside = omega arith;
         meets = ap (λ ws. set ws q v) (p .meets ∙ ap (λ zs. map startWord (take q s) ++ zs) (zeros h)) ∙ set-at (map startWord (take q s)) 0 (replicate (stateMost - (q + 1)) 0) v q (before-here h) ∙ ap (λ x. map startWord (take q s) ++ x ∷ replicate (stateMost - (q + 1)) 0) f ∙ one-more h;
       }
 
-  pub start-skip : q < length s → getD s q 0 % 2 ≢ 1 → Starting s words (q + 1)
-  unfolding startWord isInitial
-  start-skip h n =
-      let f : 0 ≡ startWord (getD s q 0) = sym (rw (ne-eqb _ _ n, startWord)) in
-      record {
-        few = p .few;
-        inside = omega arith;
-        meets = p .meets ∙ ap (λ zs. map startWord (take q s) ++ zs) (zeros h) ∙ ap (λ x. map startWord (take q s) ++ x ∷ replicate (stateMost - (q + 1)) 0) f ∙ one-more h;
-      }
+  pub start-long : length words ≡ stateMost
+  start-long = ap length (p .meets) ∙ length-append (map startWord (take q s)) (replicate (stateMost - q) 0) ∙ (λ i. length-map (take q s) startWord i + length-replicate {A = ℕ} (stateMost - q) 0 i) ∙ omega (arith, length-take-le q s (p .inside), p .inside, p .few)
 
   pub started : length s ≤ q → words ≡ startWords stateMost (sectioned 0 [] s [] [] []) ++ replicate (stateMost - length s) 0
   unfolding startWords startWord sectioned

@@ -4,8 +4,8 @@ use mathlib.Core.Bool.{Bool, true, false, _&&_}
 use mathlib.Core.List.{List, [], _∷_, _++_, List·Memᴰ, List·Memᴰ·head, List·Memᴰ·tail}
 use Prim.Native.Nat.{ℕ, zero, suc, _+_, _-_, _*_, _^_, _<_}
 use native.Mathlib.Omega.{arith}
-use lib.ListN.{length, getD, set, take, drop, replicate, length-map, length-take, take-append-drop}
-use lib.Seq.{set-append-left, drop-set-lt}
+use lib.ListN.{length, getD, set, take, replicate, length-map}
+use lib.Seq.{set-append-left}
 use lib.Dec.{eqb}
 use lib.Bits.{bitOr}
 use Rattle.lists.specs.Lists.{same}
@@ -98,60 +98,7 @@ module _ (k : ℕ) where
         go true h = refl
         go false h = h
 
--- ---- a round leaves the words behind the states' words
-
-module _ (n : ℕ) where
-  add-past : (f : List ℕ) (q w : ℕ) → q < n → drop n (add f q w) ≡ drop n f
-  unfolding add
-  add-past f q w h = drop-set-lt n f q (bitOr (getD f q 0) w) h
-
-  -- a step that leaves them
-  Leaves : (List ℕ → List ℕ → List ℕ) → List ℕ → Type 0
-  Leaves step r = (g : List ℕ) → drop n (step r g) ≡ drop n g
-
-  internal-leaves : (r : List ℕ) → Moves n r → Leaves internalStep r
-  unfolding Leaves internalStep byInternals
-  internal-leaves r m g = add-past g _ _ (m .to)
-
-  call-leaves : (r : List ℕ) → Moves n r → Leaves callStep r
-  unfolding Leaves callStep byCalls
-  call-leaves r m g = go (eqb (getD g (getD r 0 0) 0) 0)
-    where
-      go : (b : Bool) → drop n (elim b as (λ _. List ℕ) [ true ↦ g | false ↦ add g (getD r 2 0) (2 ^ getD r 0 0) ]) ≡ drop n g
-      go true = refl
-      go false = add-past g _ _ (m .to)
-
-  return-leaves : (r : List ℕ) → Pops n r → Leaves returnStep r
-  unfolding Leaves returnStep byReturns
-  return-leaves r m g = go (live g r)
-    where
-      go : (b : Bool) → drop n (elim b as (λ _. List ℕ) [ true ↦ add g (getD r 3 0) (getD g (getD r 2 0) 0) | false ↦ g ]) ≡ drop n g
-      go true = add-past g _ _ (m .to)
-      go false = refl
-
-  walk-leaves : (step : List ℕ → List ℕ → List ℕ) (rs : List (List ℕ)) → ((r : List ℕ) → List·Memᴰ r rs → Leaves step r) → (f : List ℕ) → drop n (walk step rs f) ≡ drop n f
-  unfolding Leaves walk
-  walk-leaves step [] h f = refl
-  walk-leaves step (r ∷ rs) h f = walk-leaves step rs (λ s m. h s (List·Memᴰ·tail m)) (step r f) ∙ h r (List·Memᴰ·head refl) f
-
--- lists that are the same behind their first n elements are compared by these
-same-first : (n : ℕ) (f g : List ℕ) → length f ≡ length g → drop n f ≡ drop n g → same (take n f) (take n g) ≡ same f g
-same-first n f g l e =
-    sym (same-append (take n f) (take n g) (drop n f) (length-take n f ∙ rw l (sym (length-take n g))))
-    ∙ (λ i. same (take-append-drop n f i) (take n g ++ e i))
-    ∙ ap (same f) (take-append-drop n g)
-
-module _ {most : ℕ} {t : Table} (bounded : Bounded most t) where
-  round-leaves : (f : List ℕ) → drop (count t) (round t f) ≡ drop (count t) f
-  round-leaves f =
-      ap (drop (count t)) (round-walk t f)
-      ∙ walk-leaves (count t) returnStep (t .returns) (λ r m. return-leaves (count t) r (bounded .returns r m)) _
-      ∙ walk-leaves (count t) callStep (t .calls) (λ r m. call-leaves (count t) r (bounded .calls r m)) _
-      ∙ walk-leaves (count t) internalStep (t .internals) (λ r m. internal-leaves (count t) r (bounded .internals r m)) f
-
-  -- whether a round changed anything is told by the states' words
-  told-first : (f : List ℕ) {g : List ℕ} {b : Bool} → g ≡ round t f → same (take (count t) g) (take (count t) f) ≡ b → same g f ≡ b
-  told-first f e h = rw e (sym (same-first (count t) (round t f) f (round-wide 0 bounded f) (round-leaves f)) ∙ rw e at h)
+-- ---- all rounds
 
 -- the rounds over all words that a table may have give the top words
 pub words-padded : {most : ℕ} {t : Table} → Bounded most t → rounds (suc (count t * suc (count t))) t (startWords most t ++ replicate (most - count t) 0) ≡ topWordsAt most t
@@ -169,10 +116,6 @@ pops-of {n} {s} h r m = record { wide = records-wide 4 s r m; from = h .states r
 pub sections-bounded : {s i c r : List ℕ} → Sections s i c r → Bounded stateMost (sectioned 0 [] s i c r)
 unfolding sectioned
 sections-bounded h = record { states = h .few; internals = moves-of (h .internals-whole); calls = moves-of (h .calls-whole); returns = pops-of (h .returns-whole) }
-
-pub round-told : {s i c r : List ℕ} (f : List ℕ) {g : List ℕ} {b : Bool} → Sections s i c r → g ≡ round (sectioned 0 [] s i c r) f → same (take (length s) g) (take (length s) f) ≡ b → same g f ≡ b
-unfolding sectioned
-round-told f h e k = told-first (sections-bounded h) f e k
 
 -- the words that the code starts with, and those that its rounds come to
 pub words-made : {s i c r start end : List ℕ} → Sections s i c r → start ≡ startWords stateMost (sectioned 0 [] s [] [] []) ++ replicate (stateMost - length s) 0 → end ≡ rounds (suc (length s * suc (length s))) (sectioned 0 [] s i c r) start → end ≡ topWords (sectioned 0 [] s i c r)

@@ -3,11 +3,11 @@ use mathlib.Core.Path.{_≡_, refl, sym, ap, _∙_}
 use mathlib.Core.Logic.{_≢_}
 use mathlib.Core.Bool.{Bool, true, false}
 use mathlib.Core.List.{List, [], _∷_, _++_, map}
-use Prim.Native.Nat.{ℕ, zero, suc, min, _+_, _-_, _^_, _<_, _≤_}
+use Prim.Native.Nat.{ℕ, zero, suc, _+_, _-_, _^_, _<_, _≤_}
 use native.Mathlib.Omega.{arith}
 use native.Mathlib.Decide.{ℕ-discrete, decLt}
-use lib.ListN.{length, getD, take, replicate, length-take, length-append, length-map, length-replicate, List·getD-eq-default}
-use lib.Seq.{getD-set-same, getD-set-other, getD-take}
+use lib.ListN.{length, getD, replicate, length-append, length-map, length-replicate, List·getD-eq-default}
+use lib.Seq.{getD-set-same, getD-set-other}
 use lib.Dec.{eqb}
 use lib.Pow.{pow-lt}
 use lib.Bits.{bitOr, or-add-and, and-le-r, or-lt}
@@ -22,7 +22,7 @@ use Rattle.reach.specs.Tops.{add, live, byInternals, byCalls, byReturns, round,
 use Rattle.reach.proofs.Bounded.{Bounded}
 use Rattle.reach.proofs.Walks.{internalStep, callStep, returnStep, round-walk, walk-keeps, length-add}
 use Rattle.tops.specs.Sections.{Sections, Small, total, sumOf}
-use Rattle.tops.proofs.Padded.{sections-bounded, round-told}
+use Rattle.tops.proofs.Padded.{sections-bounded}
 use Rattle.tops.proofs.Loops.{Resting, rest-on, rested}
 
 or-more : (a b : ℕ) → a ≤ bitOr a b
@@ -99,30 +99,23 @@ sum-tells (x ∷ f) (y ∷ g) l h e =
     let rest = sum-tells f g (omega arith) (λ q. h (suc q)) (omega arith) in
     λ i. here i ∷ rest i
 
-first-more : (n : ℕ) (f g : List ℕ) → ((q : ℕ) → getD f q 0 ≤ getD g q 0) → (q : ℕ) → getD (take n f) q 0 ≤ getD (take n g) q 0
-first-more n f g h q = go (decLt q n)
-  where
-    go : Dec (q < n) → getD (take n f) q 0 ≤ getD (take n g) q 0
-    go (yes l) = rw (getD-take n f q 0 l, getD-take n g q 0 l) (h q)
-    go (no l) = rw (List·getD-eq-default (take n f) 0 {n = q} (omega (arith, length-take n f))) (omega arith)
-
 module _ {s i c r f g : List ℕ} (h : Sections s i c r) (small : Small f) (e : g ≡ round (sectioned 0 [] s i c r) f) where
   pub small-on : Small g
   small-on = rw e (round-grown f (sections-bounded h) small .small)
 
   -- a round that leaves the sum changes nothing; one that does not, does
-  pub sum-same : sumOf (take (length s) g) ≡ sumOf (take (length s) f) → same g f ≡ true
+  pub sum-same : sumOf g ≡ sumOf f → same g f ≡ true
   sum-same k =
       let p = round-grown f (sections-bounded h) small in
-      let d = sum-tells (take (length s) f) (take (length s) (round (sectioned 0 [] s i c r) f)) (length-take _ _ ∙ ap (min (length s)) (p .wide) ∙ sym (length-take _ _)) (first-more (length s) f _ (p .more)) (rw e at k) in
-      round-told f h e (rw (e, d) (same-refl (take (length s) f)))
+      let d = sum-tells f (round (sectioned 0 [] s i c r) f) (p .wide) (p .more) (rw e at k) in
+      rw (e, d) (same-refl f)
 
-  pub sum-other : sumOf (take (length s) g) ≢ sumOf (take (length s) f) → same g f ≡ false
+  pub sum-other : sumOf g ≢ sumOf f → same g f ≡ false
   sum-other k = go (same g f) refl
     where
       go : (b : Bool) → same g f ≡ b → same g f ≡ false
       go false d = d
-      go true d = absurd (k (ap (λ (ws : List ℕ). sumOf (take (length s) ws)) (same-true g f d)))
+      go true d = absurd (k (ap sumOf (same-true g f d)))
 
 -- ---- the words at the start are small
 
@@ -142,19 +135,19 @@ start-small s few e = record { long = ap length e ∙ long; each = λ q. rw (e, 
     state-small (x ∷ s) zero = word-small (isInitial x)
     state-small (x ∷ s) (suc q) = state-small s q
 
--- ---- the rounds, with the sum of the states' words
+-- ---- the rounds, with the sum of the words
 
-pub record Told (s : List ℕ) (t : Table) (end words : List ℕ) (left sum : ℕ) : Type 0 where
+pub record Told (t : Table) (end words : List ℕ) (left sum : ℕ) : Type 0 where
   pub rest : Resting t end words left
   pub small : Small words
-  pub summed : sum ≡ sumOf (take (length s) words)
+  pub summed : sum ≡ sumOf words
 
-module _ {s i c r end words new : List ℕ} {left sum : ℕ} (p : Told s (sectioned 0 [] s i c r) end words left sum) (h : Sections s i c r) (l : 0 < left) (e : new ≡ round (sectioned 0 [] s i c r) words) where
+module _ {s i c r end words new : List ℕ} {left sum : ℕ} (p : Told (sectioned 0 [] s i c r) end words left sum) (h : Sections s i c r) (l : 0 < left) (e : new ≡ round (sectioned 0 [] s i c r) words) where
   pub told-small : Small new
   told-small = small-on h (p .small) e
 
-  pub told-on : {told : ℕ} → told ≡ sumOf (take (length s) new) → told ≢ sum → Told s (sectioned 0 [] s i c r) end new (left - 1) told
+  pub told-on : {told : ℕ} → told ≡ sumOf new → told ≢ sum → Told (sectioned 0 [] s i c r) end new (left - 1) told
   told-on k n = record { rest = rest-on (p .rest) l e (sum-other h (p .small) e (λ d. n (k ∙ d ∙ sym (p .summed)))); small = told-small; summed = k }
 
-  pub told-end : {told : ℕ} → told ≡ sumOf (take (length s) new) → told ≡ sum → new ≡ end
+  pub told-end : {told : ℕ} → told ≡ sumOf new → told ≡ sum → new ≡ end
   told-end k n = rested (p .rest) l e (sum-same h (p .small) e (sym k ∙ n ∙ p .summed))

@@ -10,7 +10,7 @@ ghost use Rattle.format.specs.File.{records, tableOf};
 ghost use Rattle.table.specs.Sections.{sectioned, HasRead};
 ghost use Rattle.reach.specs.Tops.{add, startWords, rounds, topWords, topsOf};
 ghost use Rattle.reach.specs.Demands.{TopsExact};
-ghost use Rattle.tops.specs.Sections.{Section, Sections, Small, sumOf, widthOf, stepBy, byRecords, topsFound, examinedOf};
+ghost use Rattle.tops.specs.Sections.{Section, Sections, Small, sumOf, startWord, widthOf, stepBy, byRecords, topsFound, examinedOf};
 use format::Reading;
 use format::Starts;
 use limits::Limits;
@@ -46,35 +46,54 @@ fn bit(x: usize) -> u64
 }
 
 // Top x is in word q.
-fn has_top(words: &[u64; 40], q: usize, x: usize) -> bool
-    requires { ⌜ (q < 40) × (x < 64) ⌝ }
+fn has_top(words: &[u64], q: usize, x: usize) -> bool
+    requires { ⌜ (q < length (now words)) × (x < 64) ⌝ }
     ensures { λ r. ⌜ r ≡ has (now (words .entry)) q x ⌝ }
 {
     (words[q] >> x) % 2 == 1
 }
 
 // Word q gains the tops of w.
-pub fn add(words: &mut [u64; 40], q: usize, w: u64)
-    requires { ⌜ q < 40 ⌝ }
+pub fn add(words: &mut [u64], q: usize, w: u64)
+    requires { ⌜ q < length (now words) ⌝ }
     ensures { λ _. ⌜ now (words .exit) ≡ add (now (words .entry)) q w ⌝ }
 {
     words[q] = words[q] | w;
 }
 
-// An initial state has bottom, numbered 40.
-pub fn start_words(states: &[u8]) -> [u64; 40]
-    requires { ⌜ length (now states) ≤ 40 ⌝ }
-    ensures { λ r. ⌜ r ≡ startWords stateMost (sectioned 0 [] (now (states .entry)) [] [] []) ++ replicate (40 - length (now (states .entry))) 0 ⌝ }
+// All words are zero.
+fn clear(words: &mut [u64])
+    requires { ⌜ length (now words) ≡ 40 ⌝ }
+    ensures { λ _. ⌜ now (words .exit) ≡ replicate 40 0 ⌝ }
 {
-    let mut words = [0u64; 40];
     let mut q: usize = 0;
-    'states: while q < states.len() {
-        if states[q] % 2 == 1 {
-            words[q] = bit(40);
-        }
+    'words: while q < 40 {
+        words[q] = 0;
         q += 1;
     }
-    words
+}
+
+// A state's first word, by its byte: an initial state has bottom, numbered 40.
+fn start_word(byte: u8) -> u64
+    ensures { λ r. ⌜ r ≡ startWord byte ⌝ }
+{
+    if byte % 2 == 1 {
+        return bit(40);
+    }
+    0
+}
+
+// The words of the states at the start, and zeros behind them.
+pub fn start_words(states: &[u8], words: &mut [u64])
+    requires { ⌜ (length (now states) ≤ 40) × (length (now words) ≡ 40) ⌝ }
+    ensures { λ _. ⌜ now (words .exit) ≡ startWords stateMost (sectioned 0 [] (now (states .entry)) [] [] []) ++ replicate (40 - length (now (states .entry))) 0 ⌝ }
+{
+    clear(words);
+    let mut q: usize = 0;
+    'states: while q < states.len() {
+        words[q] = start_word(states[q]);
+        q += 1;
+    }
 }
 
 // The bytes of a record.
@@ -90,8 +109,8 @@ fn width_of(kind: Kind) -> usize
 
 // By an internal (q, a, q') the tops of q are tops of q'; by a call (q, a, q') the state q is one, if q has a top; by a live return (q, a, s, q')
 // the tops of s are.
-fn step(kind: Kind, from: usize, under: usize, to: usize, words: &mut [u64; 40])
-    requires { ⌜ (from < 40) × (under < 40) × (to < 40) ⌝ }
+fn step(kind: Kind, from: usize, under: usize, to: usize, words: &mut [u64])
+    requires { ⌜ (from < 40) × (under < 40) × (to < 40) × (length (now words) ≡ 40) ⌝ }
     ensures { λ _. ⌜ now (words .exit) ≡ stepBy kind (now (words .entry)) from under to ⌝ }
 {
     match kind {
@@ -114,8 +133,8 @@ fn step(kind: Kind, from: usize, under: usize, to: usize, words: &mut [u64; 40])
 }
 
 // The records of a section, in file order.
-fn by_records(kind: Kind, section: &[u8], words: &mut [u64; 40])
-    requires { ⌜ Section (widthOf kind) 40 (now section) ⌝ }
+fn by_records(kind: Kind, section: &[u8], words: &mut [u64])
+    requires { ⌜ Section (widthOf kind) 40 (now section) × (length (now words) ≡ 40) ⌝ }
     ensures { λ _. ⌜ now (words .exit) ≡ byRecords kind (records (widthOf kind) (now (section .entry))) (now (words .entry)) ⌝ }
 {
     let width = width_of(kind);
@@ -130,23 +149,22 @@ fn by_records(kind: Kind, section: &[u8], words: &mut [u64; 40])
     }
 }
 
-// The sum of the first n words.
-fn sum_of(words: &[u64; 40], n: usize) -> u64
-    requires { ⌜ (n ≤ 40) × Small (now words) ⌝ }
-    ensures { λ r. ⌜ r ≡ sumOf (take n (now (words .entry))) ⌝ }
+// The sum of all words.
+fn sum_of(words: &[u64]) -> u64
+    requires { ⌜ Small (now words) ⌝ }
+    ensures { λ r. ⌜ r ≡ sumOf (now (words .entry)) ⌝ }
 {
     let mut sum: u64 = 0;
     let mut q: usize = 0;
-    'words: while q < n {
+    'words: while q < 40 {
         sum += words[q];
         q += 1;
     }
     sum
 }
 
-// All records pass until a round changes nothing: words only gain tops, so the sum of the states' words tells. So many rounds are enough
-// (reach/proofs/Exact).
-fn rest(states: &[u8], internals: &[u8], calls: &[u8], returns: &[u8], words: &mut [u64; 40])
+// All records pass until a round changes nothing: words only gain tops, so their sum tells. So many rounds are enough (reach/proofs/Exact).
+fn rest(states: &[u8], internals: &[u8], calls: &[u8], returns: &[u8], words: &mut [u64])
     requires { ⌜ Sections (now states) (now internals) (now calls) (now returns) × Small (now words) ⌝ }
     ensures { λ _. ⌜
         now (words .exit)
@@ -155,12 +173,12 @@ fn rest(states: &[u8], internals: &[u8], calls: &[u8], returns: &[u8], words: &m
 {
     let n = states.len();
     let mut left = n * (n + 1) + 1;
-    let mut sum = sum_of(words, n);
+    let mut sum = sum_of(words);
     'rounds: while 0 < left {
         by_records(Kind::Internal, internals, words);
         by_records(Kind::Call, calls, words);
         by_records(Kind::Return, returns, words);
-        let new = sum_of(words, n);
+        let new = sum_of(words);
         if new == sum {
             return;
         }
@@ -170,13 +188,12 @@ fn rest(states: &[u8], internals: &[u8], calls: &[u8], returns: &[u8], words: &m
 }
 
 // The top words of the table with these sections.
-fn words_of(states: &[u8], internals: &[u8], calls: &[u8], returns: &[u8]) -> [u64; 40]
-    requires { ⌜ Sections (now states) (now internals) (now calls) (now returns) ⌝ }
-    ensures { λ r. ⌜ r ≡ topWords (sectioned 0 [] (now (states .entry)) (now (internals .entry)) (now (calls .entry)) (now (returns .entry))) ⌝ }
+fn words_of(states: &[u8], internals: &[u8], calls: &[u8], returns: &[u8], words: &mut [u64])
+    requires { ⌜ Sections (now states) (now internals) (now calls) (now returns) × (length (now words) ≡ 40) ⌝ }
+    ensures { λ _. ⌜ now (words .exit) ≡ topWords (sectioned 0 [] (now (states .entry)) (now (internals .entry)) (now (calls .entry)) (now (returns .entry))) ⌝ }
 {
-    let mut words = start_words(states);
-    rest(states, internals, calls, returns, &mut words);
-    words
+    start_words(states, words);
+    rest(states, internals, calls, returns, words);
 }
 
 // The number of tops in a word: its ones.
@@ -187,7 +204,7 @@ fn tops_in(word: u64) -> u32
 }
 
 // The number of tops in the first n words.
-fn count_tops(words: &[u64; 40], n: usize) -> u32
+fn count_tops(words: &[u64], n: usize) -> u32
     requires { ⌜ (n ≤ 40) × (length (now words) ≡ 40) ⌝ }
     ensures { λ r. ⌜ r ≡ onesOver 64 (take n (now (words .entry))) ⌝ }
 {
@@ -200,30 +217,28 @@ fn count_tops(words: &[u64; 40], n: usize) -> u32
     found
 }
 
-// The answer for the table with these sections.
-fn tops_of(states: &[u8], internals: &[u8], calls: &[u8], returns: &[u8]) -> TopWords
-    requires { ⌜ Sections (now states) (now internals) (now calls) (now returns) ⌝ }
-    ensures { λ r. ⌜ r ≡ topsFound (sectioned 0 [] (now (states .entry)) (now (internals .entry)) (now (calls .entry)) (now (returns .entry))) ⌝ }
+// The top words of the table with these sections, and the number of tops.
+fn tops_of(states: &[u8], internals: &[u8], calls: &[u8], returns: &[u8], words: &mut [u64]) -> u32
+    requires { ⌜ Sections (now states) (now internals) (now calls) (now returns) × (length (now words) ≡ 40) ⌝ }
+    ensures { λ r. ⌜
+        record { number = 0; words = now (words .exit); found = r }
+        ≡ topsFound (sectioned 0 [] (now (states .entry)) (now (internals .entry)) (now (calls .entry)) (now (returns .entry))) ⌝ }
 {
-    let words = words_of(states, internals, calls, returns);
-    let found = count_tops(&words, states.len());
-    TopWords {
-        number: 0,
-        words,
-        found,
-    }
+    words_of(states, internals, calls, returns, words);
+    count_tops(words, states.len())
 }
 
-// The tops of a table that was read: its sections are handed on as parts of the file.
-fn tops_read(table: &[u8], starts: Starts) -> TopWords
-    requires { ⌜ HasRead (now table) starts ⌝ }
-    ensures { λ r. ⌜ r ≡ topsFound (tableOf (now (table .entry))) ⌝ }
+// The tops of a table that was read, into the words that are lent: its sections are handed on as parts of the file.
+pub fn tops_read(table: &[u8], starts: Starts, words: &mut [u64]) -> u32
+    requires { ⌜ HasRead (now table) starts × (length (now words) ≡ 40) ⌝ }
+    ensures { λ r. ⌜ record { number = 0; words = now (words .exit); found = r } ≡ topsFound (tableOf (now (table .entry))) ⌝ }
 {
     tops_of(
         table::part(table, starts, table::Section::States),
         table::part(table, starts, table::Section::Internals),
         table::part(table, starts, table::Section::Calls),
         table::part(table, starts, table::Section::Returns),
+        words,
     )
 }
 
@@ -234,13 +249,13 @@ pub fn examine(limits: Limits, table: &[u8]) -> Examined
     let reading = table::read_within(limits, table);
     match reading {
         Reading::Sections(starts) => {
-            let t = tops_read(table, starts);
-            let words = t.words;
+            let mut words = [0u64; 40];
+            let found = tops_read(table, starts, &mut words);
             Examined {
                 number: 0,
                 starts,
                 words,
-                found: t.found,
+                found,
             }
         }
         Reading::Refused(number) => Examined {
@@ -265,7 +280,15 @@ pub fn tops_within(limits: Limits, table: &[u8]) -> TopWords
 {
     let reading = table::read_within(limits, table);
     match reading {
-        Reading::Sections(starts) => tops_read(table, starts),
+        Reading::Sections(starts) => {
+            let mut words = [0u64; 40];
+            let found = tops_read(table, starts, &mut words);
+            TopWords {
+                number: 0,
+                words,
+                found,
+            }
+        }
         Reading::Refused(number) => TopWords {
             number,
             words: [0u64; 40],

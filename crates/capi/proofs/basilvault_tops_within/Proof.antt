@@ -1,42 +1,66 @@
 -- `capi::basilvault_tops_within` meets its contract: the answer as a number and values. Assumes nothing.
-use mathlib.Core.Path.{refl, ap, _∙_}
-use Rattle.capi.specs.Answers.{topsOut}
-use Rattle.capi.proofs.Answering.{answered, refused, tops-found, tops-refused}
+use mathlib.Core.Path.{refl, sym, _∙_}
+use native.Mathlib.Omega.{arith}
+use lib.Seq.{length-take-le}
+use Rattle.tops.proofs.Read.{read-handed}
+use Rattle.capi.proofs.Answering.{tops-short, tops-stored, tops-none}
 use borrow.Author.Needs.{needs}
 use Rattle.capi.proofs.basilvault_tops_within.Statement.{statement}
 use Rattle.capi.proofs.basilvault_tops_within.Tie as tie
 
-tops-within-requires : tie.Need-tops-within-requires
-tops-within-requires c κs = search needs
+read-within-requires : tie.Need-read-within-requires
+read-within-requires c κs = search needs
+
+enum-known-reading : tie.Need-enum-known-reading
+enum-known-reading c = search needs
+
+returns : tie.Need-returns
+returns c = tops-short _ _ _ (sym (c .before .before .reading .given .1) ∙ c .before .before .before .before .read-within .ensures) (c .if1 .taken)
+
+slice-relend-prefix-tops-read : tie.Need-slice-relend-prefix-tops-read
+slice-relend-prefix-tops-read c = search needs
+
+slice-aggregate-tops-read : tie.Need-slice-aggregate-tops-read
+slice-aggregate-tops-read c = sym (length-take-le 40 (c .before .before .before .before .before .before .before .before .args .values .now) (omega (arith, c .before .if1 .left)))
+
+tops-read-requires : tie.Need-tops-read-requires
+tops-read-requires c κs = (read-handed _ _ (sym (c .before .before .before .reading .given .1) ∙ c .before .before .before .before .before .read-within .ensures), length-take-le 40 (c .before .before .before .before .before .before .before .before .args .values .now) (omega (arith, c .before .if1 .left)))
+
+cast-values : tie.Need-cast-values
+cast-values c = search needs
+
+slice-write-values : tie.Need-slice-write-values
+slice-write-values c = search needs
+
+enum-known-reading-2 : tie.Need-enum-known-reading-2
+enum-known-reading-2 c = search needs
 
 cast-result : tie.Need-cast-result
 cast-result c = search needs
-
-returns : tie.Need-returns
-unfolding topsOut
-returns c = refused _ refl (tops-refused (c .before .tops-within .result) (c .if1 .taken)) ∙ ap (topsOut _) (c .before .tops-within .ensures .0)
-
-cast-store-words : tie.Need-cast-store-words
-cast-store-words c = search needs
-
-store-words-requires : tie.Need-store-words-requires
-store-words-requires c κs = search needs
 
 same-length : tie.Need-same-length
 same-length c = search needs
 
 returns-2 : tie.Need-returns-2
-unfolding topsOut
-returns-2 c = answered _ (c .before .before .before .before .before .before .before .if1 .left) (tops-found (c .before .before .before .before .before .before .before .before .tops-within .result) (c .before .before .before .before .before .before .before .if1 .left)) (c .before .before .store-words .ensures) ∙ ap (topsOut _) (c .before .before .before .before .before .before .before .before .tops-within .ensures .0)
+returns-2 c = tops-stored _ _ _ (sym (c .before .before .before .before .before .before .reading .given .1) ∙ c .before .before .before .before .before .before .before .before .read-within .ensures) (omega (arith, c .before .before .before .before .if1 .left)) (c .before .before .tops-read .ensures) refl
+
+returns-3 : tie.Need-returns-3
+returns-3 c = tops-none _ _ _ (sym (c .before .reading2 .given .1) ∙ c .before .before .before .read-within .ensures)
 
 pub basilvault-tops-within-spec : {M : Type 1} → statement M
 basilvault-tops-within-spec =
     tie.close
     (tie.spec
-    tops-within-requires
-    cast-result
+    read-within-requires
+    enum-known-reading
     returns
-    cast-store-words
-    store-words-requires
+    slice-relend-prefix-tops-read
+    slice-aggregate-tops-read
+    tops-read-requires
+    cast-values
+    slice-write-values
+    enum-known-reading-2
+    cast-result
     same-length
-    returns-2)
+    returns-2
+    returns-3)

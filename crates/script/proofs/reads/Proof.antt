@@ -32,14 +32,17 @@ starts-of-requires-2 c κs = (omega arith, lent-more (c .before .before .before 
 starts-of-requires-3 : tie.Need-starts-of-requires-3 Inv-script μ-script
 starts-of-requires-3 c κs = (omega arith, lent-more (c .before .before .before .before .before .before .before .before .pre .0 .returns-lent) (c .before .before .before .before .before .before .before .before .pre .0 .few))
 
+slice-aggregate-start-words : tie.Need-slice-aggregate-start-words Inv-script μ-script
+slice-aggregate-start-words c = search needs
+
 start-words-requires : tie.Need-start-words-requires Inv-script μ-script
-start-words-requires c κs = c .before .before .before .before .before .before .before .before .before .pre .0 .few
+start-words-requires c κs = (c .before .before .before .before .before .before .before .before .before .before .pre .0 .few, refl)
 
 script-holds : tie.Need-script-holds Inv-script μ-script
 unfolding sectioned started startWords
 script-holds c =
-    let s = c .before .before .before .before .before .before .before .before .before .before in
-    walking (sectioned 0 (s .args .symbols .now) (s .args .states .now) (s .args .internals .now) (s .args .calls .now) (s .args .returns .now)) _ _ (c .start-words .ensures) refl (s .pre .2 .shallow)
+    let s = c .before .before .before .before .before .before .before .before .before .before .before .before in
+    walking (sectioned 0 (s .args .symbols .now) (s .args .states .now) (s .args .internals .now) (s .args .calls .now) (s .args .returns .now)) _ _ (c .before .start-words .ensures) refl (s .pre .2 .shallow)
 
 shared-slice-read-wide : tie.Need-shared-slice-read-wide Inv-script μ-script
 shared-slice-read-wide c = search needs
@@ -52,7 +55,7 @@ shared-slice-read-kind c =
     let k = c in
     let i = k .before .before .before in
     let st = i .before .before in
-    let s = st .before .before .before .before .before .before .before .before .before .before in
+    let s = st .before .before .before .before .before .before .before .before .before .before .before .before in
     let inside = symbol-inside _ (s .args .script .now) (s .pre .2 .known) (i .before .script .i) (i .script-test .taken) in
     let e = k .before .wide .ensures in
     search needs
@@ -65,9 +68,9 @@ moved-requires c κs =
     let k = c .before .before .before in
     let i = k .before .before .before in
     let st = i .before .before in
-    let s = st .before .before .before .before .before .before .before .before .before .before in
+    let s = st .before .before .before .before .before .before .before .before .before .before .before .before in
     let inside = symbol-inside _ (s .args .script .now) (s .pre .2 .known) (i .before .script .i) (i .script-test .taken) in
-    (s .pre .0 .few, omega (arith, k .before .wide .ensures, inside, s .pre .1), s .pre .0 .internals-lent, st .before .before .before .starts-of .ensures)
+    (s .pre .0 .few, omega (arith, k .before .wide .ensures, inside, s .pre .1), s .pre .0 .internals-lent, st .before .before .before .before .before .starts-of .ensures)
 
 script-less : tie.Need-script-less Inv-script μ-script
 script-less c = search needs
@@ -78,7 +81,7 @@ script-again c =
     let k = c .before .before .before .before in
     let i = k .before .before .before in
     let st = i .before .before in
-    let s = st .before .before .before .before .before .before .before .before .before .before in
+    let s = st .before .before .before .before .before .before .before .before .before .before .before .before in
     let e = ap (λ a. getD (s .args .symbols .now) a 0) (k .before .wide .ensures) in
     walk-internal (i .before .script .inv) (i .script-test .taken) e (c .before .before .before .if1 .taken) (c .moved .ensures ∙ ap (λ a. moved (records 3 (s .args .internals .now)) a false (i .before .script .level)) (k .before .wide .ensures))
 
@@ -88,7 +91,7 @@ mul-levels c =
     let k = c .before .before in
     let i = k .before .before .before in
     let st = i .before .before in
-    let s = st .before .before .before .before .before .before .before .before .before .before in
+    let s = st .before .before .before .before .before .before .before .before .before .before .before .before in
     let e = ap (λ a. getD (s .args .symbols .now) a 0) (k .before .wide .ensures) in
     let room = room (i .before .script .inv) (i .script-test .taken) e (c .if2 .taken) in
     search needs
@@ -99,7 +102,7 @@ array-set-from-levels c =
     let k = c .before .before in
     let i = k .before .before .before in
     let st = i .before .before in
-    let s = st .before .before .before .before .before .before .before .before .before .before in
+    let s = st .before .before .before .before .before .before .before .before .before .before .before .before in
     let e = ap (λ a. getD (s .args .symbols .now) a 0) (k .before .wide .ensures) in
     let room = room (i .before .script .inv) (i .script-test .taken) e (c .if2 .taken) in
     search needs
@@ -110,7 +113,7 @@ add-depth c =
     let k = c .before .before in
     let i = k .before .before .before in
     let st = i .before .before in
-    let s = st .before .before .before .before .before .before .before .before .before .before in
+    let s = st .before .before .before .before .before .before .before .before .before .before .before .before in
     let e = ap (λ a. getD (s .args .symbols .now) a 0) (k .before .wide .ensures) in
     let room = room (i .before .script .inv) (i .script-test .taken) e (c .if2 .taken) in
     search needs
@@ -120,9 +123,9 @@ moved-requires-2 c κs =
     let k = c .before .before .before .before in
     let i = k .before .before .before in
     let st = i .before .before in
-    let s = st .before .before .before .before .before .before .before .before .before .before in
+    let s = st .before .before .before .before .before .before .before .before .before .before .before .before in
     let inside = symbol-inside _ (s .args .script .now) (s .pre .2 .known) (i .before .script .i) (i .script-test .taken) in
-    (s .pre .0 .few, omega (arith, k .before .wide .ensures, inside, s .pre .1), s .pre .0 .calls-lent, st .before .before .starts-of2 .ensures)
+    (s .pre .0 .few, omega (arith, k .before .wide .ensures, inside, s .pre .1), s .pre .0 .calls-lent, st .before .before .before .before .starts-of2 .ensures)
 
 script-less-2 : tie.Need-script-less-2 Inv-script μ-script
 script-less-2 c = search needs
@@ -133,7 +136,7 @@ script-again-2 c =
     let k = c .before .before .before .before .before in
     let i = k .before .before .before in
     let st = i .before .before in
-    let s = st .before .before .before .before .before .before .before .before .before .before in
+    let s = st .before .before .before .before .before .before .before .before .before .before .before .before in
     let e = ap (λ a. getD (s .args .symbols .now) a 0) (k .before .wide .ensures) in
     walk-call (i .before .script .inv) (i .script-test .taken) e (c .before .before .before .if2 .taken) (c .moved2 .ensures ∙ ap (λ a. moved (records 3 (s .args .calls .now)) a true (i .before .script .level)) (k .before .wide .ensures))
 
@@ -143,7 +146,7 @@ returns c =
     let k = c .before .before .before in
     let i = k .before .before .before in
     let st = i .before .before in
-    let s = st .before .before .before .before .before .before .before .before .before .before in
+    let s = st .before .before .before .before .before .before .before .before .before .before .before .before in
     let e = ap (λ a. getD (s .args .symbols .now) a 0) (k .before .wide .ensures) in
     walk-none (i .before .script .inv) (i .script-test .taken) e (c .before .before .if1 .left) (c .before .if2 .left) (c .if3 .taken)
 
@@ -155,7 +158,7 @@ mul-below c =
     let k = c .before .before .before in
     let i = k .before .before .before in
     let st = i .before .before in
-    let s = st .before .before .before .before .before .before .before .before .before .before in
+    let s = st .before .before .before .before .before .before .before .before .before .before .before .before in
     let few = i .before .script .inv .few in
     search needs
 
@@ -164,7 +167,7 @@ array-copy-out-below c =
     let k = c .before .before .before in
     let i = k .before .before .before in
     let st = i .before .before in
-    let s = st .before .before .before .before .before .before .before .before .before .before in
+    let s = st .before .before .before .before .before .before .before .before .before .before .before .before in
     let few = i .before .script .inv .few in
     search needs
 
@@ -173,9 +176,9 @@ returned-requires c κs =
     let k = c .before .before .before .before .before .before .before in
     let i = k .before .before .before in
     let st = i .before .before in
-    let s = st .before .before .before .before .before .before .before .before .before .before in
+    let s = st .before .before .before .before .before .before .before .before .before .before .before .before in
     let inside = symbol-inside _ (s .args .script .now) (s .pre .2 .known) (i .before .script .i) (i .script-test .taken) in
-    (s .pre .0 .few, omega (arith, k .before .wide .ensures, inside, s .pre .1), s .pre .0 .returns-lent, st .before .starts-of3 .ensures)
+    (s .pre .0 .few, omega (arith, k .before .wide .ensures, inside, s .pre .1), s .pre .0 .returns-lent, st .before .before .before .starts-of3 .ensures)
 
 script-less-3 : tie.Need-script-less-3 Inv-script μ-script
 script-less-3 c = search needs
@@ -186,7 +189,7 @@ script-again-3 c =
     let k = c .before .before .before .before .before .before .before .before in
     let i = k .before .before .before in
     let st = i .before .before in
-    let s = st .before .before .before .before .before .before .before .before .before .before in
+    let s = st .before .before .before .before .before .before .before .before .before .before .before .before in
     let e = ap (λ a. getD (s .args .symbols .now) a 0) (k .before .wide .ensures) in
     walk-return (i .before .script .inv) (i .script-test .taken) e (c .before .before .before .before .before .before .before .if1 .left) (c .before .before .before .before .before .before .if2 .left) (c .before .before .before .before .before .if3 .left)
     (c .returned .ensures ∙ ap (λ a. returned (records 4 (s .args .returns .now)) a (i .before .script .level) (getD (i .before .script .levels) (i .before .script .depth - 1) [])) (k .before .wide .ensures))
@@ -196,7 +199,7 @@ unfolding sectionsRead
 returns-2 c = walked-open (c .before .before .script .inv) (c .before .script-test .left) (c .if4 .taken)
 
 ended-requires : tie.Need-ended-requires Inv-script μ-script
-ended-requires c κs = c .before .before .before .before .before .before .before .before .before .before .before .before .before .before .pre .0 .few
+ended-requires c κs = c .before .before .before .before .before .before .before .before .before .before .before .before .before .before .before .before .pre .0 .few
 
 returns-3 : tie.Need-returns-3 Inv-script μ-script
 unfolding sectioned sectionsRead ended
@@ -211,6 +214,7 @@ reads-spec =
     starts-of-requires
     starts-of-requires-2
     starts-of-requires-3
+    slice-aggregate-start-words
     start-words-requires
     script-holds
     shared-slice-read-wide

@@ -1,5 +1,6 @@
 -- `tops::by_records` meets its contract. The invariant: what the records from here on do to the words as they are. Assumes nothing.
 use borrow.Author.Needs.{needs}
+use mathlib.Core.Path.{_∙_}
 use Prim.Native.Nat.{_+_, _-_, _<_, _≤_}
 use lib.ListN.{length}
 use Rattle.tops.proofs.Loops.{Walking, walking, fits, states-read, walk-on, walked}
@@ -13,14 +14,14 @@ abbrev μ-records : tie.MeasureT-records
 μ-records kind section words₀ width at₀ words at = length section - at
 
 -- what is known in the loop
-entered : (c : tie.In-records Inv-records μ-records) → (2 < c .before .before .width-of .result) × (c .before .records .at + c .before .before .width-of .result ≤ length (c .before .before .before .before .args .section .now))
+entered : (c : tie.In-records Inv-records μ-records) → (2 < c .before .before .width-of .result) × (c .before .records .at + c .before .before .width-of .result ≤ length (c .before .before .before .before .before .args .section .now))
 entered c = fits (c .before .records .inv) (c .records-test .taken) (c .before .before .width-of .ensures)
 
 width-of-requires : tie.Need-width-of-requires Inv-records μ-records
 width-of-requires c κs = search needs
 
 records-holds : tie.Need-records-holds Inv-records μ-records
-records-holds c = walking _ _ (c .before .before .pre)
+records-holds c = walking _ _ (c .before .before .before .pre .0)
 
 add-next : tie.Need-add-next Inv-records μ-records
 add-next c = let h = entered c in search needs
@@ -50,13 +51,19 @@ wide-requires-3 : tie.Need-wide-requires-3 Inv-records μ-records
 wide-requires-3 c κs = search needs
 
 step-requires : tie.Need-step-requires Inv-records μ-records
-step-requires c κs = states-read (c .before .before .before .before .before .before .before .before .records .inv) (c .before .before .before .before .before .before .before .records-test .taken) (c .before .before .before .before .before .before .before .before .before .width-of .ensures) (c .before .before .before .before .before .wide .ensures) (c .before .before .before .wide2 .ensures) (c .before .wide3 .ensures)
+step-requires c κs =
+    let p = c .before .before .before .before .before .before .before .before .records .inv in
+    let r = states-read p (c .before .before .before .before .before .before .before .records-test .taken) (c .before .before .before .before .before .before .before .before .before .width-of .ensures) (c .before .before .before .before .before .wide .ensures) (c .before .before .before .wide2 .ensures) (c .before .wide3 .ensures) in
+    (r .0, r .1, r .2, p .long ∙ c .before .before .before .before .before .before .before .before .before .before .before .before .pre .1)
 
 records-less : tie.Need-records-less Inv-records μ-records
-records-less c = let h = entered (c .before .before .before .before .before .before .before .before) in search needs
+records-less c = let h = entered (c .before .before .before .before .before .before .before .before .before .before) in search needs
 
 records-again : tie.Need-records-again Inv-records μ-records
-records-again c = walk-on (c .before .before .before .before .before .before .before .before .before .records .inv) (c .before .before .before .before .before .before .before .before .records-test .taken) (c .before .before .before .before .before .before .before .before .before .before .width-of .ensures) (c .before .before .before .before .before .before .wide .ensures) (c .before .before .before .before .wide2 .ensures) (c .before .before .wide3 .ensures) (c .step .ensures)
+records-again c = walk-on (c .before .before .before .before .before .before .before .before .before .before .before .records .inv) (c .before .before .before .before .before .before .before .before .before .before .records-test .taken) (c .before .before .before .before .before .before .before .before .before .before .before .before .width-of .ensures) (c .before .before .before .before .before .before .before .before .wide .ensures) (c .before .before .before .before .before .before .wide2 .ensures) (c .before .before .before .before .wide3 .ensures) (c .before .before .step .ensures)
+
+same-length : tie.Need-same-length Inv-records μ-records
+same-length c = c .before .records .inv .long
 
 returns : tie.Need-returns Inv-records μ-records
 returns c = walked (c .before .records .inv) (c .records-test .left)
@@ -81,4 +88,5 @@ by-records-spec =
     step-requires
     records-less
     records-again
+    same-length
     returns)

@@ -16,19 +16,19 @@ abbrev μ-words : tie.MeasureT-words
 μ-words words n found₀ q₀ found q = n - q
 
 words-holds : tie.Need-words-holds Inv-words μ-words
-words-holds c = summing _ _ _ _ (omega (arith, c .pre))
+words-holds c = summing _ _ _ _ (omega (arith, c .before .pre))
 
 mul-tops-in : tie.Need-mul-tops-in Inv-words μ-words
 mul-tops-in c = search needs
 
-element-copy-out-tops-in : tie.Need-element-copy-out-tops-in Inv-words μ-words
-element-copy-out-tops-in c = omega (arith, c .before .before .pre, c .words-test .taken)
+shared-slice-read-tops-in : tie.Need-shared-slice-read-tops-in Inv-words μ-words
+shared-slice-read-tops-in c = omega (arith, c .before .before .before .before .pre, c .before .words-test .taken)
 
 tops-in-requires : tie.Need-tops-in-requires Inv-words μ-words
 tops-in-requires c κs = search needs
 
 add-found : tie.Need-add-found Inv-words μ-words
-add-found c = record { fits = let h = sum-fits (c .before .before .before .words .inv) (c .before .before .before .before .pre .0) (c .before .before .words-test .taken) (c .tops-in .ensures) (ones-le 64 _) in omega arith }
+add-found c = record { fits = let h = sum-fits (c .before .before .before .words .inv) (c .before .before .before .before .before .pre .0) (c .before .before .words-test .taken) (c .tops-in .ensures) (ones-le 64 _) in omega arith }
 
 add-q : tie.Need-add-q Inv-words μ-words
 add-q c = search needs
@@ -50,7 +50,7 @@ count-tops-spec =
     μ-words
     words-holds
     mul-tops-in
-    element-copy-out-tops-in
+    shared-slice-read-tops-in
     tops-in-requires
     add-found
     add-q

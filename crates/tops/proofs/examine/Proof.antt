@@ -1,5 +1,5 @@
 -- `tops::examine` meets its contract: the starts and the tops of a table that was read, or the refusal's number. Assumes nothing.
-use mathlib.Core.Path.{sym, _∙_}
+use mathlib.Core.Path.{refl, sym, _∙_}
 use Rattle.tops.proofs.Read.{read-handed, examined, examined-refused}
 use borrow.Author.Needs.{needs}
 use Rattle.tops.proofs.examine.Statement.{statement}
@@ -11,14 +11,17 @@ read-within-requires c κs = search needs
 enum-known-reading : tie.Need-enum-known-reading
 enum-known-reading c = search needs
 
+slice-aggregate-tops-read : tie.Need-slice-aggregate-tops-read
+slice-aggregate-tops-read c = search needs
+
 tops-read-requires : tie.Need-tops-read-requires
-tops-read-requires c κs = read-handed _ _ (sym (c .before .reading .given .1) ∙ c .before .before .before .read-within .ensures)
+tops-read-requires c κs = (read-handed _ _ (sym (c .before .before .reading .given .1) ∙ c .before .before .before .before .read-within .ensures), refl)
 
 enum-known-reading-2 : tie.Need-enum-known-reading-2
 enum-known-reading-2 c = search needs
 
 returns : tie.Need-returns
-returns c = examined _ _ (sym (c .before .before .before .reading .given .1) ∙ c .before .before .before .before .before .read-within .ensures) (c .before .tops-read .ensures)
+returns c = examined _ _ (sym (c .before .before .before .before .reading .given .1) ∙ c .before .before .before .before .before .before .read-within .ensures) (c .before .tops-read .ensures)
 
 returns-2 : tie.Need-returns-2
 returns-2 c = examined-refused _ _ (sym (c .before .reading2 .given .1) ∙ c .before .before .before .read-within .ensures)
@@ -29,6 +32,7 @@ examine-spec =
     (tie.spec
     read-within-requires
     enum-known-reading
+    slice-aggregate-tops-read
     tops-read-requires
     enum-known-reading-2
     returns

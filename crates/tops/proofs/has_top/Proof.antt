@@ -7,8 +7,8 @@ use Rattle.tops.proofs.has_top.Tie as tie
 mul-result : tie.Need-mul-result
 mul-result c = search needs
 
-element-copy-out-result : tie.Need-element-copy-out-result
-element-copy-out-result c = search needs
+shared-slice-read-result : tie.Need-shared-slice-read-result
+shared-slice-read-result c = search needs
 
 shr-result : tie.Need-shr-result
 shr-result c = search needs
@@ -18,5 +18,4 @@ unfolding has hasBit
 returns c = search needs
 
 pub has-top-spec : {M : Type 1} → statement M
-has-top-spec =
-    tie.close (tie.spec mul-result element-copy-out-result shr-result returns)
+has-top-spec = tie.close (tie.spec mul-result shared-slice-read-result shr-result returns)

@@ -1,5 +1,6 @@
 -- `tops::rest` meets its contract. The invariant: so many rounds from the words as they are give the words to come out, and their sum. Assumes nothing.
 use borrow.Author.Needs.{needs}
+use mathlib.Core.Path.{_∙_}
 use Prim.Native.Nat.{suc, _*_}
 use native.Mathlib.Omega.{arith}
 use mathlib.Core.List.{[]}
@@ -13,7 +14,7 @@ use Rattle.tops.proofs.rest.Tie as tie
 
 abbrev Inv-rounds : tie.InvT-rounds
 Inv-rounds states internals calls returns words₀ n left₀ sum₀ words left sum =
-    Told states (sectioned 0 [] states internals calls returns) (rounds (suc (length states * suc (length states))) (sectioned 0 [] states internals calls returns) words₀) words left sum
+    Told (sectioned 0 [] states internals calls returns) (rounds (suc (length states * suc (length states))) (sectioned 0 [] states internals calls returns) words₀) words left sum
 
 abbrev μ-rounds : tie.MeasureT-rounds
 μ-rounds states internals calls returns words₀ n left₀ sum₀ words left sum = left
@@ -22,45 +23,48 @@ add-left : tie.Need-add-left Inv-rounds μ-rounds
 add-left c = search needs
 
 mul-left : tie.Need-mul-left Inv-rounds μ-rounds
-mul-left c = let h = few-rounds (c .before .before .before .before .pre .0 .few) in search needs
+mul-left c = let h = few-rounds (c .before .before .before .before .before .pre .0 .few) in search needs
 
 add-left-2 : tie.Need-add-left-2 Inv-rounds μ-rounds
-add-left-2 c = let h = few-rounds (c .before .before .before .before .pre .0 .few) in search needs
+add-left-2 c = let h = few-rounds (c .before .before .before .before .before .pre .0 .few) in search needs
 
 sum-of-requires : tie.Need-sum-of-requires Inv-rounds μ-rounds
-sum-of-requires c κs = let p = c .before .before .before .before .before .pre in (p .0 .few, p .1)
+sum-of-requires c κs = c .before .before .before .before .before .before .pre .1
 
 rounds-holds : tie.Need-rounds-holds Inv-rounds μ-rounds
-rounds-holds c = record { rest = resting _ _ _; small = c .before .before .before .before .before .before .pre .1; summed = c .sum-of .ensures }
+rounds-holds c = record { rest = resting _ _ _; small = c .before .before .before .before .before .before .before .pre .1; summed = c .sum-of .ensures }
 
 by-records-requires : tie.Need-by-records-requires Inv-rounds μ-rounds
-by-records-requires c κs = let s = c .before .before .before .before .before .before .before .before .before .pre .0 in section-within (s .few) (s .internals-whole)
+by-records-requires c κs = let s = c .before .before .before .before .before .before .before .before .before .before .pre .0 in (section-within (s .few) (s .internals-whole), c .before .before .rounds .inv .small .long)
 
 by-records-requires-2 : tie.Need-by-records-requires-2 Inv-rounds μ-rounds
-by-records-requires-2 c κs = let s = c .before .before .before .before .before .before .before .before .before .before .before .pre .0 in section-within (s .few) (s .calls-whole)
+by-records-requires-2 c κs = let s = c .before .before .before .before .before .before .before .before .before .before .before .before .before .before .pre .0 in (section-within (s .few) (s .calls-whole), c .before .before .words .given ∙ c .before .before .before .before .before .before .rounds .inv .small .long)
 
 by-records-requires-3 : tie.Need-by-records-requires-3 Inv-rounds μ-rounds
-by-records-requires-3 c κs = let s = c .before .before .before .before .before .before .before .before .before .before .before .before .before .pre .0 in section-within (s .few) (s .returns-whole)
+by-records-requires-3 c κs = let s = c .before .before .before .before .before .before .before .before .before .before .before .before .before .before .before .before .before .before .pre .0 in (section-within (s .few) (s .returns-whole), c .before .before .words2 .given ∙ c .before .before .before .before .before .before .words .given ∙ c .before .before .before .before .before .before .before .before .before .before .rounds .inv .small .long)
 
 sum-of-requires-2 : tie.Need-sum-of-requires-2 Inv-rounds μ-rounds
 unfolding sectioned
 sum-of-requires-2 c κs =
-    let r = c .before in
-    let b = r .before .before in
-    let i = b .before .before in
+    let r = c .before .before .before in
+    let b = r .before .before .before .before in
+    let i = b .before .before .before .before in
     let a = i .before .before in
-    let s = a .before .before .before .before .before .before .before .before .pre .0 in
+    let s = a .before .before .before .before .before .before .before .before .before .pre .0 in
     let told = a .before .rounds .inv in
-    (s .few, told-small told s (a .rounds-test .taken) (rounded _ _ (i .by-records .ensures) (b .by-records2 .ensures) (r .by-records3 .ensures)))
+    told-small told s (a .rounds-test .taken) (rounded _ _ (i .by-records .ensures) (b .by-records2 .ensures) (r .by-records3 .ensures))
+
+same-length : tie.Need-same-length Inv-rounds μ-rounds
+same-length c = search needs
 
 returns : tie.Need-returns Inv-rounds μ-rounds
 unfolding sectioned
 returns c =
-    let r = c .before .before .before in
-    let b = r .before .before in
-    let i = b .before .before in
+    let r = c .before .before .before .before .before in
+    let b = r .before .before .before .before in
+    let i = b .before .before .before .before in
     let a = i .before .before in
-    let s = a .before .before .before .before .before .before .before .before .pre .0 in
+    let s = a .before .before .before .before .before .before .before .before .before .pre .0 in
     let told = a .before .rounds .inv in
     told-end told s (a .rounds-test .taken) (rounded _ _ (i .by-records .ensures) (b .by-records2 .ensures) (r .by-records3 .ensures)) (c .before .sum-of2 .ensures) (c .if1 .taken)
 
@@ -73,13 +77,16 @@ rounds-less c = search needs
 rounds-again : tie.Need-rounds-again Inv-rounds μ-rounds
 unfolding sectioned
 rounds-again c =
-    let r = c .before .before .before in
-    let b = r .before .before in
-    let i = b .before .before in
+    let r = c .before .before .before .before .before in
+    let b = r .before .before .before .before in
+    let i = b .before .before .before .before in
     let a = i .before .before in
-    let s = a .before .before .before .before .before .before .before .before .pre .0 in
+    let s = a .before .before .before .before .before .before .before .before .before .pre .0 in
     let told = a .before .rounds .inv in
     told-on told s (a .rounds-test .taken) (rounded _ _ (i .by-records .ensures) (b .by-records2 .ensures) (r .by-records3 .ensures)) (c .before .sum-of2 .ensures) (c .if1 .left)
+
+same-length-2 : tie.Need-same-length-2 Inv-rounds μ-rounds
+same-length-2 c = search needs
 
 returns-2 : tie.Need-returns-2 Inv-rounds μ-rounds
 returns-2 c = spent (c .before .rounds .inv .rest) (omega (arith, c .rounds-test .left))
@@ -99,8 +106,10 @@ rest-spec =
     by-records-requires-2
     by-records-requires-3
     sum-of-requires-2
+    same-length
     returns
     sub-left
     rounds-less
     rounds-again
+    same-length-2
     returns-2)

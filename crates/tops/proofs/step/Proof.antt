@@ -11,8 +11,8 @@ enum-told c = search needs
 mul-gained : tie.Need-mul-gained
 mul-gained c = search needs
 
-element-copy-out-gained : tie.Need-element-copy-out-gained
-element-copy-out-gained c = search needs
+slice-read-gained : tie.Need-slice-read-gained
+slice-read-gained c = search needs
 
 add-requires : tie.Need-add-requires
 add-requires c κs = search needs
@@ -23,8 +23,8 @@ enum-told-2 c = search needs
 mul-if1 : tie.Need-mul-if1
 mul-if1 c = search needs
 
-element-copy-out-if1 : tie.Need-element-copy-out-if1
-element-copy-out-if1 c = search needs
+slice-read-if1 : tie.Need-slice-read-if1
+slice-read-if1 c = search needs
 
 bit-requires : tie.Need-bit-requires
 bit-requires c κs = search needs
@@ -41,27 +41,39 @@ has-top-requires c κs = search needs
 mul-gained-2 : tie.Need-mul-gained-2
 mul-gained-2 c = search needs
 
-element-copy-out-gained-2 : tie.Need-element-copy-out-gained-2
-element-copy-out-gained-2 c = search needs
+slice-read-gained-2 : tie.Need-slice-read-gained-2
+slice-read-gained-2 c = search needs
 
 add-requires-3 : tie.Need-add-requires-3
 add-requires-3 c κs = search needs
 
+same-length : tie.Need-same-length
+same-length c = search needs
+
 returns : tie.Need-returns
 unfolding stepBy
-returns c = rw (c .before .before .before .enum-told .given .1, stepBy) (c .add .ensures)
+returns c = rw (c .before .before .before .before .before .enum-told .given .1, stepBy) (c .before .before .add .ensures)
+
+same-length-2 : tie.Need-same-length-2
+same-length-2 c = search needs
 
 returns-2 : tie.Need-returns-2
 unfolding stepBy
-returns-2 c = rw (c .before .before .before .before .before .enum-told2 .given .1, stepBy, ne-eqb _ _ (c .before .before .before .if1 .taken), ← c .before .bit .ensures) (c .add2 .ensures)
+returns-2 c = rw (c .before .before .before .before .before .before .before .enum-told2 .given .1, stepBy, ne-eqb _ _ (c .before .before .before .before .before .if1 .taken), ← c .before .before .before .bit .ensures) (c .before .before .add2 .ensures)
 
 returns-3 : tie.Need-returns-3
 unfolding stepBy
 returns-3 c = rw (c .before .before .enum-told2 .given .1, stepBy, eq-eqb _ _ (c .if1 .left))
 
+same-length-3 : tie.Need-same-length-3
+same-length-3 c = search needs
+
 returns-4 : tie.Need-returns-4
 unfolding stepBy
-returns-4 c = rw (c .before .before .before .before .before .before .enum-told3 .given .1, stepBy, ← c .before .before .before .before .has-top .ensures, c .before .before .before .if2 .taken) (c .add3 .ensures)
+returns-4 c = rw (c .before .before .before .before .before .before .before .before .enum-told3 .given .1, stepBy, ← c .before .before .before .before .before .before .has-top .ensures, c .before .before .before .before .before .if2 .taken) (c .before .before .add3 .ensures)
+
+same-length-4 : tie.Need-same-length-4
+same-length-4 c = search needs
 
 returns-5 : tie.Need-returns-5
 unfolding stepBy
@@ -73,20 +85,24 @@ step-spec =
     (tie.spec
     enum-told
     mul-gained
-    element-copy-out-gained
+    slice-read-gained
     add-requires
     enum-told-2
     mul-if1
-    element-copy-out-if1
+    slice-read-if1
     bit-requires
     add-requires-2
     enum-told-3
     has-top-requires
     mul-gained-2
-    element-copy-out-gained-2
+    slice-read-gained-2
     add-requires-3
+    same-length
     returns
+    same-length-2
     returns-2
     returns-3
+    same-length-3
     returns-4
+    same-length-4
     returns-5)

@@ -19,14 +19,16 @@ part-requires-4 c κs = search needs
 
 tops-of-requires : tie.Need-tops-of-requires
 tops-of-requires c κs =
-    parts-sections _ (c .before .before .before .before .before .pre)
-    (c .before .before .before .part .ensures) (c .before .before .part2 .ensures) (c .before .part3 .ensures) (c .part4 .ensures)
+    let p = c .before .before .before .before .before .before .before .pre in
+    (parts-sections _ (p .0) (c .before .before .before .before .part .ensures) (c .before .before .before .part2 .ensures) (c .before .before .part3 .ensures) (c .before .part4 .ensures), p .1)
+
+same-length : tie.Need-same-length
+same-length c = search needs
 
 returns : tie.Need-returns
 returns c =
-    c .tops-of .ensures
-    ∙ parts-tops _ (c .before .before .before .before .before .before .pre)
-    (c .before .before .before .before .part .ensures) (c .before .before .before .part2 .ensures) (c .before .before .part3 .ensures) (c .before .part4 .ensures)
+    c .before .before .tops-of .ensures
+    ∙ parts-tops _ (c .before .before .before .before .before .before .before .before .before .before .pre .0) (c .before .before .before .before .before .before .before .part .ensures) (c .before .before .before .before .before .before .part2 .ensures) (c .before .before .before .before .before .part3 .ensures) (c .before .before .before .before .part4 .ensures)
 
 pub tops-read-spec : {M : Type 1} → statement M
 tops-read-spec =
@@ -37,4 +39,5 @@ tops-read-spec =
     part-requires-3
     part-requires-4
     tops-of-requires
+    same-length
     returns)
