@@ -21,7 +21,7 @@ use Rattle.pairs.specs.Pairs.{pairs}
 use Rattle.solutions.specs.declared.Solution.{Solution}
 use Rattle.solutions.specs.declared.Solution.the-variants.{Solved, Refused}
 use Rattle.solutions.specs.Answers.{listFits, searchNumber, Searched, searched, searchAt, searchOf, solutionNumber, solutionValues, endNumber, searchingNumber, SearchSays}
-use Rattle.solutions.specs.Demands.{SearchSound}
+use Rattle.solutions.specs.Demands.{OnSolved, SearchSound}
 use Rattle.limits.specs.declared.Limits.{Limits}
 use Rattle.limits.specs.Limits.{limitsFit}
 
@@ -86,6 +86,10 @@ not-solved e = let z : _≡_ {A = ℕ} 0 1 = cc in omega arith
 
 solved-one : {j k : ℕ} → Solved j ≡ Solved k → j ≡ k
 solved-one e = cc
+
+on-solved : (r : Solution) {P : ℕ → Type 0} → ((k : ℕ) → r ≡ Solved k → P k) → OnSolved r P
+on-solved (Solved k) h = h k refl
+on-solved (Refused n) h = tt
 
 refused-other : {j k : ℕ} → j ≢ k → Refused j ≡ Refused k → ⊥
 refused-other {j} {k} n e = let z : j ≡ k = cc in n z
@@ -157,7 +161,7 @@ module _ (most : ℕ) (ws : List ℕ) (n b : ℕ) (a : List ℕ) where
 
     -- the contract
     pub promised : (record { solution = r; answer = out } ≡ searchAt most ws n b a) × SearchSound ws n r out
-    promised = (e, record { satisfies = satisfies; maximal = maximal; complete = complete; few = few })
+    promised = (e, record { satisfies = on-solved r satisfies; maximal = on-solved r maximal; complete = complete; few = λ h. on-solved r (few h) })
 
 -- ---- 39, and the limits in force
 
@@ -202,9 +206,4 @@ module _ (L : Limits) (ws : List ℕ) (n b : ℕ) (a : List ℕ) where
   pub unfit : limitsFit L ≡ false → (_≡_ {A = Searched} (record { solution = Refused 39; answer = a }) (searchOf L ws n b a)) × (SearchSays L ws n b a (Refused 39) × SearchSound ws n (Refused 39) a)
   unfolding searchOf
   unfit e =
-      promised-within (sym (rw (e, searchOf))) record {
-        satisfies = λ k p. absurd (not-solved p);
-        maximal = λ k p. absurd (not-solved p);
-        complete = λ p. absurd (refused-other (omega arith) p);
-        few = λ h k p. absurd (not-solved p);
-      }
+      promised-within (sym (rw (e, searchOf))) record { satisfies = tt; maximal = tt; complete = λ p. absurd (refused-other (omega arith) p); few = λ h. tt }
