@@ -5,12 +5,13 @@ use mathlib.Core.Bool.{Bool, true, false}
 use mathlib.Core.List.{List, [], _∷_}
 use Prim.Native.Nat.{ℕ, _≤_, _<_}
 use native.Mathlib.Omega.{arith}
+use native.Mathlib.Decide.{ℕ-discrete}
 use lib.ListN.{length}
-use lib.Dec.{eqb, leb}
-use borrow.Author.Tests.{eqb-true, eqb-false, eq-eqb, ne-eqb, leb-true, leb-false, le-leb, lt-leb}
+use lib.Dec.{leb}
+use borrow.Author.Tests.{leb-true, leb-false, le-leb, lt-leb}
 use denote.Ref.{RefT}
 use Rattle.lists.specs.Lists.{firstFailed}
-use Rattle.lists.proofs.Refusals.{passes, fails, no-test}
+use Rattle.lists.proofs.Refusals.{passes, fails, no-test, stage-passes, stage-fails, stage-passed}
 use Rattle.limits.specs.declared.Limits.{Limits}
 use Rattle.format.specs.Reading.{readNumber, Readable}
 use Rattle.format.specs.Maps.{classes}
@@ -92,11 +93,11 @@ module _ (L : Limits) (b m n : List ℕ) where
 
   read-number : Readable L b → chooseNumber L b m n ≡ firstFailed ((40, some (whichOf L b m n)) ∷ [])
   unfolding chooseNumber
-  read-number r = rw (eq-eqb (readNumber L b) 0 r, chooseNumber)
+  read-number r = stage-passes _ _ r
 
   pub unread-number : (Readable L b → ⊥) → chooseNumber L b m n ≡ readNumber L b
   unfolding chooseNumber
-  unread-number h = rw (ne-eqb (readNumber L b) 0 h, chooseNumber)
+  unread-number h = stage-fails _ _ refl h
 
   number-40 : Neither ≡ whichOf L b m n → Readable L b → chooseNumber L b m n ≡ 40
   unfolding some
@@ -131,11 +132,8 @@ module _ (L : Limits) (b m n : List ℕ) where
 
   -- nothing is handed back only with a refusal
   refused : Neither ≡ whichOf L b m n → chooseNumber L b m n ≡ 0 → ⊥
-  refused e z = go (eqb (readNumber L b) 0) refl
-    where
-      go : (t : Bool) → eqb (readNumber L b) 0 ≡ t → ⊥
-      go true p = let f = number-40 e (eqb-true _ _ p) in omega arith
-      go false p = let h = eqb-false (readNumber L b) 0 p in h (sym (unread-number h) ∙ z)
+  unfolding chooseNumber
+  refused e z = let f = number-40 e (stage-passed _ _ z .0) in omega arith
 
   -- a map is picked only from a readable table, and then the number is 0
   picked-number : (whichOf L b m n ≡ Neither → ⊥) → chooseNumber L b m n ≡ 0
@@ -153,16 +151,16 @@ module _ (L : Limits) (b m n : List ℕ) where
 
   pub neither-passes : {k : ℕ} → k ≡ chooseNumber L b m n → NeitherPasses L b m n k
   unfolding some
-  neither-passes {k} e = (λ f. to (eqb (readNumber L b) 0) refl (sym e ∙ f), λ h. e ∙ back (whichOf L b m n) refl picked h)
+  neither-passes {k} e = (λ f. to (ℕ-discrete (readNumber L b) 0) (sym e ∙ f), λ h. e ∙ back (whichOf L b m n) refl picked h)
     where
       none : (w : Which) → Picked w → firstFailed ((40, some w) ∷ []) ≡ 40 → (Passes L b m → ⊥) × (Passes L b n → ⊥)
       none Neither (neither p q) f = (p, q)
       none First p f = let g : firstFailed ((40, some First) ∷ []) ≡ 0 = passes 40 [] refl ∙ no-test in absurd (omega arith)
       none Second p f = let g : firstFailed ((40, some Second) ∷ []) ≡ 0 = passes 40 [] refl ∙ no-test in absurd (omega arith)
 
-      to : (t : Bool) → eqb (readNumber L b) 0 ≡ t → chooseNumber L b m n ≡ 40 → Readable L b × (Passes L b m → ⊥) × (Passes L b n → ⊥)
-      to true p f = let r = eqb-true (readNumber L b) 0 p in let h = none (whichOf L b m n) picked (sym (read-number r) ∙ f) in (r, h .0, h .1)
-      to false p f = absurd (⊎-elim (λ g. omega (arith, unread-number (eqb-false _ _ p))) (λ g. omega (arith, unread-number (eqb-false _ _ p))) (read-within L b))
+      to : Dec (Readable L b) → chooseNumber L b m n ≡ 40 → Readable L b × (Passes L b m → ⊥) × (Passes L b n → ⊥)
+      to (yes r) f = let h = none (whichOf L b m n) picked (sym (read-number r) ∙ f) in (r, h .0, h .1)
+      to (no h) f = absurd (⊎-elim (λ g. omega (arith, unread-number h)) (λ g. omega (arith, unread-number h)) (read-within L b))
 
       back : (w : Which) → w ≡ whichOf L b m n → Picked w → Readable L b × (Passes L b m → ⊥) × (Passes L b n → ⊥) → chooseNumber L b m n ≡ 40
       back Neither e (neither p q) h = number-40 e (h .0)

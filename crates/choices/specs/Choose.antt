@@ -2,9 +2,9 @@
 use mathlib.Core.Bool.{Bool, true, false}
 use mathlib.Core.List.{List, [], _∷_}
 use Prim.Native.Nat.{ℕ}
-use lib.Dec.{eqb, leb}
+use lib.Dec.{leb}
 use denote.Ref.{RefT}
-use Rattle.lists.specs.Lists.{firstFailed}
+use Rattle.lists.specs.Lists.{firstFailed, stage}
 use Rattle.limits.specs.declared.Limits.{Limits}
 use Rattle.format.specs.Reading.{readNumber}
 use Rattle.relations.specs.declared.Checked.{Checked}
@@ -33,10 +33,7 @@ some Second = true
 
 -- "39 and the table's refusals, then 40 exactly when the check accepts neither map"; or 0
 unfoldable pub chooseNumber : Limits → List ℕ → List ℕ → List ℕ → ℕ
-chooseNumber L b m n = elim (eqb (readNumber L b) 0) [
-  | true ↦ firstFailed ((40, some (whichOf L b m n)) ∷ [])
-  | false ↦ readNumber L b
-]
+chooseNumber L b m n = firstFailed (stage (readNumber L b) ∷ (40, some (whichOf L b m n)) ∷ [])
 
 -- the number, and which map
 unfoldable pub choiceOf : Limits → List ℕ → List ℕ → List ℕ → Choice

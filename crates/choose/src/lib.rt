@@ -1,9 +1,7 @@
 // Two maps on the desk: that one of them which the check accepts.
 ghost use mathlib.Core.Path.{_≡_};
 ghost use Rattle.limits.specs.Limits.{standard};
-ghost use Rattle.limits.specs.declared.Limits.{Limits};
-ghost use Rattle.format.specs.Reading.{Readable};
-ghost use Rattle.maps.specs.Sections.{Known};
+ghost use Rattle.maps.specs.Sections.{Known, WhereReadable};
 ghost use Rattle.choices.specs.Choose.{whichOf, chooseNumber, choiceOf, sliceOf, chooseOf};
 ghost use Rattle.choices.specs.Demands.{NumberTells, NeitherPasses, HandedBack};
 use choices::Choice;
@@ -14,7 +12,7 @@ use limits::Limits;
 // Which of two maps of a table that was read and whose tops are known, at any limits at which it is readable.
 fn which_known(table: &[u8], starts: Starts, words: &[u64], first: &[u8], second: &[u8]) -> Which
     requires { ⌜ Known (now table) starts (now words) ⌝ }
-    ensures { λ r. ⌜ ((L : Limits) → Readable L (now (table .entry)) → r ≡ whichOf L (now (table .entry)) (now (first .entry)) (now (second .entry))) ⌝ }
+    ensures { λ r. ⌜ WhereReadable (now (table .entry)) (λ L. r ≡ whichOf L (now (table .entry)) (now (first .entry)) (now (second .entry))) ⌝ }
 {
     let one = maps::map_number(table, starts, words, first);
     let two = maps::map_number(table, starts, words, second);

@@ -5,27 +5,27 @@ use mathlib.Core.Bool.{Bool, true, false}
 use mathlib.Core.List.{List, _++_, append-nil}
 use Prim.Native.Nat.{ℕ}
 use native.Mathlib.Omega.{arith}
-use lib.ListN.{length, replicate}
+use lib.ListN.{length}
 use lib.Seq.{slice}
-use lib.Dec.{eqb, leb}
-use borrow.Author.Tests.{eq-eqb, ne-eqb}
+use lib.Dec.{leb}
+use Rattle.lists.proofs.Refusals.{passes, fails, no-test, stage-passes, stage-fails, refuses, not-refused}
 use Rattle.cnf.specs.Clauses.{wordsOf}
 use Rattle.limits.specs.declared.Limits.{Limits}
-use Rattle.limits.specs.Limits.{stateMost}
 use Rattle.format.specs.File.{trailer, start, tableOf, records}
-use Rattle.format.specs.Reading.{readNumber, Readable, startsOf}
+use Rattle.format.specs.Reading.{Readable, startsOf}
 use Rattle.format.specs.declared.Starts.{Starts}
 use Rattle.format.proofs.Passed.{Tested, formed-tested}
 use Rattle.format.proofs.Bytes.{read-well-formed}
 use Rattle.table.specs.Sections.{partOf}
 use Rattle.table.specs.declared.view.Section.the-variants.{States, Internals, Calls, Returns}
 use Rattle.table.proofs.Parts.{states-at, internals-at, calls-at, returns-at}
-use Rattle.reach.specs.Tops.{topWords, topCount, liveReturns}
+use Rattle.reach.specs.Tops.{topWords, liveReturns}
 use Rattle.tops.specs.Sections.{examinedOf}
 use Rattle.tops.specs.declared.Examined.{Examined}
 use Rattle.tops.proofs.Loops.{section-within}
 use Rattle.tops.proofs.Read.{sections-read}
 use Rattle.maps.specs.Sections.{Known}
+use Rattle.maps.proofs.Checking.{examined-number}
 use Rattle.encoding.specs.declared.Listed.the-variants.{Refused}
 use Rattle.encoding.specs.Clauses.{lookClauses, transitivity, moveClauses, returnClauses, clauseList, shortList, clauseWords, clausesNumber, ClausesDone, clausesOf}
 use Rattle.clauses.specs.Emit.{State, emit, statesOnly, returnClausesBy, Ready, listFor, closureFor, listBy, listedBy}
@@ -62,9 +62,7 @@ groups whole states internals calls returns tops s e1 e2 e3 e4 e5 =
 
 refused : (L : Limits) (b list : List ℕ) {k : ℕ} → clausesNumber L b list ≡ k → k ≢ 0 → record { answer = Refused k; list = list } ≡ clausesOf L b list
 unfolding clausesOf
-refused L b list e n =
-    let z : eqb (clausesNumber L b list) 0 ≡ false = ne-eqb _ _ (λ q. n (sym e ∙ q)) in
-    rw (z, clausesOf) (λ i. record { answer = Refused (sym e i); list = list })
+refused L b list e n = refuses (clausesNumber L b list) _ (λ k. record { answer = Refused k; list = list }) e n
 
 -- ---- the parts of the file
 
@@ -94,10 +92,8 @@ module _ (L : Limits) (b : List ℕ) (readable : Readable L b) where
   listed list = go (leb (length (wordsOf (clauseList (tableOf b)))) (length list)) refl
     where
       go : (t : Bool) → leb (length (wordsOf (clauseList (tableOf b)))) (length list) ≡ t → listedBy (clauseList (tableOf b)) list ≡ clausesOf L b list
-      go true h = rw (h, listedBy, clausesOf, clausesNumber, eq-eqb (readNumber L b) 0 readable, h)
-      go false h =
-          let n : clausesNumber L b list ≡ 10 = rw (eq-eqb (readNumber L b) 0 readable, clausesNumber, h) in
-          rw (h, listedBy) (refused L b list n (omega arith))
+      go true h = rw (h, listedBy) (not-refused (clausesNumber L b list) _ _ (stage-passes _ _ readable ∙ passes 10 _ h ∙ no-test))
+      go false h = rw (h, listedBy) (refused L b list (stage-passes _ _ readable ∙ fails 10 _ h) (omega arith))
 
 -- the parts handed on
 module _ {b : List ℕ} {s : Starts} {tops : List ℕ} (k : Known b s tops) {states internals calls returns : List ℕ}
@@ -118,14 +114,5 @@ module _ {b : List ℕ} {s : Starts} {tops : List ℕ} (k : Known b s tops) {sta
 
 module _ (L : Limits) (b : List ℕ) {x : Examined} (e : x ≡ examinedOf L b) where
   pub unread : (list : List ℕ) → x .number ≢ 0 → record { answer = Refused (x .number); list = list } ≡ clausesOf L b list
-  unfolding examinedOf clausesOf clausesNumber
-  unread list h = go (eqb (readNumber L b) 0) refl e
-    where
-      go : (t : Bool) → eqb (readNumber L b) 0 ≡ t → x ≡ elim t [
-        | true ↦ record { number = 0; starts = startsOf b; words = topWords (tableOf b); found = topCount (tableOf b) }
-        | false ↦ record { number = readNumber L b; starts = record { symbols = 0; states = 0; internals = 0; calls = 0; returns = 0 }; words = replicate stateMost 0; found = 0 }
-      ] → record { answer = Refused (x .number); list = list } ≡ clausesOf L b list
-      go true p f = absurd (h (ap (λ (y : Examined). y .number) f))
-      go false p f =
-          let n : clausesNumber L b list ≡ readNumber L b = rw (p, clausesNumber) in
-          refused L b list (n ∙ sym (ap (λ (y : Examined). y .number) f)) h
+  unfolding clausesNumber
+  unread list h = refused L b list (stage-fails _ _ (sym (examined-number L b e)) h) h

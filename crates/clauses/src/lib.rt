@@ -5,7 +5,7 @@ ghost use lib.ListN.{length};
 ghost use Rattle.limits.specs.Limits.{standard, stateMost};
 ghost use Rattle.format.specs.File.{tableOf};
 ghost use Rattle.maps.specs.Sections.{Known};
-ghost use Rattle.encoding.specs.Clauses.{clausesOf};
+ghost use Rattle.encoding.specs.Clauses.{clausesOf, ClausesSays};
 ghost use Rattle.encoding.specs.Demands.{ListSound};
 ghost use Rattle.clauses.specs.Emit.{state, Ordered, emit, statesOnly, closureFor, Ready, listFor, listBy, listedBy};
 use emit::Tally;
@@ -141,6 +141,7 @@ pub fn list_read(
 // The clause list of a table that is read at limits.
 pub fn clauses_within(limits: Limits, table: &[u8], list: &mut [u16]) -> Listed
     ensures answers { λ r. ⌜ record { answer = r; list = now (list .exit) } ≡ clausesOf limits (now (table .entry)) (now (list .entry)) ⌝ }
+    ensures number { λ r. ⌜ ClausesSays limits (now (table .entry)) (now (list .entry)) r ⌝ }
     ensures sound { λ r. ⌜ ListSound limits (now (table .entry)) (now (list .exit)) r ⌝ }
 {
     let e = tops::examine(limits, table);
@@ -155,6 +156,7 @@ pub fn clauses_within(limits: Limits, table: &[u8], list: &mut [u16]) -> Listed
 // The clause list of a table, at the limits of a caller that gives none.
 pub fn clauses(table: &[u8], list: &mut [u16]) -> Listed
     ensures answers { λ r. ⌜ record { answer = r; list = now (list .exit) } ≡ clausesOf standard (now (table .entry)) (now (list .entry)) ⌝ }
+    ensures number { λ r. ⌜ ClausesSays standard (now (table .entry)) (now (list .entry)) r ⌝ }
     ensures sound { λ r. ⌜ ListSound standard (now (table .entry)) (now (list .exit)) r ⌝ }
 {
     clauses_within(limits::standard(), table, list)

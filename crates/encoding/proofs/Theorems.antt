@@ -3,16 +3,14 @@
 -- (demand 3). Assumes nothing.
 use mathlib.Core.Path.{_≡_, refl, sym, ap, _∙_, subst}
 use mathlib.Core.Logic.{inr, _↔_}
-use mathlib.Core.Bool.{Bool, true, false}
 use mathlib.Core.List.{List, _++_}
 use Prim.Native.Nat.{ℕ, _<_}
 use native.Mathlib.Omega.{arith}
 use native.Mathlib.Decide.{decLt}
 use lib.ListN.{length, take, drop, List·getD-eq-default}
 use lib.Seq.{take-append-seam}
-use lib.Dec.{eqb, leb}
-use borrow.Author.Tests.{eqb-true}
 use Rattle.lists.specs.Lists.{over}
+use Rattle.lists.proofs.Refusals.{stage-passed, by-number, says}
 use Rattle.cnf.specs.Clauses.{valueOf, Assignment, Model, Maximal, clausesIn, wordsOf}
 use Rattle.cnf.proofs.Words.{clauses-words}
 use Rattle.pairs.specs.Pairs.{pairs, pairOf}
@@ -21,14 +19,15 @@ use Rattle.vpa.specs.Quotients.{Joined}
 use Rattle.vpa.proofs.Relations.{raq-along}
 use Rattle.limits.specs.declared.Limits.{Limits}
 use Rattle.format.specs.File.{Table, tableOf}
-use Rattle.format.specs.Reading.{readNumber, Readable, WellFormed}
+use Rattle.format.specs.Reading.{Readable, WellFormed}
 use Rattle.format.specs.Language.{count, automaton}
 use Rattle.format.specs.Maps.{JoinedBy, Proper, RaqMap, NoneCoarser}
 use Rattle.format.proofs.Bytes.{read-well-formed}
 use Rattle.relations.specs.Check.{checkNumber}
 use Rattle.relations.proofs.Accepted.{accepts}
 use Rattle.encoding.specs.declared.Listed.{Listed}
-use Rattle.encoding.specs.Clauses.{clauseList, clauseWords, clausesNumber, ClausesDone, clausesOf}
+use Rattle.encoding.specs.declared.Listed.the-variants.{List as Words, Refused}
+use Rattle.encoding.specs.Clauses.{clauseList, clauseWords, clausesNumber, ClausesDone, clausesOf, listedNumber, listedValues, ClausesSays}
 use Rattle.encoding.specs.Maps.{mapOf}
 use Rattle.encoding.specs.Demands.{ListSound}
 use Rattle.encoding.proofs.Related.{Related, related-true}
@@ -102,18 +101,21 @@ module _ (L : Limits) (b : List ℕ) (readable : Readable L b) (v : List ℕ) wh
 
 -- ---- demand 3, of the answer
 
--- where the answer is a list, the bytes were read and the words fit
+-- where the answer is a list, the bytes were read
 fit : (L : Limits) (b list : List ℕ) → clausesNumber L b list ≡ 0 → Readable L b
 unfolding clausesNumber
-fit L b list e = go (eqb (readNumber L b) 0) refl e
-  where
-    go : (t : Bool) → eqb (readNumber L b) 0 ≡ t → _≡_ {A = ℕ} (elim t [ true ↦ elim (leb (length (clauseWords (tableOf b))) (length list)) [ true ↦ 0 | false ↦ 10 ] | false ↦ readNumber L b ]) 0 → Readable L b
-    go true p f = eqb-true _ _ p
-    go false p f = f
+fit L b list e = stage-passed _ _ e .0
+
+-- the two ways to end
+abbrev written : List ℕ → List ℕ → ClausesDone
+written b list = record { answer = Words (length (clauseList (tableOf b))) (length (clauseWords (tableOf b))); list = over (clauseWords (tableOf b)) list }
+
+abbrev refused : Limits → List ℕ → List ℕ → ClausesDone
+refused L b list = record { answer = Refused (clausesNumber L b list); list = list }
 
 sound : (L : Limits) (b list : List ℕ) → ListSound L b (clausesOf L b list .list) (clausesOf L b list .answer)
 unfolding clausesOf clauseWords over
-sound L b list = go (eqb (clausesNumber L b list) 0) refl
+sound L b list = by-number _ (written b list) (refused L b list) (λ (d : ClausesDone). ListSound L b (d .list) (d .answer)) given (λ n. tt)
   where
     cs : List (List ℕ)
     cs = clauseList (tableOf b)
@@ -121,9 +123,13 @@ sound L b list = go (eqb (clausesNumber L b list) 0) refl
     there : clausesIn (take (length (wordsOf cs)) (wordsOf cs ++ drop (length (wordsOf cs)) list)) ≡ cs
     there = ap clausesIn (take-append-seam (wordsOf cs) (drop (length (wordsOf cs)) list)) ∙ clauses-words cs
 
-    go : (t : Bool) → eqb (clausesNumber L b list) 0 ≡ t → ListSound L b (clausesOf L b list .list) (clausesOf L b list .answer)
-    go true p = rw (p, clausesOf) (λ v m. model-accepted L b (fit L b list (eqb-true _ _ p)) v (subst (λ (ds : List (List ℕ)). Model ds (pairs (count (tableOf b))) v) there m))
-    go false p = rw (p, clausesOf) tt
+    given : clausesNumber L b list ≡ 0 → ListSound L b (over (wordsOf cs) list) (Words (length cs) (length (wordsOf cs)))
+    given z v m = model-accepted L b (fit L b list z) v (subst (λ (ds : List (List ℕ)). Model ds (pairs (count (tableOf b))) v) there m)
 
-pub sound-of : (L : Limits) (b list : List ℕ) {r : Listed} {list' : List ℕ} → record { answer = r; list = list' } ≡ clausesOf L b list → ListSound L b list' r
-sound-of L b list {r} {list'} e = subst (λ (d : ClausesDone). ListSound L b (d .list) (d .answer)) (sym e) (sound L b list)
+numbered : (L : Limits) (b list : List ℕ) → ClausesSays L b list (clausesOf L b list .answer)
+unfolding clausesOf listedNumber listedValues
+numbered L b list = says _ (written b list) (refused L b list) (λ (d : ClausesDone). listedNumber (d .answer)) (λ (d : ClausesDone). listedValues (d .answer)) refl refl refl refl
+
+pub promised : (L : Limits) (b list : List ℕ) {r : Listed} {list' : List ℕ} → record { answer = r; list = list' } ≡ clausesOf L b list
+    → (record { answer = r; list = list' } ≡ clausesOf L b list) × (ClausesSays L b list r × ListSound L b list' r)
+promised L b list {r} {list'} e = (e, subst (λ (d : ClausesDone). ClausesSays L b list (d .answer) × ListSound L b (d .list) (d .answer)) (sym e) (numbered L b list, sound L b list))

@@ -4,7 +4,7 @@ use mathlib.Core.List.{List, [], _∷_, _++_, map}
 use Prim.Native.Nat.{ℕ, _+_, _-_, _%_}
 use lib.ListN.{length, getD}
 use lib.Dec.{eqb, leb}
-use Rattle.lists.specs.Lists.{any, keep, gather, upto, mem, over}
+use Rattle.lists.specs.Lists.{any, keep, gather, upto, mem, over, firstFailed, stage, Says}
 use Rattle.lists.specs.Bits.{has}
 use Rattle.cnf.specs.Clauses.{wordsOf}
 use Rattle.limits.specs.declared.Limits.{Limits}
@@ -84,10 +84,7 @@ shortWords t = wordsOf (shortList t)
 
 -- 39, 1 to 8, then 10: "list longer than the buffer"; or 0
 unfoldable pub clausesNumber : Limits → List ℕ → List ℕ → ℕ
-clausesNumber L b list = elim (eqb (readNumber L b) 0) [
-  | true ↦ elim (leb (length (clauseWords (tableOf b))) (length list)) [ true ↦ 0 | false ↦ 10 ]
-  | false ↦ readNumber L b
-]
+clausesNumber L b list = firstFailed (stage (readNumber L b) ∷ (10, leb (length (clauseWords (tableOf b))) (length list)) ∷ [])
 
 -- the answer, and the clause buffer at exit
 pub record ClausesDone : Type 0 where
@@ -109,3 +106,7 @@ listedNumber (Refused k) = k
 unfoldable pub listedValues : Listed → List ℕ
 listedValues (Words c w) = c ∷ w ∷ []
 listedValues (Refused k) = []
+
+-- the answer by its number and its values
+abbrev pub ClausesSays : Limits → List ℕ → List ℕ → Listed → Type 0
+ClausesSays L b list r = Says (listedNumber r) (listedValues r) (clausesNumber L b list) (length (clauseList (tableOf b)) ∷ length (clauseWords (tableOf b)) ∷ [])

@@ -13,7 +13,11 @@ use Rattle.encoding.specs.Maps.{mapOf}
 use Rattle.encoding.specs.declared.Listed.{Listed}
 use Rattle.encoding.specs.declared.Listed.the-variants.{List as Words, Refused}
 
--- where a list was written, every assignment that satisfies its words has a map that the check accepts
+-- where a list was written, of its words
+abbrev pub OnList : Listed → (ℕ → Type 0) → Type 0
+OnList (Words c w) P = P w
+OnList (Refused k) P = Unit {0}
+
+-- every assignment that satisfies the words written has a map that the check accepts
 abbrev pub ListSound : Limits → List ℕ → List ℕ → Listed → Type 0
-ListSound L b list (Words c w) = (v : List ℕ) → Model (clausesIn (take w list)) (pairs (count (tableOf b))) v → checkNumber L b (mapOf v (count (tableOf b))) ≡ 0
-ListSound L b list (Refused k) = Unit {0}
+ListSound L b list r = OnList r (λ w. (v : List ℕ) → Model (clausesIn (take w list)) (pairs (count (tableOf b))) v → checkNumber L b (mapOf v (count (tableOf b))) ≡ 0)

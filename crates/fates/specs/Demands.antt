@@ -25,3 +25,9 @@ KeptAreQuotients b m r = OnCounts r (λ n k f d. (k ≡ recordCount (quotientTab
 -- "N the input's"
 abbrev pub AllAreInputs : List ℕ → Recorded → Type 0
 AllAreInputs b r = OnCounts r (λ n k f d. n ≡ recordCount (tableOf b))
+
+-- all of it, of one answer
+pub record Promises (b m : List ℕ) (r : Recorded) : Type 0 where
+  pub counts : AddUp r
+  pub kept : KeptAreQuotients b m r
+  pub all : AllAreInputs b r

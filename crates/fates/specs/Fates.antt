@@ -4,7 +4,7 @@ use mathlib.Core.List.{List, [], _∷_, _++_}
 use Prim.Native.Nat.{ℕ, _+_}
 use lib.ListN.{length}
 use lib.Dec.{eqb, leb}
-use Rattle.lists.specs.Lists.{any, keep, same, over, firstFailed}
+use Rattle.lists.specs.Lists.{any, keep, same, over, firstFailed, stage, Says}
 use Rattle.limits.specs.declared.Limits.{Limits}
 use Rattle.format.specs.File.{Table, tableOf}
 use Rattle.reach.specs.Tops.{topWords, live}
@@ -61,10 +61,7 @@ countsOf t m = Counts (recordCount t) (having keptMark (fatesOf t m)) (having fo
 
 -- "those of the check, then 21 under N bytes"; or 0
 unfoldable pub recordsNumber : Limits → List ℕ → List ℕ → List ℕ → ℕ
-recordsNumber L b m out = elim (eqb (checkNumber L b m) 0) [
-  | true ↦ firstFailed ((21, leb (recordCount (tableOf b)) (length out)) ∷ [])
-  | false ↦ checkNumber L b m
-]
+recordsNumber L b m out = firstFailed (stage (checkNumber L b m) ∷ (21, leb (recordCount (tableOf b)) (length out)) ∷ [])
 
 -- the answer, and the output at exit
 pub record RecordsDone : Type 0 where
@@ -86,3 +83,7 @@ recordedNumber (Refused k) = k
 unfoldable pub recordedValues : Recorded → List ℕ
 recordedValues (Counts n k f d) = n ∷ k ∷ f ∷ d ∷ []
 recordedValues (Refused k) = []
+
+-- the answer by its number and its values
+abbrev pub RecordsSays : Limits → List ℕ → List ℕ → List ℕ → Recorded → Type 0
+RecordsSays L b m out r = Says (recordedNumber r) (recordedValues r) (recordsNumber L b m out) (recordedValues (countsOf (tableOf b) m))

@@ -1,12 +1,11 @@
 -- The answer by the tests in their order. Assumes nothing.
-use mathlib.Core.Path.{_≡_, sym, ap, _∙_}
+use mathlib.Core.Path.{_≡_, sym, _∙_}
 use mathlib.Core.Bool.{Bool, true, false}
 use mathlib.Core.List.{List}
 use Prim.Native.Nat.{ℕ}
 use native.Mathlib.Omega.{arith}
-use borrow.Author.Tests.{eq-eqb, ne-eqb}
 use Rattle.lists.proofs.Members.{not-so, same-true, same-of}
-use Rattle.lists.proofs.Refusals.{passes, fails, no-test}
+use Rattle.lists.proofs.Refusals.{passes, fails, no-test, stage-passes, stage-fails, refuses, not-refused}
 use Rattle.limits.specs.Limits.{standard}
 use Rattle.format.specs.File.{tableOf}
 use Rattle.format.specs.Reading.{readNumber}
@@ -21,20 +20,20 @@ use Rattle.fit.specs.Rows.{BothRead}
 module _ (b c : List ℕ) where
   refused-by : {k : ℕ} → fitNumber b c ≡ k → (k ≡ 0 → ⊥) → Refused k ≡ fitOf b c
   unfolding fitOf
-  refused-by e n = sym (rw (ne-eqb (fitNumber b c) 0 (λ z. n (sym e ∙ z)), fitOf) (ap Refused e))
+  refused-by e n = refuses (fitNumber b c) _ Refused e n
 
   answered : {x : Bool} → fitNumber b c ≡ 0 → fits (tableOf b) (tableOf c) ≡ x → (elim x [ true ↦ Yes | false ↦ No ]) ≡ fitOf b c
   unfolding fitOf
-  answered z e = sym (rw (eq-eqb (fitNumber b c) 0 z, e, fitOf))
+  answered z e = rw (sym e) (not-refused (fitNumber b c) _ _ z)
 
   pub first-refused : {k : ℕ} → readNumber standard b ≡ k → (k ≡ 0 → ⊥) → Refused k ≡ fitOf b c
   unfolding fitNumber
-  first-refused e n = refused-by (fails _ _ (ne-eqb _ _ (λ z. n (sym e ∙ z))) ∙ e) n
+  first-refused e n = refused-by (stage-fails _ _ e n) n
 
   module _ (first : readNumber standard b ≡ 0) where
     pub second-refused : {k : ℕ} → readNumber standard c ≡ k → (k ≡ 0 → ⊥) → Refused k ≡ fitOf b c
     unfolding fitNumber
-    second-refused e n = refused-by (passes _ _ (eq-eqb _ _ first) ∙ fails _ _ (ne-eqb _ _ (λ z. n (sym e ∙ z))) ∙ e) n
+    second-refused e n = refused-by (stage-passes _ _ first ∙ stage-fails _ _ e n) n
 
 -- two tables that were read, by their symbols' parts
 module _ {b c : List ℕ} {x y : Starts} (h : BothRead b x c y) {first second : List ℕ} (e1 : first ≡ partOf b x Symbols) (e2 : second ≡ partOf c y Symbols) where
@@ -46,17 +45,17 @@ module _ {b c : List ℕ} {x y : Starts} (h : BothRead b x c y) {first second : 
   unfolding fitNumber sameSymbols
   symbols-differ n =
       let d = not-so _ (λ e. n (symbols-read (h .first) e1 ∙ same-true _ _ e ∙ sym (symbols-read (h .second) e2))) in
-      refused-by b c (passes _ _ (eq-eqb _ _ (h .first .readable)) ∙ passes _ _ (eq-eqb _ _ (h .second .readable)) ∙ fails 37 _ d) (λ z. absurd (omega arith))
+      refused-by b c (stage-passes _ _ (h .first .readable) ∙ stage-passes _ _ (h .second .readable) ∙ fails 37 _ d) (λ z. absurd (omega arith))
 
   module _ (e : first ≡ second) where
     pub has-choice : noChoice (tableOf c) ≡ false → Refused 38 ≡ fitOf b c
     unfolding fitNumber
-    has-choice d = refused-by b c (passes _ _ (eq-eqb _ _ (h .first .readable)) ∙ passes _ _ (eq-eqb _ _ (h .second .readable)) ∙ passes 37 _ (symbols-same e) ∙ fails 38 _ d) (λ z. absurd (omega arith))
+    has-choice d = refused-by b c (stage-passes _ _ (h .first .readable) ∙ stage-passes _ _ (h .second .readable) ∙ passes 37 _ (symbols-same e) ∙ fails 38 _ d) (λ z. absurd (omega arith))
 
     module _ (s : noChoice (tableOf c) ≡ true) where
       permitted : fitNumber b c ≡ 0
       unfolding fitNumber
-      permitted = passes _ _ (eq-eqb _ _ (h .first .readable)) ∙ passes _ _ (eq-eqb _ _ (h .second .readable)) ∙ passes 37 _ (symbols-same e) ∙ passes 38 _ s ∙ no-test
+      permitted = stage-passes _ _ (h .first .readable) ∙ stage-passes _ _ (h .second .readable) ∙ passes 37 _ (symbols-same e) ∙ passes 38 _ s ∙ no-test
 
       pub says-yes : fits (tableOf b) (tableOf c) ≡ true → Yes ≡ fitOf b c
       says-yes f = answered b c permitted f

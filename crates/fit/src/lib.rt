@@ -10,7 +10,7 @@ mod settle;
 ghost use mathlib.Core.Path.{_≡_};
 ghost use Rattle.limits.specs.Limits.{standard};
 ghost use Rattle.table.specs.Sections.{ReadAs};
-ghost use Rattle.fitting.specs.Fit.{fitOf};
+ghost use Rattle.fitting.specs.Fit.{fitOf, FitSays};
 ghost use Rattle.fitting.specs.Demands.{YesExactly, NoApart, FitsQuotient, FitsOn};
 ghost use Rattle.fit.specs.Rows.{BothRead};
 use choice::no_choice;
@@ -54,6 +54,7 @@ fn fit_second(first: &[u8], one: Starts, second: &[u8]) -> Fitting
 // gives none.
 pub fn fit(first: &[u8], second: &[u8]) -> Fitting
     ensures answers { λ r. ⌜ r ≡ fitOf (now (first .entry)) (now (second .entry)) ⌝ }
+    ensures number { λ r. ⌜ FitSays (now (first .entry)) (now (second .entry)) r ⌝ }
     ensures exact { λ r. ⌜ YesExactly (now (first .entry)) (now (second .entry)) r ⌝ }
     ensures apart { λ r. ⌜ NoApart (now (first .entry)) (now (second .entry)) r ⌝ }
     ensures quotient { λ r. ⌜ FitsQuotient (now (first .entry)) (now (second .entry)) r ⌝ }

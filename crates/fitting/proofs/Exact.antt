@@ -1,20 +1,19 @@
 -- The answer is yes exactly when no word that ends on the empty stack is accepted by the first table and not by the second (request (xi)).
 -- Assumes nothing.
 use mathlib.Core.Path.{_≡_, refl, sym, ap, _∙_, subst}
-use mathlib.Core.Logic.{_↔_, _≢_}
+use mathlib.Core.Logic.{_↔_}
 use mathlib.Core.Bool.{Bool, true, false, _&&_, not, true≢false}
-use mathlib.Core.List.{List, _∷_}
+use mathlib.Core.List.{List, [], _∷_}
 use mathlib.Core.Option.{none}
 use Prim.Native.Nat.{ℕ, _/_, _%_, _<_}
 use native.Mathlib.Omega.{arith}
 use native.Mathlib.Decide.{ℕ-discrete}
 use lib.ListN.{getD}
-use lib.Dec.{eqb}
-use borrow.Author.Tests.{eqb-true, eqb-false, eq-eqb}
-use Rattle.lists.specs.Lists.{upto, firstFailed}
+use borrow.Author.Tests.{eqb-true, eq-eqb}
+use Rattle.lists.specs.Lists.{upto}
 use Rattle.lists.specs.Bits.{has}
 use Rattle.lists.proofs.Members.{and-true, and-of, any-true, any-false, upto-of, same-true, same-of}
-use Rattle.lists.proofs.Refusals.{passed, passes, no-test}
+use Rattle.lists.proofs.Refusals.{passed, passes, no-test, stage-passes, stage-passed, by-number, says}
 use Rattle.vpa.specs.Automata.{Tops, Accepts}
 use Rattle.limits.specs.declared.Limits.{Limits}
 use Rattle.limits.specs.Limits.{standard}
@@ -27,7 +26,7 @@ use Rattle.reach.specs.Tops.{topWordsAt}
 use Rattle.reach.proofs.Bounded.{lawful}
 use Rattle.reach.proofs.Formed.{bounded}
 use Rattle.reach.proofs.Exact.{bottom-has}
-use Rattle.fitting.specs.Fit.{firstOf, secondOf, pairCount, pairTable, ends, fits, noChoice, sameSymbols, fitNumber, fitOf, fittingNumber}
+use Rattle.fitting.specs.Fit.{firstOf, secondOf, pairCount, pairTable, ends, fits, noChoice, sameSymbols, fitNumber, fitOf, fittingNumber, fittingValues, FitSays}
 use Rattle.fitting.specs.Demands.{WithoutChoice, Apart, YesExactly, NoApart}
 use Rattle.fitting.specs.declared.Fitting.{Fitting}
 use Rattle.fitting.specs.declared.Fitting.the-variants.{Yes, No, Refused}
@@ -43,27 +42,19 @@ pub record Permitted (b c : List ℕ) : Type 0 where
   pub symbols : tableOf b .symbols ≡ tableOf c .symbols
   pub single : noChoice (tableOf c) ≡ true
 
-number-passed : (k : ℕ) (ts : List (ℕ × Bool)) → firstFailed ((k, eqb k 0) ∷ ts) ≡ 0 → (k ≡ 0) × (firstFailed ts ≡ 0)
-unfolding firstFailed
-number-passed k ts e = go (eqb k 0) refl e
-  where
-    go : (t : Bool) → eqb k 0 ≡ t → _≡_ {A = ℕ} (elim t [ true ↦ firstFailed ts | false ↦ k ]) 0 → (k ≡ 0) × (firstFailed ts ≡ 0)
-    go true f g = (eqb-true _ _ f, g)
-    go false f g = absurd (eqb-false _ _ f g)
-
 module _ (b c : List ℕ) where
   pub permitted : fitNumber b c ≡ 0 → Permitted b c
   unfolding fitNumber sameSymbols
   permitted e =
-      let p1 = number-passed _ _ e in
-      let p2 = number-passed _ _ (p1 .1) in
+      let p1 = stage-passed _ _ e in
+      let p2 = stage-passed _ _ (p1 .1) in
       let p3 = passed 37 _ _ (λ z. absurd (omega arith)) (p2 .1) in
       let p4 = passed 38 _ _ (λ z. absurd (omega arith)) (p3 .1) in
       record { first = p1 .0; second = p2 .0; symbols = same-true _ _ (p3 .0); single = p4 .0 }
 
   pub permits : Permitted b c → fitNumber b c ≡ 0
   unfolding fitNumber sameSymbols
-  permits p = passes _ _ (eq-eqb _ _ (p .first)) ∙ passes _ _ (eq-eqb _ _ (p .second)) ∙ passes 37 _ (same-of (p .symbols)) ∙ passes 38 _ (p .single) ∙ no-test
+  permits p = stage-passes _ _ (p .first) ∙ stage-passes _ _ (p .second) ∙ passes 37 _ (same-of (p .symbols)) ∙ passes 38 _ (p .single) ∙ no-test
 
 -- ---- two tables
 
@@ -193,27 +184,27 @@ module _ (b c : List ℕ) where
 
   pub fit-worth : Worth (fitOf b c)
   unfolding fitOf fittingNumber
-  fit-worth = go (eqb (fitNumber b c) 0) refl
-    where
-      go : (x : Bool) → eqb (fitNumber b c) 0 ≡ x → Worth (elim x as (λ _. Fitting) [ true ↦ told (fits (tableOf b) (tableOf c)) | false ↦ Refused (fitNumber b c) ])
-      go true e = worth (permitted b c (eqb-true _ _ e)) (fits (tableOf b) (tableOf c)) refl
-      go false e = (
-        record { exactly = λ z. absurd (eqb-false _ _ e z); every = λ y. let z : _≡_ {A = ℕ} 0 1 = cc in absurd (omega arith) },
-        λ y. let z : _≡_ {A = ℕ} 0 1 = cc in absurd (omega arith),
-      )
+  fit-worth = by-number (fitNumber b c) (told (fits (tableOf b) (tableOf c))) (Refused (fitNumber b c)) Worth (λ z. worth (permitted b c z) (fits (tableOf b) (tableOf c)) refl) (λ n. (
+    record { exactly = λ z. absurd (n z); every = λ y. let z : _≡_ {A = ℕ} 0 1 = cc in absurd (omega arith) },
+    λ y. let z : _≡_ {A = ℕ} 0 1 = cc in absurd (omega arith),
+  ))
 
-  -- an answer that is no refusal is given to tables that are permitted, and only to them
-  pub number-of : fittingNumber (fitOf b c) ≡ fitNumber b c
-  unfolding fitOf fittingNumber
-  number-of = go (eqb (fitNumber b c) 0) refl
+  -- its number and its values
+  pub fit-says : FitSays b c (fitOf b c)
+  unfolding fitOf fittingNumber fittingValues
+  fit-says = says (fitNumber b c) (told (fits (tableOf b) (tableOf c))) (Refused (fitNumber b c)) fittingNumber fittingValues (asked (fits (tableOf b) (tableOf c))) (valued (fits (tableOf b) (tableOf c))) refl refl
     where
       asked : (x : Bool) → fittingNumber (told x) ≡ 0
       asked true = refl
       asked false = refl
 
-      go : (x : Bool) → eqb (fitNumber b c) 0 ≡ x → fittingNumber (elim x as (λ _. Fitting) [ true ↦ told (fits (tableOf b) (tableOf c)) | false ↦ Refused (fitNumber b c) ]) ≡ fitNumber b c
-      go true e = asked (fits (tableOf b) (tableOf c)) ∙ sym (eqb-true _ _ e)
-      go false e = refl
+      valued : (x : Bool) → fittingValues (told x) ≡ (elim x [ true ↦ 1 | false ↦ 0 ]) ∷ []
+      valued true = refl
+      valued false = refl
+
+  -- an answer that is no refusal is given to tables that are permitted, and only to them
+  pub number-of : fittingNumber (fitOf b c) ≡ fitNumber b c
+  number-of = fit-says .numbered
 
   -- "does the second accept every word of the first?"
   pub fit-yes : fittingNumber (fitOf b c) ≡ 0 → ((w : List ℕ) → AcceptsWord b w → AcceptsWord c w) → fitOf b c ≡ Yes

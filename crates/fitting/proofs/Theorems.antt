@@ -12,9 +12,9 @@ use Rattle.quotients.specs.Quotient.{quotientBytes}
 use Rattle.quotients.proofs.Theorems.{keeps-words, is-quotient}
 use Rattle.fitting.specs.declared.Fitting.{Fitting}
 use Rattle.fitting.specs.declared.Fitting.the-variants.{Yes}
-use Rattle.fitting.specs.Fit.{noChoice, fitNumber, fitOf, fittingNumber}
+use Rattle.fitting.specs.Fit.{noChoice, fitNumber, fitOf, fittingNumber, FitSays}
 use Rattle.fitting.specs.Demands.{YesExactly, NoApart, FitsQuotient, FitsOn}
-use Rattle.fitting.proofs.Exact.{permits, fit-worth, number-of, fit-yes, yes-permitted}
+use Rattle.fitting.proofs.Exact.{permits, fit-worth, fit-says, number-of, fit-yes, yes-permitted}
 
 pub fits-itself : (b : List ℕ) → fittingNumber (fitOf b b) ≡ 0 → fitOf b b ≡ Yes
 fits-itself b z = fit-yes b b z (λ w h. h)
@@ -44,8 +44,8 @@ quotient-taken b m e s =
 
 -- ---- what an answer of the operation promises
 
-pub promised : (b c : List ℕ) {r : Fitting} → r ≡ fitOf b c → (r ≡ fitOf b c) × (YesExactly b c r × (NoApart b c r × (FitsQuotient b c r × FitsOn b c r)))
-promised b c {r} e = (e, rw e (kept .0, (kept .1 .0, (kept .1 .1 .0, kept .1 .1 .1))))
+pub promised : (b c : List ℕ) {r : Fitting} → r ≡ fitOf b c → (r ≡ fitOf b c) × (FitSays b c r × (YesExactly b c r × (NoApart b c r × (FitsQuotient b c r × FitsOn b c r))))
+promised b c {r} e = (e, rw e (fit-says b c, (kept .0, (kept .1 .0, (kept .1 .1 .0, kept .1 .1 .1)))))
   where
     kept : YesExactly b c (fitOf b c) × (NoApart b c (fitOf b c) × (FitsQuotient b c (fitOf b c) × FitsOn b c (fitOf b c)))
     kept = (

@@ -4,7 +4,7 @@ use mathlib.Core.List.{List, [], _∷_, map}
 use Prim.Native.Nat.{ℕ, suc, _+_, _*_, _/_, _%_}
 use lib.ListN.{length, getD, take}
 use lib.Dec.{eqb}
-use Rattle.lists.specs.Lists.{any, all, keep, gather, upto, same, firstFailed}
+use Rattle.lists.specs.Lists.{any, all, keep, gather, upto, same, firstFailed, stage, Says}
 use Rattle.lists.specs.Bits.{has}
 use Rattle.limits.specs.Limits.{standard}
 use Rattle.format.specs.File.{Table, tableOf}
@@ -101,8 +101,8 @@ sameSymbols s t = same (s .symbols) (t .symbols)
 unfoldable pub fitNumber : List ℕ → List ℕ → ℕ
 fitNumber b c =
     firstFailed
-    ((readNumber standard b, eqb (readNumber standard b) 0)
-    ∷ (readNumber standard c, eqb (readNumber standard c) 0)
+    (stage (readNumber standard b)
+    ∷ stage (readNumber standard c)
     ∷ (37, sameSymbols (tableOf b) (tableOf c))
     ∷ (38, noChoice (tableOf c))
     ∷ [])
@@ -125,3 +125,7 @@ unfoldable pub fittingValues : Fitting → List ℕ
 fittingValues (Yes) = 1 ∷ []
 fittingValues (No) = 0 ∷ []
 fittingValues (Refused k) = []
+
+-- the answer by its number and its values
+abbrev pub FitSays : List ℕ → List ℕ → Fitting → Type 0
+FitSays b c r = Says (fittingNumber r) (fittingValues r) (fitNumber b c) ((elim (fits (tableOf b) (tableOf c)) [ true ↦ 1 | false ↦ 0 ]) ∷ [])

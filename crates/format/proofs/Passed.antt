@@ -11,12 +11,14 @@ use lib.Dec.{eqb, leb}
 use borrow.Author.Tests.{eqb-true, leb-true, eq-eqb, le-leb}
 use Rattle.lists.specs.Lists.{any, all, firstFailed}
 use Rattle.lists.proofs.Members.{and-true, and-of, all-true, all-of}
-use Rattle.lists.proofs.Refusals.{passed, passes, fails, failed-within, none-failed, no-test}
+use Rattle.lists.proofs.Refusals.{passed, passes, fails, failed-within, none-failed, no-test, says}
 use Rattle.limits.specs.Limits.{limitsFit}
 use Rattle.limits.specs.declared.Limits.{Limits}
 use Rattle.format.specs.Limits.{longest, moveLimit, returnLimit}
 use Rattle.format.specs.File.{Table, trailer, distance, version, tableOf}
-use Rattle.format.specs.Reading.{lengthFits, versionFits, distancesFit, countsFit, stateByteMost, bytesFit, isInitial, startFits, recordFits, recordsFit, ascend, orderFits, tableTests, readNumber, Readable, WellFormed}
+use Rattle.format.specs.Reading.{lengthFits, versionFits, distancesFit, countsFit, stateByteMost, bytesFit, isInitial, startFits, recordFits, recordsFit, ascend, orderFits, tableTests, readNumber, Readable, startsOf, readOf, readingNumber, readingValues, ReadSays, WellFormed}
+use Rattle.format.specs.declared.Reading.{Reading}
+use Rattle.format.specs.declared.Reading.the-variants.{Sections, Refused}
 
 -- ---- what it says that bytes are readable
 
@@ -207,3 +209,11 @@ read-within L b = go (limitsFit L) refl
     go : (t : Bool) → limitsFit L ≡ t → (readNumber L b ≡ 39) ⊎ (readNumber L b ≤ 8)
     go true e = inr (subst (λ (k : ℕ). k ≤ 8) (sym (passes 39 _ e)) after)
     go false e = inl (fails 39 _ e)
+
+-- what reading answers, by its number and its values
+read-says : (L : Limits) (b : List ℕ) → ReadSays L b (readOf L b)
+unfolding readOf readingNumber readingValues
+read-says L b = says _ (Sections (startsOf b)) (Refused (readNumber L b)) readingNumber readingValues refl refl refl refl
+
+pub read-promised : (L : Limits) (b : List ℕ) {r : Reading} → r ≡ readOf L b → (r ≡ readOf L b) × ReadSays L b r
+read-promised L b e = (e, subst (ReadSays L b) (sym e) (read-says L b))

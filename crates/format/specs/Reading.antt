@@ -6,7 +6,7 @@ use mathlib.Core.List.{List, [], _∷_}
 use Prim.Native.Nat.{ℕ, _-_, _/_, _%_}
 use lib.ListN.{length, getD}
 use lib.Dec.{eqb, ltb, leb}
-use Rattle.lists.specs.Lists.{any, all, firstFailed}
+use Rattle.lists.specs.Lists.{any, all, firstFailed, Says}
 use Rattle.limits.specs.Limits.{limitsFit}
 use Rattle.limits.specs.declared.Limits.{Limits}
 use Rattle.format.specs.Limits.{longest, moveLimit, returnLimit}
@@ -116,6 +116,10 @@ readingNumber (Refused k) = k
 unfoldable pub readingValues : Reading → List ℕ
 readingValues (Sections s) = s .symbols ∷ s .states ∷ s .internals ∷ s .calls ∷ s .returns ∷ []
 readingValues (Refused k) = []
+
+-- the answer by its number and its values
+abbrev pub ReadSays : Limits → List ℕ → Reading → Type 0
+ReadSays L b r = Says (readingNumber r) (readingValues r) (readNumber L b) (readingValues (Sections (startsOf b)))
 
 -- a table whose bytes are readable: its version is 1 or 2, its records have their widths, and 39 and 4 to 8 do not apply
 pub record WellFormed (L : Limits) (t : Table) : Type 0 where

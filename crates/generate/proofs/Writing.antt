@@ -7,9 +7,9 @@ use native.Mathlib.Omega.{arith}
 use lib.ListN.{length, take, drop}
 use lib.Seq.{take-at}
 use lib.Dec.{leb}
-use borrow.Author.Tests.{le-leb, lt-leb, eq-eqb, ne-eqb}
+use borrow.Author.Tests.{le-leb, lt-leb}
 use Rattle.lists.specs.Lists.{over}
-use Rattle.lists.proofs.Refusals.{passes, fails, no-test}
+use Rattle.lists.proofs.Refusals.{passes, fails, no-test, refuses, not-refused}
 use Rattle.limits.specs.declared.Limits.{Limits}
 use Rattle.limits.specs.Limits.{limitsFit}
 use Rattle.limits.proofs.Within.{limits-within}
@@ -66,7 +66,7 @@ module _ (L : Limits) (g : Load) (out : List ℕ) where
 
   refused : {k : ℕ} → generateNumber L g out ≡ k → (k ≡ 0 → ⊥) → record { answer = Refused k; out = out } ≡ generateOf L g out
   unfolding generateOf
-  refused {k} e h = sym (rw (ne-eqb (generateNumber L g out) 0 (λ z. h (sym e ∙ z)), generateOf) (λ j. record { answer = Refused (e j); out = out }))
+  refused e h = refuses (generateNumber L g out) _ (λ k. record { answer = Refused k; out = out }) e h
 
   pub no-limits : limitsFit L ≡ false → record { answer = Refused 39; out = out } ≡ generateOf L g out
   unfolding generateNumber
@@ -84,7 +84,7 @@ module _ (L : Limits) (g : Load) (out : List ℕ) where
       last : (t s : Bool) → few ≡ t → leb (length (describedBytes g)) (length out) ≡ s → drawnFor g out ≡ generateOf L g out
       unfolding drawnFor writtenFor generateNumber generateOf
       last true true e f =
-          rw (e, f, drawnFor, writtenFor) (sym (rw (eq-eqb (generateNumber L g out) 0 (passes 39 _ l ∙ passes 35 _ z ∙ passes 36 _ e ∙ passes 21 _ f ∙ no-test), generateOf)))
+          rw (e, f, drawnFor, writtenFor) (not-refused (generateNumber L g out) _ _ (passes 39 _ l ∙ passes 35 _ z ∙ passes 36 _ e ∙ passes 21 _ f ∙ no-test))
       last true false e f =
           rw (e, f, drawnFor, writtenFor) (refused (passes 39 _ l ∙ passes 35 _ z ∙ passes 36 _ e ∙ fails 21 _ f) (λ z. omega (arith, z)))
       last false s e f =

@@ -2,8 +2,8 @@
 ghost use mathlib.Core.Path.{_≡_};
 ghost use Prim.Native.Nat.{_+_};
 ghost use Rattle.limits.specs.Limits.{standard};
-ghost use Rattle.loads.specs.Loads.{loadOf, sizesFit, generateOf};
-ghost use Rattle.loads.specs.Demands.{WritesReadable, WritesDescribed};
+ghost use Rattle.loads.specs.Loads.{loadOf, sizesFit, generateOf, GenerateSays};
+ghost use Rattle.loads.specs.Demands.{Promises};
 ghost use Rattle.generate.specs.Sections.{Counts, drawnFor};
 use limits::Limits;
 use quotients::Written;
@@ -96,8 +96,8 @@ pub fn generate_within(
     out: &mut [u8],
 ) -> Written
     ensures answers { λ r. ⌜ record { answer = r; out = now (out .exit) } ≡ generateOf limits (loadOf seed states internals calls returns density) (now (out .entry)) ⌝ }
-    ensures readable { λ r. ⌜ WritesReadable limits r (now (out .exit)) ⌝ }
-    ensures described { λ r. ⌜ WritesDescribed (loadOf seed states internals calls returns density) r (now (out .exit)) ⌝ }
+    ensures number { λ r. ⌜ GenerateSays limits (loadOf seed states internals calls returns density) (now (out .entry)) r ⌝ }
+    ensures promises { λ r. ⌜ Promises limits (loadOf seed states internals calls returns density) r (now (out .exit)) ⌝ }
 {
     if !limits::limits_fit(limits) {
         return Written::Refused(39);
@@ -119,8 +119,8 @@ pub fn generate(
     out: &mut [u8],
 ) -> Written
     ensures answers { λ r. ⌜ record { answer = r; out = now (out .exit) } ≡ generateOf standard (loadOf seed states internals calls returns density) (now (out .entry)) ⌝ }
-    ensures readable { λ r. ⌜ WritesReadable standard r (now (out .exit)) ⌝ }
-    ensures described { λ r. ⌜ WritesDescribed (loadOf seed states internals calls returns density) r (now (out .exit)) ⌝ }
+    ensures number { λ r. ⌜ GenerateSays standard (loadOf seed states internals calls returns density) (now (out .entry)) r ⌝ }
+    ensures promises { λ r. ⌜ Promises standard (loadOf seed states internals calls returns density) r (now (out .exit)) ⌝ }
 {
     generate_within(
         limits::standard(),

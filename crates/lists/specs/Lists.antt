@@ -1,4 +1,5 @@
 -- Walks over lists that the definitions of the other crates are written with, and how a call is refused. Assumes nothing.
+use mathlib.Core.Path.{_≡_}
 use mathlib.Core.Bool.{Bool, true, false, _&&_, _||_}
 use mathlib.Core.List.{List, [], _∷_, _++_}
 use Prim.Native.Nat.{ℕ, zero, suc, _+_, _<_}
@@ -69,3 +70,12 @@ over xs buffer = xs ++ drop (length xs) buffer
 unfoldable pub firstFailed : List (ℕ × Bool) → ℕ
 firstFailed [] = 0
 firstFailed (t ∷ ts) = elim (t .1) [ true ↦ firstFailed ts | false ↦ t .0 ]
+
+-- the number that an earlier operation gives, as the first of the tests behind it: 0 passes, any other is given
+abbrev pub stage : ℕ → ℕ × Bool
+stage k = (k, eqb k 0)
+
+-- what an answer says by its number and its values: the number is k; the values are those listed where k is 0, and none with a refusal
+pub record Says (number : ℕ) (values : List ℕ) (k : ℕ) (listed : List ℕ) : Type 0 where
+  pub numbered : number ≡ k
+  pub valued : values ≡ (elim (eqb k 0) [ true ↦ listed | false ↦ [] ])

@@ -17,3 +17,8 @@ WritesReadable L r out = OnWriting r (λ n. Readable L (take n out))
 -- the table that the file holds is the one described
 abbrev pub WritesDescribed : Load → Written → List ℕ → Type 0
 WritesDescribed g r out = OnWriting r (λ n. tableOf (take n out) ≡ described g)
+
+-- all of it, of one load
+pub record Promises (L : Limits) (g : Load) (r : Written) (out : List ℕ) : Type 0 where
+  pub readable : WritesReadable L r out
+  pub described : WritesDescribed g r out

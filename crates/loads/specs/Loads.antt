@@ -4,12 +4,13 @@ use mathlib.Core.List.{List, [], _∷_, map}
 use Prim.Native.Nat.{ℕ, _+_, _-_, _*_, _/_, _%_, _^_}
 use lib.ListN.{length, replicate}
 use lib.Dec.{eqb, ltb, leb}
-use Rattle.lists.specs.Lists.{gather, upto, over, firstFailed}
+use Rattle.lists.specs.Lists.{gather, upto, over, firstFailed, Says}
 use Rattle.limits.specs.declared.Limits.{Limits}
 use Rattle.limits.specs.Limits.{limitsFit}
 use Rattle.format.specs.Limits.{moveLimit, returnLimit}
 use Rattle.format.specs.File.{Table, bytesOf}
-use Rattle.quotients.specs.Quotient.{bitOf, QuotientDone}
+use Rattle.quotients.specs.Quotient.{bitOf, QuotientDone, writtenNumber, writtenValues}
+use Rattle.quotients.specs.declared.Written.{Written}
 use Rattle.quotients.specs.declared.Written.the-variants.{Length, Refused}
 
 -- "a seed of 32 bits"; "Given are the state count, the counts of internal, call and return symbols .. and a density"
@@ -123,3 +124,7 @@ generateOf L g out = elim (eqb (generateNumber L g out) 0) [
   | true ↦ record { answer = Length (length (describedBytes g)); out = over (describedBytes g) out }
   | false ↦ record { answer = Refused (generateNumber L g out); out = out }
 ]
+
+-- the answer by its number and its values
+abbrev pub GenerateSays : Limits → Load → List ℕ → Written → Type 0
+GenerateSays L g out r = Says (writtenNumber r) (writtenValues r) (generateNumber L g out) (length (describedBytes g) ∷ [])

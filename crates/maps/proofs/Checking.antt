@@ -6,9 +6,9 @@ use Prim.Native.Nat.{ℕ, _≤_}
 use native.Mathlib.Omega.{arith}
 use lib.ListN.{length}
 use lib.Dec.{eqb}
-use borrow.Author.Tests.{eqb-true, eq-eqb, ne-eqb}
+use borrow.Author.Tests.{eq-eqb, ne-eqb}
 use Rattle.lists.specs.Lists.{firstFailed}
-use Rattle.lists.proofs.Refusals.{passes, fails, no-test}
+use Rattle.lists.proofs.Refusals.{passes, fails, no-test, stage-fails, by-number}
 use Rattle.limits.specs.declared.Limits.{Limits}
 use Rattle.format.specs.File.{records, tableOf}
 use Rattle.format.specs.Reading.{readNumber, Readable, ascend}
@@ -107,11 +107,7 @@ module _ (L : Limits) (b : List ℕ) where
   module _ {x : Examined} (e : x ≡ examinedOf L b) where
     pub examined-number : x .number ≡ readNumber L b
     unfolding examinedOf
-    examined-number = ap (λ (y : Examined). y .number) e ∙ go (eqb (readNumber L b) 0) refl
-      where
-        go : (t : Bool) → eqb (readNumber L b) 0 ≡ t → examinedOf L b .number ≡ readNumber L b
-        go true p = rw (p, examinedOf) (sym (eqb-true _ _ p))
-        go false p = rw (p, examinedOf)
+    examined-number = ap (λ (y : Examined). y .number) e ∙ by-number (readNumber L b) _ _ (λ (y : Examined). y .number ≡ readNumber L b) sym (λ n. refl)
 
     pub read-readable : x .number ≡ 0 → Readable L b
     read-readable n = sym examined-number ∙ n
@@ -123,4 +119,4 @@ module _ (L : Limits) (b m : List ℕ) where
   -- the check's number of a table that is not readable
   pub unread : {x : Examined} → x ≡ examinedOf L b → (x .number ≡ 0 → ⊥) → checkNumber L b m ≡ x .number
   unfolding checkNumber
-  unread e n = let p = examined-number L b e in rw (ne-eqb (readNumber L b) 0 (λ q. n (p ∙ q)), checkNumber) (sym p)
+  unread e n = stage-fails _ _ (sym (examined-number L b e)) n

@@ -8,7 +8,7 @@ use lib.Dec.{eqb, ltb}
 use Rattle.lists.specs.Lists.{all, upto}
 use Rattle.limits.specs.declared.Limits.{Limits}
 use Rattle.format.specs.File.{Table, records, tableOf}
-use Rattle.format.specs.Reading.{ascend}
+use Rattle.format.specs.Reading.{Readable, ascend}
 use Rattle.format.specs.Language.{look}
 use Rattle.format.specs.Maps.{joins, numbered}
 use Rattle.format.specs.declared.Starts.{Starts}
@@ -54,6 +54,10 @@ pub record Lent (w : ℕ) (section : List ℕ) (n : ℕ) : Type 0 where
   pub few : n ≤ 256
 
 -- ---- a table that was read, by its parts
+
+-- P at all limits that the bytes are readable at
+abbrev pub WhereReadable : List ℕ → (Limits → Type 0) → Type 0
+WhereReadable b P = (L : Limits) → Readable L b → P L
 
 -- "the lent bytes together with its five section starts", at whatever limits they were read, and the table's top words
 pub record Known (b : List ℕ) (s : Starts) (f : List ℕ) : Type 0 where

@@ -3,7 +3,7 @@ ghost use mathlib.Core.Path.{_≡_};
 ghost use Rattle.lists.specs.Lists.{firstFailed};
 ghost use Rattle.limits.specs.Limits.{standard};
 ghost use Rattle.format.specs.File.{tableOf};
-ghost use Rattle.relations.specs.Check.{mapTests, checkOf};
+ghost use Rattle.relations.specs.Check.{mapTests, checkOf, CheckSays};
 ghost use Rattle.relations.specs.Accepting.{AcceptsExactly};
 ghost use Rattle.maps.specs.Sections.{Known, Parted, partTests};
 use limits::Limits;
@@ -72,6 +72,7 @@ pub fn map_number(table: &[u8], starts: Starts, words: &[u64], map: &[u8]) -> u8
 // Checks a map of a table that is read at limits: the class count, or the first refusal that applies.
 pub fn check_within(limits: Limits, table: &[u8], map: &[u8]) -> Checked
     ensures answers { λ r. ⌜ r ≡ checkOf limits (now (table .entry)) (now (map .entry)) ⌝ }
+    ensures number { λ r. ⌜ CheckSays limits (now (table .entry)) (now (map .entry)) r ⌝ }
     ensures exact { λ r. ⌜ AcceptsExactly limits (now (table .entry)) (now (map .entry)) r ⌝ }
 {
     let examined = tops::examine(limits, table);
@@ -90,6 +91,7 @@ pub fn check_within(limits: Limits, table: &[u8], map: &[u8]) -> Checked
 // Checks a map, at the limits of a caller that gives none.
 pub fn check(table: &[u8], map: &[u8]) -> Checked
     ensures answers { λ r. ⌜ r ≡ checkOf standard (now (table .entry)) (now (map .entry)) ⌝ }
+    ensures number { λ r. ⌜ CheckSays standard (now (table .entry)) (now (map .entry)) r ⌝ }
     ensures exact { λ r. ⌜ AcceptsExactly standard (now (table .entry)) (now (map .entry)) r ⌝ }
 {
     check_within(limits::standard(), table, map)

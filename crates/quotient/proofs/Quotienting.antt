@@ -7,11 +7,12 @@ use Prim.Native.Nat.{ℕ, zero, suc, _+_, _*_, _/_, _<_, _≤_}
 use native.Mathlib.Omega.{arith}
 use lib.ListN.{length, take, drop, length-map}
 use lib.Seq.{getD-drop, take-at}
-use lib.Dec.{eqb, leb}
-use borrow.Author.Tests.{le-leb, lt-leb, eq-eqb, ne-eqb}
+use lib.Dec.{leb}
+use borrow.Author.Tests.{le-leb, lt-leb}
 use Rattle.lists.specs.Lists.{keep, upto, parts, over}
 use Rattle.lists.proofs.Members.{keep-mem}
 use Rattle.lists.proofs.Counts.{keep-le, keep-every}
+use Rattle.lists.proofs.Refusals.{passes, fails, no-test, stage-passes, stage-fails, refuses, not-refused}
 use Rattle.limits.specs.declared.Limits.{Limits}
 use Rattle.limits.specs.Limits.{symbolMost}
 use Rattle.limits.proofs.Within.{limits-within}
@@ -28,14 +29,11 @@ use Rattle.reach.specs.Tops.{live, liveReturns}
 use Rattle.relations.specs.Check.{checkNumber}
 use Rattle.maps.specs.Sections.{ofStates, kept, Known}
 use Rattle.maps.proofs.Matched.{move-kept, return-kept}
-use Rattle.quotients.specs.Quotient.{image, images, memberHas, classMark, classByte, quotientTable, quotientBytes, quotientNumber, QuotientDone, quotientOf}
-use Rattle.quotients.specs.Demands.{WritesQuotient, WritesSameWords, WritesSameMarks, WritesNoneOpen, WritesSteps, WritesSameScripts}
+use Rattle.quotients.specs.Quotient.{image, images, memberHas, classMark, classByte, quotientTable, quotientBytes, quotientNumber, quotientOf}
 use Rattle.table.specs.Keys.{key}
 use Rattle.table.proofs.Keys.{part-bytes}
-use Rattle.quotients.specs.declared.Written.{Written}
 use Rattle.quotients.specs.declared.Written.the-variants.{Length, Refused}
 use Rattle.quotients.proofs.Image.{images-mem, images-length, image-length}
-use Rattle.quotients.proofs.Theorems.{writes-quotient, writes-same-words, writes-same-marks, writes-none-open, writes-steps, writes-same-scripts}
 use Rattle.writing.specs.Keys.{lastBytes, Holds}
 use Rattle.writing.specs.Tables.{keyedTable, writtenFor}
 use Rattle.writing.proofs.Keys.{Same, keys-back}
@@ -216,45 +214,12 @@ module _ {b f : List ℕ} {s : Starts} (k : Known b s f) {symbols states interna
 module _ (L : Limits) (b m out : List ℕ) where
   pub quotient-refused : {k : ℕ} → checkNumber L b m ≡ k → (k ≡ 0 → ⊥) → record { answer = Refused k; out = out } ≡ quotientOf L b m out
   unfolding quotientOf quotientNumber
-  quotient-refused {k} e n =
-      let c : eqb (checkNumber L b m) 0 ≡ false = ne-eqb (checkNumber L b m) 0 (λ q. n (sym e ∙ q)) in
-      let p : quotientNumber L b m out ≡ k = rw (c, quotientNumber) e in
-      sym (rw (ne-eqb (quotientNumber L b m out) 0 (λ q. n (sym p ∙ q)), quotientOf) (λ j. record { answer = Refused (p j); out = out }))
+  quotient-refused e n = refuses (quotientNumber L b m out) _ (λ k. record { answer = Refused k; out = out }) (stage-fails _ _ e n) n
 
   pub quotient-written : checkNumber L b m ≡ 0 → writtenFor (quotientBytes b m) out ≡ quotientOf L b m out
   unfolding quotientOf quotientNumber writtenFor
   quotient-written e = go (leb (length (quotientBytes b m)) (length out)) refl
     where
       go : (t : Bool) → leb (length (quotientBytes b m)) (length out) ≡ t → writtenFor (quotientBytes b m) out ≡ quotientOf L b m out
-      go true p =
-          let n : quotientNumber L b m out ≡ 0 = rw (eq-eqb _ _ e, quotientNumber) (rw p) in
-          rw (p, writtenFor) (sym (rw (eq-eqb (quotientNumber L b m out) 0 n, quotientOf)))
-      go false p =
-          let n : quotientNumber L b m out ≡ 21 = rw (eq-eqb _ _ e, quotientNumber) (rw p) in
-          rw (p, writtenFor) (sym (rw (ne-eqb (quotientNumber L b m out) 0 (λ q. omega (arith, n, q)), quotientOf) (λ j. record { answer = Refused (n j); out = out })))
-
-  -- demands 2 and 3, requests (iv), (xii), (v) and (i)
-  pub quotiented : {r : Written} {now : List ℕ} → record { answer = r; out = now } ≡ quotientOf L b m out
-      → (record { answer = r; out = now } ≡ quotientOf L b m out) × (WritesQuotient L r b m now × (WritesSameWords r b now × (WritesNoneOpen r b now × (WritesSteps r b m now × (WritesSameMarks r b now × WritesSameScripts L r b now)))))
-  quotiented {r} {now} e = (e, (exact, (words, (none-open, (steps, (marks, same))))))
-    where
-      answered : (P : Written → List ℕ → Type 0) → P (quotientOf L b m out .answer) (quotientOf L b m out .out) → P r now
-      answered P = subst (λ (d : QuotientDone). P (d .answer) (d .out)) (sym e)
-
-      exact : WritesQuotient L r b m now
-      exact = answered (λ r now. WritesQuotient L r b m now) (writes-quotient L b m out)
-
-      words : WritesSameWords r b now
-      words = answered (λ r now. WritesSameWords r b now) (writes-same-words L b m out)
-
-      none-open : WritesNoneOpen r b now
-      none-open = answered (λ r now. WritesNoneOpen r b now) (writes-none-open L b m out)
-
-      steps : WritesSteps r b m now
-      steps = answered (λ r now. WritesSteps r b m now) (writes-steps L b m out)
-
-      marks : WritesSameMarks r b now
-      marks = answered (λ r now. WritesSameMarks r b now) (writes-same-marks L b m out)
-
-      same : WritesSameScripts L r b now
-      same = answered (λ r now. WritesSameScripts L r b now) (writes-same-scripts L b m out)
+      go true p = rw (p, writtenFor) (not-refused (quotientNumber L b m out) _ _ (stage-passes _ _ e ∙ passes 21 _ p ∙ no-test))
+      go false p = rw (p, writtenFor) (refuses (quotientNumber L b m out) _ (λ k. record { answer = Refused k; out = out }) (stage-passes _ _ e ∙ fails 21 _ p) (λ z. omega (arith, z)))

@@ -1,12 +1,10 @@
 // Writing the quotient of a table under a map.
 ghost use mathlib.Core.Path.{_≡_};
 ghost use Rattle.limits.specs.Limits.{standard};
-ghost use Rattle.limits.specs.declared.Limits.{Limits};
 ghost use Rattle.format.specs.File.{bytesOf};
-ghost use Rattle.format.specs.Reading.{Readable};
-ghost use Rattle.maps.specs.Sections.{Known};
-ghost use Rattle.quotients.specs.Quotient.{quotientBytes, quotientOf};
-ghost use Rattle.quotients.specs.Demands.{WritesQuotient, WritesSameWords, WritesSameMarks, WritesNoneOpen, WritesSteps, WritesSameScripts};
+ghost use Rattle.maps.specs.Sections.{Known, WhereReadable};
+ghost use Rattle.quotients.specs.Quotient.{quotientBytes, quotientOf, QuotientSays};
+ghost use Rattle.quotients.specs.Demands.{Promises};
 ghost use Rattle.writing.specs.Tables.{writtenFor};
 ghost use Rattle.quotient.specs.Sections.{Sized, partedQuotient};
 
@@ -93,7 +91,7 @@ pub fn quotient_known(
     out: &mut [u8],
 ) -> Written
     requires { ⌜ Known (now table) starts (now words) ⌝ }
-    ensures { λ r. ⌜ ((L : Limits) → Readable L (now (table .entry)) → record { answer = r; out = now (out .exit) } ≡ quotientOf L (now (table .entry)) (now (map .entry)) (now (out .entry))) ⌝ }
+    ensures { λ r. ⌜ WhereReadable (now (table .entry)) (λ L. record { answer = r; out = now (out .exit) } ≡ quotientOf L (now (table .entry)) (now (map .entry)) (now (out .entry))) ⌝ }
 {
     let number = maps::map_number(table, starts, words, map);
     if number != 0 {
@@ -105,12 +103,8 @@ pub fn quotient_known(
 // Writes the quotient of a table that is read at limits under a map: its length, or the first refusal that applies, the output then unchanged.
 pub fn quotient_within(limits: Limits, table: &[u8], map: &[u8], out: &mut [u8]) -> Written
     ensures answers { λ r. ⌜ record { answer = r; out = now (out .exit) } ≡ quotientOf limits (now (table .entry)) (now (map .entry)) (now (out .entry)) ⌝ }
-    ensures exact { λ r. ⌜ WritesQuotient limits r (now (table .entry)) (now (map .entry)) (now (out .exit)) ⌝ }
-    ensures words { λ r. ⌜ WritesSameWords r (now (table .entry)) (now (out .exit)) ⌝ }
-    ensures open { λ r. ⌜ WritesNoneOpen r (now (table .entry)) (now (out .exit)) ⌝ }
-    ensures steps { λ r. ⌜ WritesSteps r (now (table .entry)) (now (map .entry)) (now (out .exit)) ⌝ }
-    ensures marks { λ r. ⌜ WritesSameMarks r (now (table .entry)) (now (out .exit)) ⌝ }
-    ensures same { λ r. ⌜ WritesSameScripts limits r (now (table .entry)) (now (out .exit)) ⌝ }
+    ensures number { λ r. ⌜ QuotientSays limits (now (table .entry)) (now (map .entry)) (now (out .entry)) r ⌝ }
+    ensures promises { λ r. ⌜ Promises limits (now (table .entry)) (now (map .entry)) r (now (out .exit)) ⌝ }
 {
     let examined = tops::examine(limits, table);
     if examined.number != 0 {
@@ -124,12 +118,8 @@ pub fn quotient_within(limits: Limits, table: &[u8], map: &[u8], out: &mut [u8])
 // Writes the quotient, at the limits of a caller that gives none.
 pub fn quotient(table: &[u8], map: &[u8], out: &mut [u8]) -> Written
     ensures answers { λ r. ⌜ record { answer = r; out = now (out .exit) } ≡ quotientOf standard (now (table .entry)) (now (map .entry)) (now (out .entry)) ⌝ }
-    ensures exact { λ r. ⌜ WritesQuotient standard r (now (table .entry)) (now (map .entry)) (now (out .exit)) ⌝ }
-    ensures words { λ r. ⌜ WritesSameWords r (now (table .entry)) (now (out .exit)) ⌝ }
-    ensures open { λ r. ⌜ WritesNoneOpen r (now (table .entry)) (now (out .exit)) ⌝ }
-    ensures steps { λ r. ⌜ WritesSteps r (now (table .entry)) (now (map .entry)) (now (out .exit)) ⌝ }
-    ensures marks { λ r. ⌜ WritesSameMarks r (now (table .entry)) (now (out .exit)) ⌝ }
-    ensures same { λ r. ⌜ WritesSameScripts standard r (now (table .entry)) (now (out .exit)) ⌝ }
+    ensures number { λ r. ⌜ QuotientSays standard (now (table .entry)) (now (map .entry)) (now (out .entry)) r ⌝ }
+    ensures promises { λ r. ⌜ Promises standard (now (table .entry)) (now (map .entry)) r (now (out .exit)) ⌝ }
 {
     quotient_within(limits::standard(), table, map, out)
 }

@@ -4,4 +4,5 @@ pub mod Classes
 pub mod States
 pub mod Automaton
 pub mod Table
+pub mod Writing
 pub mod Theorems

@@ -1,14 +1,10 @@
 -- Demands 2 and 3 of the quotient, from the lent bytes to the written ones. Assumes nothing.
-use mathlib.Core.Path.{_≡_, refl, sym, ap, _∙_, subst}
+use mathlib.Core.Path.{_≡_, sym, ap, _∙_, subst}
 use mathlib.Core.Logic.{_↔_}
-use mathlib.Core.Bool.{Bool, true, false}
-use mathlib.Core.List.{List, _++_}
+use mathlib.Core.List.{List}
 use Prim.Native.Nat.{ℕ}
-use lib.ListN.{length, take, drop}
-use lib.Seq.{take-append-seam}
-use lib.Dec.{eqb, leb}
-use borrow.Author.Tests.{eqb-true}
-use Rattle.lists.specs.Lists.{over}
+use lib.ListN.{take}
+use Rattle.lists.proofs.Refusals.{stage-passed}
 use Rattle.vpa.specs.Automata.{Lawful, Accepts, EndsIn}
 use Rattle.vpa.specs.Quotients.{quotient}
 use Rattle.vpa.proofs.Correspondence.{quotient-words, quotient-marks, every-step}
@@ -28,12 +24,13 @@ use Rattle.relations.specs.Check.{checkNumber}
 use Rattle.relations.proofs.Accepted.{Accepted, accepted}
 use Rattle.scripts.specs.Demands.{SameScripts}
 use Rattle.scripts.proofs.Promises.{scripts-same}
-use Rattle.quotients.specs.Quotient.{quotientTable, quotientBytes, quotientNumber, QuotientDone, quotientOf}
-use Rattle.quotients.specs.Demands.{IsQuotient, ShowsSteps, OnWriting, WritesQuotient, WritesSameWords, WritesSameMarks, WritesNoneOpen, WritesSteps, WritesSameScripts}
-use Rattle.quotients.specs.declared.Written.the-variants.{Length, Refused}
+use Rattle.quotients.specs.Quotient.{quotientTable, quotientBytes, quotientNumber, QuotientDone, quotientOf, QuotientSays}
+use Rattle.quotients.specs.Demands.{IsQuotient, ShowsSteps, OnWriting, Promises}
+use Rattle.quotients.specs.declared.Written.{Written}
 use Rattle.quotients.proofs.States.{count-classes}
 use Rattle.quotients.proofs.Automaton.{quotient-initial, quotient-accepting, quotient-mark, quotient-internal, quotient-call, quotient-return}
 use Rattle.quotients.proofs.Table.{quotient-well-formed}
+use Rattle.quotients.proofs.Writing.{on-writing, says-length}
 
 -- the automaton of the quotient's table is the quotient of the automaton
 pub table-same : (L : Limits) (t : Table) → WellFormed L t → (m : List ℕ) → Proper t m → RaqMap t m → Same (automaton (quotientTable t m)) (quotient (automaton t) (classOf m))
@@ -128,41 +125,28 @@ module _ (L : Limits) (b m : List ℕ) where
 
   pub number-checked : (out : List ℕ) → quotientNumber L b m out ≡ 0 → checkNumber L b m ≡ 0
   unfolding quotientNumber
-  number-checked out e = go (eqb (checkNumber L b m) 0) refl e
-    where
-      go : (t : Bool) → eqb (checkNumber L b m) 0 ≡ t → _≡_ {A = ℕ} (elim t [ true ↦ elim (leb (length (quotientBytes b m)) (length out)) [ true ↦ 0 | false ↦ 21 ] | false ↦ checkNumber L b m ]) 0 → checkNumber L b m ≡ 0
-      go true f g = eqb-true _ _ f
-      go false f g = g
+  number-checked out e = stage-passed _ _ e .0
 
   -- what holds of the quotient's bytes wherever the check accepts holds of what is written
-  on-writing : (P : List ℕ → Type 0) → (checkNumber L b m ≡ 0 → P (quotientBytes b m)) → (out : List ℕ) → OnWriting (quotientOf L b m out .answer) (λ n. P (take n (quotientOf L b m out .out)))
-  unfolding quotientOf over
-  on-writing P h out = go (eqb (quotientNumber L b m out) 0) (λ e. number-checked out (eqb-true _ _ e))
-    where
-      done : Bool → QuotientDone
-      done t = elim t [
-        | true ↦ record { answer = Length (length (quotientBytes b m)); out = quotientBytes b m ++ drop (length (quotientBytes b m)) out }
-        | false ↦ record { answer = Refused (quotientNumber L b m out); out = out }
-      ]
+  writes : (P : List ℕ → Type 0) → (checkNumber L b m ≡ 0 → P (quotientBytes b m)) → (out : List ℕ) → OnWriting (quotientOf L b m out .answer) (λ n. P (take n (quotientOf L b m out .out)))
+  unfolding quotientOf
+  writes P h out = on-writing (quotientNumber L b m out) (quotientBytes b m) out P (λ z. h (number-checked out z))
 
-      go : (t : Bool) → (t ≡ true → checkNumber L b m ≡ 0) → OnWriting (done t .answer) (λ n. P (take n (done t .out)))
-      go true e = subst P (sym (take-append-seam (quotientBytes b m) (drop (length (quotientBytes b m)) out))) (h (e refl))
-      go false e = tt
+  pub promises : (out : List ℕ) → Promises L b m (quotientOf L b m out .answer) (quotientOf L b m out .out)
+  promises out = record {
+    exact = writes (IsQuotient L b m) is-quotient out;
+    words = writes (SameWords b) keeps-words out;
+    none-open = writes (OpenByNeither b) open-neither out;
+    steps = writes (ShowsSteps b m) keeps-steps out;
+    marks = writes (SameMarks b) keeps-marks out;
+    same = writes (SameScripts L b) keeps-scripts out;
+  }
 
-  pub writes-quotient : (out : List ℕ) → WritesQuotient L (quotientOf L b m out .answer) b m (quotientOf L b m out .out)
-  writes-quotient = on-writing (IsQuotient L b m) is-quotient
+  numbered : (out : List ℕ) → QuotientSays L b m out (quotientOf L b m out .answer)
+  unfolding quotientOf
+  numbered out = says-length (quotientNumber L b m out) (quotientBytes b m) out
 
-  pub writes-same-words : (out : List ℕ) → WritesSameWords (quotientOf L b m out .answer) b (quotientOf L b m out .out)
-  writes-same-words = on-writing (SameWords b) keeps-words
-
-  pub writes-same-marks : (out : List ℕ) → WritesSameMarks (quotientOf L b m out .answer) b (quotientOf L b m out .out)
-  writes-same-marks = on-writing (SameMarks b) keeps-marks
-
-  pub writes-none-open : (out : List ℕ) → WritesNoneOpen (quotientOf L b m out .answer) b (quotientOf L b m out .out)
-  writes-none-open = on-writing (OpenByNeither b) open-neither
-
-  pub writes-steps : (out : List ℕ) → WritesSteps (quotientOf L b m out .answer) b m (quotientOf L b m out .out)
-  writes-steps = on-writing (ShowsSteps b m) keeps-steps
-
-  pub writes-same-scripts : (out : List ℕ) → WritesSameScripts L (quotientOf L b m out .answer) b (quotientOf L b m out .out)
-  writes-same-scripts = on-writing (SameScripts L b) keeps-scripts
+  -- the contract, from its equation
+  pub promised : (out : List ℕ) {r : Written} {now : List ℕ} → record { answer = r; out = now } ≡ quotientOf L b m out
+      → (record { answer = r; out = now } ≡ quotientOf L b m out) × (QuotientSays L b m out r × Promises L b m r now)
+  promised out e = (e, subst (λ (d : QuotientDone). QuotientSays L b m out (d .answer) × Promises L b m (d .answer) (d .out)) (sym e) (numbered out, promises out))

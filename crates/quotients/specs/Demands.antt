@@ -60,3 +60,12 @@ WritesSteps r b m out = OnWriting r (λ n. ShowsSteps b m (take n out))
 -- request (i): "Tables and reduced tables must give one answer to every script read", at the limits in force
 abbrev pub WritesSameScripts : Limits → Written → List ℕ → List ℕ → Type 0
 WritesSameScripts L r b out = OnWriting r (λ n. SameScripts L b (take n out))
+
+-- all of it, of one quotient
+pub record Promises (L : Limits) (b m : List ℕ) (r : Written) (out : List ℕ) : Type 0 where
+  pub exact : WritesQuotient L r b m out
+  pub words : WritesSameWords r b out
+  pub none-open : WritesNoneOpen r b out
+  pub steps : WritesSteps r b m out
+  pub marks : WritesSameMarks r b out
+  pub same : WritesSameScripts L r b out

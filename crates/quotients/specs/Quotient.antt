@@ -4,7 +4,7 @@ use mathlib.Core.List.{List, [], _∷_, map}
 use Prim.Native.Nat.{ℕ, _+_, _*_}
 use lib.ListN.{length, getD}
 use lib.Dec.{eqb, leb}
-use Rattle.lists.specs.Lists.{any, upto, over}
+use Rattle.lists.specs.Lists.{any, upto, over, firstFailed, stage, Says}
 use Rattle.limits.specs.declared.Limits.{Limits}
 use Rattle.format.specs.File.{Table, tableOf, bytesOf}
 use Rattle.format.specs.Reading.{before, isInitial, isAccepting}
@@ -72,10 +72,7 @@ quotientBytes b m = bytesOf (quotientTable (tableOf b) m)
 
 -- "those of the check; 21 output short"; or 0
 unfoldable pub quotientNumber : Limits → List ℕ → List ℕ → List ℕ → ℕ
-quotientNumber L b m out = elim (eqb (checkNumber L b m) 0) [
-  | true ↦ elim (leb (length (quotientBytes b m)) (length out)) [ true ↦ 0 | false ↦ 21 ]
-  | false ↦ checkNumber L b m
-]
+quotientNumber L b m out = firstFailed (stage (checkNumber L b m) ∷ (21, leb (length (quotientBytes b m)) (length out)) ∷ [])
 
 -- the answer, and the output at exit
 pub record QuotientDone : Type 0 where
@@ -97,3 +94,7 @@ writtenNumber (Refused k) = k
 unfoldable pub writtenValues : Written → List ℕ
 writtenValues (Length n) = n ∷ []
 writtenValues (Refused k) = []
+
+-- the answer by its number and its values
+abbrev pub QuotientSays : Limits → List ℕ → List ℕ → List ℕ → Written → Type 0
+QuotientSays L b m out r = Says (writtenNumber r) (writtenValues r) (quotientNumber L b m out) (length (quotientBytes b m) ∷ [])

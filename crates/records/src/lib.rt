@@ -4,13 +4,11 @@ ghost use Prim.Native.Nat.{_+_, _/_, _≤_};
 ghost use lib.ListN.{length};
 ghost use Rattle.lists.specs.Lists.{over, firstFailed};
 ghost use Rattle.limits.specs.Limits.{standard};
-ghost use Rattle.limits.specs.declared.Limits.{Limits};
 ghost use Rattle.format.specs.File.{tableOf};
-ghost use Rattle.format.specs.Reading.{Readable};
 ghost use Rattle.relations.specs.Check.{mapTests};
-ghost use Rattle.maps.specs.Sections.{Known};
-ghost use Rattle.fates.specs.Fates.{fatesOf, recordsOf};
-ghost use Rattle.fates.specs.Demands.{AddUp, KeptAreQuotients, AllAreInputs};
+ghost use Rattle.maps.specs.Sections.{Known, WhereReadable};
+ghost use Rattle.fates.specs.Fates.{fatesOf, recordsOf, RecordsSays};
+ghost use Rattle.fates.specs.Demands.{Promises};
 ghost use Rattle.records.specs.Marks.{FittingParts, partedFates, toldFor};
 
 mod marks;
@@ -97,7 +95,7 @@ fn records_known(
     out: &mut [u8],
 ) -> Recorded
     requires { ⌜ Known (now table) starts (now words) ⌝ }
-    ensures { λ r. ⌜ ((L : Limits) → Readable L (now (table .entry)) → record { answer = r; out = now (out .exit) } ≡ recordsOf L (now (table .entry)) (now (map .entry)) (now (out .entry))) ⌝ }
+    ensures { λ r. ⌜ WhereReadable (now (table .entry)) (λ L. record { answer = r; out = now (out .exit) } ≡ recordsOf L (now (table .entry)) (now (map .entry)) (now (out .entry))) ⌝ }
 {
     let number = maps::map_number(table, starts, words, map);
     if number != 0 {
@@ -110,9 +108,8 @@ fn records_known(
 // for each in the output; or the first refusal that applies, the output then unchanged.
 pub fn records_within(limits: Limits, table: &[u8], map: &[u8], out: &mut [u8]) -> Recorded
     ensures answers { λ r. ⌜ record { answer = r; out = now (out .exit) } ≡ recordsOf limits (now (table .entry)) (now (map .entry)) (now (out .entry)) ⌝ }
-    ensures counts { λ r. ⌜ AddUp r ⌝ }
-    ensures kept { λ r. ⌜ KeptAreQuotients (now (table .entry)) (now (map .entry)) r ⌝ }
-    ensures all { λ r. ⌜ AllAreInputs (now (table .entry)) r ⌝ }
+    ensures number { λ r. ⌜ RecordsSays limits (now (table .entry)) (now (map .entry)) (now (out .entry)) r ⌝ }
+    ensures promises { λ r. ⌜ Promises (now (table .entry)) (now (map .entry)) r ⌝ }
 {
     let examined = tops::examine(limits, table);
     if examined.number != 0 {
@@ -126,9 +123,8 @@ pub fn records_within(limits: Limits, table: &[u8], map: &[u8], out: &mut [u8]) 
 // The same at the limits of a caller that gives none.
 pub fn records(table: &[u8], map: &[u8], out: &mut [u8]) -> Recorded
     ensures answers { λ r. ⌜ record { answer = r; out = now (out .exit) } ≡ recordsOf standard (now (table .entry)) (now (map .entry)) (now (out .entry)) ⌝ }
-    ensures counts { λ r. ⌜ AddUp r ⌝ }
-    ensures kept { λ r. ⌜ KeptAreQuotients (now (table .entry)) (now (map .entry)) r ⌝ }
-    ensures all { λ r. ⌜ AllAreInputs (now (table .entry)) r ⌝ }
+    ensures number { λ r. ⌜ RecordsSays standard (now (table .entry)) (now (map .entry)) (now (out .entry)) r ⌝ }
+    ensures promises { λ r. ⌜ Promises (now (table .entry)) (now (map .entry)) r ⌝ }
 {
     records_within(limits::standard(), table, map, out)
 }

@@ -7,10 +7,11 @@ use Prim.Native.Nat.{ℕ, _≤_, _<_}
 use native.Mathlib.Omega.{arith}
 use lib.ListN.{length, take, drop, replicate, length-append, length-replicate}
 use lib.Seq.{length-take-le, take-at}
-use lib.Dec.{eqb, leb}
-use borrow.Author.Tests.{eq-eqb, ne-eqb, le-leb, lt-leb, leb-true, leb-false}
+use lib.Dec.{leb}
+use borrow.Author.Tests.{le-leb, lt-leb, leb-true, leb-false}
 use Rattle.lists.specs.Lists.{over}
 use Rattle.lists.proofs.Copying.{copied}
+use Rattle.lists.proofs.Refusals.{passes, fails, no-test, stage-passes, stage-fails, refuses, not-refused, by-number}
 use Rattle.cnf.specs.Clauses.{wordsOf, clausesIn, Model}
 use Rattle.cnf.specs.Trials.{notFalse, Tried, searchTried}
 use Rattle.cnf.specs.Closing.{Formed}
@@ -71,11 +72,9 @@ module _ (L : Limits) (b list map out m : List ℕ) (g u : ℕ) (z : Bool) where
 
   on-written : onWritten (quotientOf L b m out .answer) (quotientOf L b m out .out) ≡ deliver L b list map out m g u z
   unfolding onWritten quotientOf deliver
-  on-written = go (eqb (quotientNumber L b m out) 0) refl
-    where
-      go : (t : Bool) → eqb (quotientNumber L b m out) 0 ≡ t → onWritten (quotientOf L b m out .answer) (quotientOf L b m out .out) ≡ deliver L b list map out m g u z
-      go true e = rw (e, quotientOf, deliver) refl
-      go false e = rw (e, quotientOf, deliver) refl
+  on-written =
+      let refusal : ℕ → Reduced = λ k. record { answer = Refused k; list = over (shortWords (tableOf b)) list; map = map; out = out } in
+      by-number (quotientNumber L b m out) _ _ (λ (d : QuotientDone). onWritten (d .answer) (d .out) ≡ deliver L b list map out m g u z) (not-refused (quotientNumber L b m out) _ _) (refuses (quotientNumber L b m out) _ refusal refl)
 
   module _ {r : Written} {o : List ℕ} (e : record { answer = r; out = o } ≡ quotientOf L b m out) where
     on-answer : {x : Written} → r ≡ x → onWritten x o ≡ deliver L b list map out m g u z
@@ -260,34 +259,31 @@ module _ (b list : List ℕ) where
       unfolding ListedAs beforeSearch reduceOf
       list-refused {k} f =
           let t = told f in
-          let n : beforeSearch L b list map ≡ 10 = rw (eq-eqb (readNumber L b) 0 readable, le-leb (count (tableOf b)) (length map) room, lt-leb (length (shortWords (tableOf b))) (length list) (t .2), beforeSearch) in
-          (λ i. record { answer = Refused (t .0 i); list = t .1 i; map = map; out = out }) ∙ rw (n, reduceOf) (λ i. record { answer = Refused (sym n i); list = list; map = map; out = out })
+          let n = stage-passes _ _ readable ∙ passes 22 _ (le-leb (count (tableOf b)) (length map) room) ∙ fails 10 _ (lt-leb (length (shortWords (tableOf b))) (length list) (t .2)) in
+          (λ i. record { answer = Refused (t .0 i); list = t .1 i; map = map; out = out }) ∙ refuses (beforeSearch L b list map) _ (λ k. record { answer = Refused k; list = list; map = map; out = out }) n (λ z. absurd (omega arith))
 
       -- the list was written, and the rest of reduce gave its answer
       pub list-solved : {c w : ℕ} {s : Reduction} {m o : List ℕ} → r ≡ Words c w → ((before : List ℕ) → record { answer = s; list = over (shortWords (tableOf b)) before; map = m; out = o } ≡ afterSearch L b before map out (triedOfTable b budget)) → record { answer = s; list = l; map = m; out = o } ≡ reduceOf L b budget list map out
       unfolding ListedAs beforeSearch reduceOf
       list-solved {c} {w} {s} {m} {o} f h =
           let t = told f in
-          let n : beforeSearch L b list map ≡ 0 = rw (eq-eqb (readNumber L b) 0 readable, le-leb (count (tableOf b)) (length map) room, le-leb (length (shortWords (tableOf b))) (length list) (omega (arith, t .0, t .2)), beforeSearch) in
-          (λ i. record { answer = s; list = t .1 i; map = m; out = o }) ∙ h list ∙ rw (n, reduceOf) refl
+          let n = stage-passes _ _ readable ∙ passes 22 _ (le-leb (count (tableOf b)) (length map) room) ∙ passes 10 _ (le-leb (length (shortWords (tableOf b))) (length list) (omega (arith, t .0, t .2))) ∙ no-test in
+          (λ i. record { answer = s; list = t .1 i; map = m; out = o }) ∙ h list ∙ not-refused (beforeSearch L b list map) _ _ n
 
 -- ---- reading
 
 module _ (L : Limits) (b : List ℕ) (budget : ℕ) (list map out : List ℕ) where
-  by-number : {k : ℕ} → beforeSearch L b list map ≡ k → (k ≡ 0 → ⊥) → record { answer = Refused k; list = list; map = map; out = out } ≡ reduceOf L b budget list map out
+  refused-by : {k : ℕ} → beforeSearch L b list map ≡ k → (k ≡ 0 → ⊥) → record { answer = Refused k; list = list; map = map; out = out } ≡ reduceOf L b budget list map out
   unfolding reduceOf
-  by-number {k} e z = rw (e, ne-eqb k 0 z, reduceOf) (λ i. record { answer = Refused (sym e i); list = list; map = map; out = out })
+  refused-by e z = refuses (beforeSearch L b list map) _ (λ k. record { answer = Refused k; list = list; map = map; out = out }) e z
 
   pub not-read : {k : ℕ} → readNumber L b ≡ k → (k ≡ 0 → ⊥) → record { answer = Refused k; list = list; map = map; out = out } ≡ reduceOf L b budget list map out
   unfolding beforeSearch
-  not-read {k} e n = by-number (rw (ne-eqb (readNumber L b) 0 (λ z. n (sym e ∙ z)), beforeSearch) e) n
+  not-read e n = refused-by (stage-fails _ _ e n) n
 
   pub map-short : Readable L b → length map < count (tableOf b) → record { answer = Refused 22; list = list; map = map; out = out } ≡ reduceOf L b budget list map out
   unfolding beforeSearch
-  map-short readable h = by-number short (λ z. absurd (omega arith))
-    where
-      short : beforeSearch L b list map ≡ 22
-      short = rw (eq-eqb (readNumber L b) 0 readable, lt-leb (count (tableOf b)) (length map) h, beforeSearch) refl
+  map-short readable h = refused-by (stage-passes _ _ readable ∙ fails 22 _ (lt-leb (count (tableOf b)) (length map) h)) (λ z. absurd (omega arith))
 
 -- the states are the bytes of their section
 pub states-count : {L : Limits} {b : List ℕ} {s : Starts} {x : List ℕ} → ReadAs L b s → x ≡ partOf b s States → length x ≡ count (tableOf b)

@@ -4,14 +4,19 @@ use mathlib.Core.Bool.{true, false}
 use mathlib.Core.List.{List}
 use Prim.Native.Nat.{ℕ}
 use lib.ListN.{length}
+use Rattle.lists.specs.Lists.{over}
+use Rattle.limits.specs.declared.Limits.{Limits}
 use Rattle.cnf.specs.Trials.{notFalse}
 use Rattle.pairs.specs.Pairs.{pairs}
-use Rattle.format.specs.File.{Table}
+use Rattle.format.specs.File.{Table, tableOf}
 use Rattle.format.specs.Language.{count}
+use Rattle.maps.specs.Sections.{WhereReadable}
+use Rattle.encoding.specs.Clauses.{shortWords}
 use Rattle.encoding.specs.Maps.{mapOf}
 use Rattle.search.specs.declared.engine.Ending.{Ending}
 use Rattle.search.specs.declared.engine.Ending.the-variants.{Found, Absent, Spent}
-use Rattle.reductions.specs.Reduce.{joinedPairs}
+use Rattle.reductions.specs.Reduce.{joinedPairs, Reduced}
+use Rattle.reductions.specs.declared.Reduction.{Reduction}
 use Rattle.reduce.specs.declared.Made.{Made}
 
 -- the end of a search, as its guesses and how it ended
@@ -25,3 +30,7 @@ pub record HeldFor (t : Table) (n : ℕ) (v : List ℕ) : Type 0 where
   pub states : n ≡ count t
   pub long : length v ≡ pairs n
   pub joined : notFalse v ≡ joinedPairs n (mapOf v n)
+
+-- at all limits that the table is readable at, and whatever stood in the clause buffer before the list was written to it: what f gives
+abbrev pub ListWritten : List ℕ → Reduction → List ℕ → List ℕ → (Limits → List ℕ → Reduced) → Type 0
+ListWritten b r map out f = WhereReadable b (λ L. (before : List ℕ) → record { answer = r; list = over (shortWords (tableOf b)) before; map = map; out = out } ≡ f L before)

@@ -1,21 +1,16 @@
 // Reducing a table.
 ghost use mathlib.Core.Path.{_≡_};
-ghost use mathlib.Core.List.{List};
-ghost use Prim.Native.Nat.{ℕ, _≤_};
+ghost use Prim.Native.Nat.{_≤_};
 ghost use lib.ListN.{length};
-ghost use Rattle.lists.specs.Lists.{over};
-ghost use Rattle.limits.specs.declared.Limits.{Limits};
 ghost use Rattle.limits.specs.Limits.{standard};
 ghost use Rattle.format.specs.File.{tableOf};
-ghost use Rattle.format.specs.Reading.{Readable};
 ghost use Rattle.format.specs.Language.{count};
-ghost use Rattle.maps.specs.Sections.{Known};
+ghost use Rattle.maps.specs.Sections.{Known, WhereReadable};
 ghost use Rattle.encoding.specs.Clauses.{shortWords};
 ghost use Rattle.encoding.specs.Maps.{mapOf};
-ghost use Rattle.reductions.specs.Reduce.{Reduced, triedOfTable, deliver, afterSearch, reduceOf};
-ghost use Rattle.reductions.specs.Demands.{KeepsWords, DeliversQuotient, DeliversChecked, DeliversMaximal, FewGuesses, DeliversCeiling};
-ghost use Rattle.reductions.specs.Demands.{SameSearch, SpentSaid, DeliversNoneOpen, DeliversSteps, KeepsMarks, KeepsScripts};
-ghost use Rattle.reduce.specs.Held.{MadeBy, HeldFor};
+ghost use Rattle.reductions.specs.Reduce.{Reduced, triedOfTable, deliver, afterSearch, reduceOf, ReduceSays};
+ghost use Rattle.reductions.specs.Demands.{Promises};
+ghost use Rattle.reduce.specs.Held.{MadeBy, HeldFor, ListWritten};
 use encoding::Listed;
 use format::Starts;
 use limits::Limits;
@@ -73,10 +68,8 @@ fn deliver_held(
     requires { ⌜ Known (now table) starts (now tops) × (n ≤ 40) × (n ≤ length (now map)) × (words ≡ length (shortWords (tableOf (now table)))) ⌝ }
     requires { ⌜ HeldFor (tableOf (now table)) n (now values) ⌝ }
     ensures { λ r. ⌜
-        ((L : Limits) → Readable L (now (table .entry)) → (list : List ℕ) →
-        _≡_ {A = Reduced}
-        (record { answer = r; list = over (shortWords (tableOf (now (table .entry)))) list; map = now (map .exit); out = now (out .exit) })
-        (deliver L (now (table .entry)) list (now (map .entry)) (now (out .entry)) (mapOf (now (values .entry)) n) guesses ceiling spent)) ⌝ }
+        ListWritten (now (table .entry)) r (now (map .exit)) (now (out .exit))
+        (λ L list. deliver L (now (table .entry)) list (now (map .entry)) (now (out .entry)) (mapOf (now (values .entry)) n) guesses ceiling spent) ⌝ }
 {
     let classes = map_of(values, n);
     let joined = search::not_false(values);
@@ -114,10 +107,8 @@ fn solve_listed(
 ) -> Reduction
     requires { ⌜ Known (now table) starts (now tops) × (n ≡ count (tableOf (now table))) × (n ≤ length (now map)) × (now list ≡ shortWords (tableOf (now table))) ⌝ }
     ensures { λ r. ⌜
-        ((L : Limits) → Readable L (now (table .entry)) → (before : List ℕ) →
-        _≡_ {A = Reduced}
-        (record { answer = r; list = over (shortWords (tableOf (now (table .entry)))) before; map = now (map .exit); out = now (out .exit) })
-        (afterSearch L (now (table .entry)) before (now (map .entry)) (now (out .entry)) (triedOfTable (now (table .entry)) budget))) ⌝ }
+        ListWritten (now (table .entry)) r (now (map .exit)) (now (out .exit))
+        (λ L list. afterSearch L (now (table .entry)) list (now (map .entry)) (now (out .entry)) (triedOfTable (now (table .entry)) budget)) ⌝ }
 {
     let variables = pairs::pairs_of(n) as usize;
     let mut values = search::none_set();
@@ -155,8 +146,7 @@ fn reduce_known(
 ) -> Reduction
     requires { ⌜ Known (now table) starts (now tops) × (n ≡ count (tableOf (now table))) × (n ≤ length (now map)) ⌝ }
     ensures { λ r. ⌜
-        ((L : Limits) → Readable L (now (table .entry)) →
-        _≡_ {A = Reduced}
+        WhereReadable (now (table .entry)) (λ L. _≡_ {A = Reduced}
         (record { answer = r; list = now (list .exit); map = now (map .exit); out = now (out .exit) })
         (reduceOf L (now (table .entry)) budget (now (list .entry)) (now (map .entry)) (now (out .entry)))) ⌝ }
 {
@@ -181,18 +171,8 @@ pub fn reduce_within(
     ensures answers { λ r. ⌜
         _≡_ {A = Reduced} (record { answer = r; list = now (list .exit); map = now (map .exit); out = now (out .exit) })
         (reduceOf limits (now (table .entry)) budget (now (list .entry)) (now (map .entry)) (now (out .entry))) ⌝ }
-    ensures words { λ r. ⌜ KeepsWords r (now (table .entry)) (now (out .exit)) ⌝ }
-    ensures exact { λ r. ⌜ DeliversQuotient limits r (now (table .entry)) (now (map .exit)) (now (out .exit)) ⌝ }
-    ensures checked { λ r. ⌜ DeliversChecked limits r (now (table .entry)) (now (map .exit)) ⌝ }
-    ensures maximal { λ r. ⌜ DeliversMaximal r (now (table .entry)) (now (map .exit)) ⌝ }
-    ensures few { λ r. ⌜ FewGuesses r (now (table .entry)) ⌝ }
-    ensures ceiling { λ r. ⌜ DeliversCeiling r (now (table .entry)) (now (map .exit)) ⌝ }
-    ensures same { λ r. ⌜ SameSearch r (now (table .entry)) budget ⌝ }
-    ensures spent { λ r. ⌜ SpentSaid r (now (table .entry)) budget ⌝ }
-    ensures open { λ r. ⌜ DeliversNoneOpen r (now (table .entry)) (now (out .exit)) ⌝ }
-    ensures steps { λ r. ⌜ DeliversSteps r (now (table .entry)) (now (map .exit)) (now (out .exit)) ⌝ }
-    ensures marks { λ r. ⌜ KeepsMarks r (now (table .entry)) (now (out .exit)) ⌝ }
-    ensures scripts { λ r. ⌜ KeepsScripts limits r (now (table .entry)) (now (out .exit)) ⌝ }
+    ensures number { λ r. ⌜ ReduceSays limits (now (table .entry)) budget (now (list .entry)) (now (map .entry)) (now (out .entry)) r ⌝ }
+    ensures promises { λ r. ⌜ Promises limits (now (table .entry)) budget r (now (map .exit)) (now (out .exit)) ⌝ }
 {
     let examined = tops::examine(limits, table);
     if examined.number != 0 {
@@ -219,18 +199,8 @@ pub fn reduce(
     ensures answers { λ r. ⌜
         _≡_ {A = Reduced} (record { answer = r; list = now (list .exit); map = now (map .exit); out = now (out .exit) })
         (reduceOf standard (now (table .entry)) budget (now (list .entry)) (now (map .entry)) (now (out .entry))) ⌝ }
-    ensures words { λ r. ⌜ KeepsWords r (now (table .entry)) (now (out .exit)) ⌝ }
-    ensures exact { λ r. ⌜ DeliversQuotient standard r (now (table .entry)) (now (map .exit)) (now (out .exit)) ⌝ }
-    ensures checked { λ r. ⌜ DeliversChecked standard r (now (table .entry)) (now (map .exit)) ⌝ }
-    ensures maximal { λ r. ⌜ DeliversMaximal r (now (table .entry)) (now (map .exit)) ⌝ }
-    ensures few { λ r. ⌜ FewGuesses r (now (table .entry)) ⌝ }
-    ensures ceiling { λ r. ⌜ DeliversCeiling r (now (table .entry)) (now (map .exit)) ⌝ }
-    ensures same { λ r. ⌜ SameSearch r (now (table .entry)) budget ⌝ }
-    ensures spent { λ r. ⌜ SpentSaid r (now (table .entry)) budget ⌝ }
-    ensures open { λ r. ⌜ DeliversNoneOpen r (now (table .entry)) (now (out .exit)) ⌝ }
-    ensures steps { λ r. ⌜ DeliversSteps r (now (table .entry)) (now (map .exit)) (now (out .exit)) ⌝ }
-    ensures marks { λ r. ⌜ KeepsMarks r (now (table .entry)) (now (out .exit)) ⌝ }
-    ensures scripts { λ r. ⌜ KeepsScripts standard r (now (table .entry)) (now (out .exit)) ⌝ }
+    ensures number { λ r. ⌜ ReduceSays standard (now (table .entry)) budget (now (list .entry)) (now (map .entry)) (now (out .entry)) r ⌝ }
+    ensures promises { λ r. ⌜ Promises standard (now (table .entry)) budget r (now (map .exit)) (now (out .exit)) ⌝ }
 {
     reduce_within(limits::standard(), table, budget, list, map, out)
 }

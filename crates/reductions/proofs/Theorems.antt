@@ -2,14 +2,15 @@
 use mathlib.Core.Path.{_≡_, refl, sym, ap, _∙_, subst}
 use mathlib.Core.Logic.{_≢_, _⊎_, ⊎-elim}
 use mathlib.Core.Bool.{Bool, true, true≢false}
-use mathlib.Core.List.{List}
+use mathlib.Core.List.{List, [], _∷_}
 use Prim.Native.Nat.{ℕ, _≤_}
 use native.Mathlib.Omega.{arith}
 use lib.ListN.{length, take, drop}
 use lib.Seq.{take-at, take-append-seam}
-use borrow.Author.Tests.{eq-eqb}
-use Rattle.lists.specs.Lists.{over}
+use Rattle.lists.specs.Lists.{over, Says}
+use Rattle.lists.proofs.Refusals.{stage-passes, stage-fails, last-stage, by-number, refused-says, says}
 use Rattle.cnf.specs.Search.{Outcome, solved, none-exists, spent, unfinished, searchFrom, madeOf, isSpent}
+use Rattle.cnf.specs.Trials.{ceilingOf, Tried}
 use Rattle.cnf.proofs.Theorems.{horn}
 use Rattle.cnf.proofs.Trials.{spent-budget}
 use Rattle.limits.specs.declared.Limits.{Limits}
@@ -20,18 +21,19 @@ use Rattle.format.specs.Maps.{classes, NoneCoarser}
 use Rattle.format.proofs.Bytes.{read-well-formed}
 use Rattle.relations.specs.Check.{checkNumber, checkOf}
 use Rattle.relations.specs.declared.Checked.the-variants.{Accepted}
-use Rattle.encoding.specs.Clauses.{clauseList}
+use Rattle.relations.proofs.Answers.{check-accepted}
+use Rattle.encoding.specs.Clauses.{clauseList, shortWords}
 use Rattle.encoding.specs.Maps.{mapOf}
 use Rattle.encoding.proofs.Formed.{list-horn}
 use Rattle.encoding.proofs.Theorems.{map-proper, none-coarser}
-use Rattle.quotients.specs.Quotient.{quotientBytes}
+use Rattle.quotients.specs.Quotient.{quotientBytes, quotientNumber}
 use Rattle.scripts.specs.Demands.{SameScripts}
 use Rattle.quotients.specs.Demands.{IsQuotient, ShowsSteps}
 use Rattle.quotients.proofs.Theorems.{is-quotient, keeps-words, keeps-marks, open-neither, keeps-steps, keeps-scripts}
-use Rattle.reductions.specs.Reduce.{Reduced, searchOfTable, joinedPairs, reduceOf, reductionNumber}
+use Rattle.reductions.specs.Reduce.{Reduced, beforeSearch, searchOfTable, joinedPairs, deliver, triedOfTable, afterSearch, reduceOf, reductionNumber, spentValue, reductionValues, reduceNumber, ReduceSays}
 use Rattle.reductions.specs.Demands.{OnDelivery, KeepsWords, DeliversQuotient, DeliversChecked, DeliversMaximal, FewGuesses, DeliversCeiling, SameSearch, SpentSaid, DeliversNoneOpen, DeliversSteps, KeepsMarks, KeepsScripts, Promises, mapWritten}
 use Rattle.reductions.specs.declared.Reduction.{Reduction}
-use Rattle.reductions.specs.declared.Reduction.the-variants.{Delivered}
+use Rattle.reductions.specs.declared.Reduction.the-variants.{Delivered, Refused}
 use Rattle.reductions.proofs.Ways.{FirstNumber, of-limits, of-reading, map-short, list-long, first-number, list-formed, Held, Ways, refused-first, refused-short, delivers, reduce-ways}
 
 module _ (L : Limits) (b : List ℕ) (budget : ℕ) (list map out : List ℕ) where
@@ -48,7 +50,7 @@ module _ (L : Limits) (b : List ℕ) (budget : ℕ) (list map out : List ℕ) wh
   checked-ways (refused-short v g u z s l) = tt
   checked-ways (delivers v g u z s l) =
       subst (λ (m : List ℕ). checkOf L b m ≡ Accepted (classes (mapOf v (count (tableOf b))))) (sym (map-written v g u z s))
-      (rw (eq-eqb (checkNumber L b (mapOf v (count (tableOf b)))) 0 (s .accepted), checkOf) refl)
+      (sym (check-accepted L b (mapOf v (count (tableOf b))) (s .accepted) refl refl))
 
   -- a delivered map is one that the check accepts
   pub delivers-checked : DeliversChecked L (reduceOf L b budget list map out .answer) b (reduceOf L b budget list map out .map)
@@ -204,6 +206,33 @@ module _ (L : Limits) (b : List ℕ) (budget : ℕ) (list map out : List ℕ) wh
   pub numbers : Number (reductionNumber (reduceOf L b budget list map out .answer))
   numbers = number-ways (reduce-ways L b budget list map out)
 
+  -- the number and the values of a delivery, or of a refusal behind the search
+  delivery-says : (m : List ℕ) (g u : ℕ) (z : Bool) → let r = deliver L b list map out m g u z .answer in
+      Says (reductionNumber r) (reductionValues r) (quotientNumber L b m out)
+      (classes m ∷ g ∷ length (shortWords (tableOf b)) ∷ length (quotientBytes b m) ∷ joinedPairs (count (tableOf b)) m ∷ u ∷ spentValue z ∷ [])
+  unfolding deliver reductionNumber reductionValues
+  delivery-says m g u z = says (quotientNumber L b m out) _ _ (λ (d : Reduced). reductionNumber (d .answer)) (λ (d : Reduced). reductionValues (d .answer)) refl refl refl refl
+
+  numbered : ReduceSays L b budget list map out (reduceOf L b budget list map out .answer)
+  unfolding reduceOf reduceNumber afterSearch reductionNumber reductionValues
+  numbered = by-number (beforeSearch L b list map) (afterSearch L b list map out e) (record { answer = Refused (beforeSearch L b list map); list = list; map = map; out = out }) (λ (d : Reduced). ReduceSays L b budget list map out (d .answer)) searched first
+    where
+      e : Tried
+      e = triedOfTable b budget
+
+      m : List ℕ
+      m = mapOf (e .trials .held) (count (tableOf b))
+
+      searched : beforeSearch L b list map ≡ 0 → ReduceSays L b budget list map out (afterSearch L b list map out e .answer)
+      searched z =
+          let r = afterSearch L b list map out e .answer in
+          subst (λ (k : ℕ). Says (reductionNumber r) (reductionValues r) k (reductionValues (Delivered (classes m) (madeOf (e .outcome)) (length (shortWords (tableOf b))) (length (quotientBytes b m)) (joinedPairs (count (tableOf b)) m) (ceilingOf (e .trials .ceiling)) (isSpent (e .outcome)))))
+          (sym (stage-passes _ _ z ∙ last-stage (quotientNumber L b m out)))
+          (delivery-says m (madeOf (e .outcome)) (ceilingOf (e .trials .ceiling)) (isSpent (e .outcome)))
+
+      first : beforeSearch L b list map ≢ 0 → ReduceSays L b budget list map out (Refused (beforeSearch L b list map))
+      first n = refused-says _ (stage-fails _ _ refl n) n
+
   -- so neither 12 nor 13 comes out of reduce
   pub never-refused : (k : ℕ) → (k ≡ 12) ⊎ (k ≡ 13) → reductionNumber (reduceOf L b budget list map out .answer) ≢ k
   never-refused k c e = go numbers
@@ -221,44 +250,11 @@ module _ (L : Limits) (b : List ℕ) (budget : ℕ) (list map out : List ℕ) wh
 
 -- what the contract of reduce says, of the answer and the buffers that the definition gives
 module _ (L : Limits) (b : List ℕ) (budget : ℕ) (list map out : List ℕ) {r : Reduction} {list' map' out' : List ℕ} (e : record { answer = r; list = list'; map = map'; out = out' } ≡ reduceOf L b budget list map out) where
-  pub promised : (_≡_ {A = Reduced} (record { answer = r; list = list'; map = map'; out = out' }) (reduceOf L b budget list map out)) × (KeepsWords r b out' × (DeliversQuotient L r b map' out' × (DeliversChecked L r b map' × (DeliversMaximal r b map' × (FewGuesses r b × (DeliversCeiling r b map' × (SameSearch r b budget × (SpentSaid r b budget × (DeliversNoneOpen r b out' × (DeliversSteps r b map' out' × (KeepsMarks r b out' × KeepsScripts L r b out')))))))))))
-  promised = (e, (kept, (quotient, (checked, (maximal, (few, (ceiling, (same, (ended, (none-open, (steps, (marks, scripts))))))))))))
-    where
-      kept : KeepsWords r b out'
-      kept = subst (λ (d : Reduced). KeepsWords (d .answer) b (d .out)) (sym e) (delivers-words L b budget list map out)
-
-      quotient : DeliversQuotient L r b map' out'
-      quotient = subst (λ (d : Reduced). DeliversQuotient L (d .answer) b (d .map) (d .out)) (sym e) (delivers-quotient L b budget list map out)
-
-      checked : DeliversChecked L r b map'
-      checked = subst (λ (d : Reduced). DeliversChecked L (d .answer) b (d .map)) (sym e) (delivers-checked L b budget list map out)
-
-      maximal : DeliversMaximal r b map'
-      maximal = subst (λ (d : Reduced). DeliversMaximal (d .answer) b (d .map)) (sym e) (delivers-maximal L b budget list map out)
-
-      few : FewGuesses r b
-      few = subst (λ (d : Reduced). FewGuesses (d .answer) b) (sym e) (few-guesses L b budget list map out)
-
-      ceiling : DeliversCeiling r b map'
-      ceiling = subst (λ (d : Reduced). DeliversCeiling (d .answer) b (d .map)) (sym e) (delivers-ceiling L b budget list map out)
-
-      same : SameSearch r b budget
-      same = subst (λ (d : Reduced). SameSearch (d .answer) b budget) (sym e) (same-search L b budget list map out)
-
-      ended : SpentSaid r b budget
-      ended = subst (λ (d : Reduced). SpentSaid (d .answer) b budget) (sym e) (spent-said L b budget list map out)
-
-      none-open : DeliversNoneOpen r b out'
-      none-open = subst (λ (d : Reduced). DeliversNoneOpen (d .answer) b (d .out)) (sym e) (delivers-none-open L b budget list map out)
-
-      steps : DeliversSteps r b map' out'
-      steps = subst (λ (d : Reduced). DeliversSteps (d .answer) b (d .map) (d .out)) (sym e) (delivers-steps L b budget list map out)
-
-      marks : KeepsMarks r b out'
-      marks = subst (λ (d : Reduced). KeepsMarks (d .answer) b (d .out)) (sym e) (delivers-marks L b budget list map out)
-
-      scripts : KeepsScripts L r b out'
-      scripts = subst (λ (d : Reduced). KeepsScripts L (d .answer) b (d .out)) (sym e) (delivers-scripts L b budget list map out)
+  pub promised : (_≡_ {A = Reduced} (record { answer = r; list = list'; map = map'; out = out' }) (reduceOf L b budget list map out)) × (ReduceSays L b budget list map out r × Promises L b budget r map' out')
+  promised = (
+    e,
+    subst (λ (d : Reduced). ReduceSays L b budget list map out (d .answer) × Promises L b budget (d .answer) (d .map) (d .out)) (sym e) (numbered L b budget list map out, promises L b budget list map out),
+  )
 
   pub delivered-fits : {c g w l j u : ℕ} {z : Bool} → r ≡ Delivered c g w l j u z → l ≤ length out
   delivered-fits f =

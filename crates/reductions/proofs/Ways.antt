@@ -3,13 +3,15 @@
 use mathlib.Core.Path.{_≡_, refl, sym, ap, _∙_, subst}
 use mathlib.Core.Logic.{_≢_, ⊎-elim}
 use mathlib.Core.Bool.{Bool, true, false, true≢false}
-use mathlib.Core.List.{List}
+use mathlib.Core.List.{List, [], _∷_}
 use Prim.Native.Nat.{ℕ, _≤_, _<_}
 use native.Mathlib.Omega.{arith}
+use native.Mathlib.Decide.{ℕ-discrete}
 use lib.ListN.{length}
-use lib.Dec.{eqb, leb}
-use borrow.Author.Tests.{eqb-true, eqb-false, eq-eqb, ne-eqb, leb-true, leb-false}
-use Rattle.lists.specs.Lists.{over}
+use lib.Dec.{leb}
+use borrow.Author.Tests.{leb-true, leb-false}
+use Rattle.lists.specs.Lists.{over, firstFailed}
+use Rattle.lists.proofs.Refusals.{passed, passes, fails, no-test, stage-passes, stage-fails, stage-passed, refuses, not-refused, by-number}
 use Rattle.cnf.specs.Clauses.{Model, Maximal}
 use Rattle.cnf.specs.Search.{Outcome, solved, none-exists, spent, unfinished, searchFrom, madeOf, isSpent}
 use Rattle.cnf.specs.Trials.{ceilingOf, Tried, searchTried}
@@ -45,21 +47,11 @@ pub record Begun (L : Limits) (b list map : List ℕ) : Type 0 where
 
 begun : (L : Limits) (b list map : List ℕ) → beforeSearch L b list map ≡ 0 → Begun L b list map
 unfolding beforeSearch
-begun L b list map e = one (eqb (readNumber L b) 0) refl e
-  where
-    three : Readable L b → count (tableOf b) ≤ length map → (t : Bool) → leb (length (shortWords (tableOf b))) (length list) ≡ t → _≡_ {A = ℕ} (elim t [ true ↦ 0 | false ↦ 10 ]) 0 → Begun L b list map
-    three r m true p f = record { readable = r; room = m; listed = leb-true _ _ p }
-    three r m false p f = absurd (omega arith)
-
-    two : Readable L b → (t : Bool) → leb (count (tableOf b)) (length map) ≡ t → _≡_ {A = ℕ} (elim t [ true ↦ elim (leb (length (shortWords (tableOf b))) (length list)) [ true ↦ 0 | false ↦ 10 ] | false ↦ 22 ]) 0 → Begun L b list map
-    two r true p f = three r (leb-true _ _ p) (leb (length (shortWords (tableOf b))) (length list)) refl f
-    two r false p f = absurd (omega arith)
-
-    one : (t : Bool) → eqb (readNumber L b) 0 ≡ t
-        → _≡_ {A = ℕ} (elim t [ true ↦ elim (leb (count (tableOf b)) (length map)) [ true ↦ elim (leb (length (shortWords (tableOf b))) (length list)) [ true ↦ 0 | false ↦ 10 ] | false ↦ 22 ] | false ↦ readNumber L b ]) 0
-        → Begun L b list map
-    one true p f = two (eqb-true (readNumber L b) 0 p) (leb (count (tableOf b)) (length map)) refl f
-    one false p f = absurd (eqb-false (readNumber L b) 0 p f)
+begun L b list map e =
+    let a = stage-passed _ _ e in
+    let m = passed 22 _ _ (λ z. omega (arith, z)) (a .1) in
+    let l = passed 10 _ _ (λ z. omega (arith, z)) (m .1) in
+    record { readable = a .0; room = leb-true _ _ (m .0); listed = leb-true _ _ (l .0) }
 
 -- the numbers that come before the search
 pub data FirstNumber (k : ℕ) : Type 0 where
@@ -70,13 +62,16 @@ pub data FirstNumber (k : ℕ) : Type 0 where
 
 pub first-number : (L : Limits) (b list map : List ℕ) → FirstNumber (beforeSearch L b list map)
 unfolding beforeSearch
-first-number L b list map = go (eqb (readNumber L b) 0) (leb (count (tableOf b)) (length map)) (leb (length (shortWords (tableOf b))) (length list))
+first-number L b list map = go (ℕ-discrete (readNumber L b) 0)
   where
-    go : (s t u : Bool) → FirstNumber (elim s [ true ↦ elim t [ true ↦ elim u [ true ↦ 0 | false ↦ 10 ] | false ↦ 22 ] | false ↦ readNumber L b ])
-    go true true true = of-reading (omega arith)
-    go true true false = list-long refl
-    go true false u = map-short refl
-    go false t u = ⊎-elim of-limits of-reading (read-within L b)
+    rest : (s t : Bool) → FirstNumber (firstFailed ((22, s) ∷ (10, t) ∷ []))
+    rest true true = of-reading (omega (arith, passes 22 ((10, true) ∷ []) refl ∙ passes 10 [] refl ∙ no-test))
+    rest true false = list-long (passes 22 ((10, false) ∷ []) refl ∙ fails 10 [] refl)
+    rest false t = map-short (fails 22 ((10, t) ∷ []) refl)
+
+    go : Dec (readNumber L b ≡ 0) → FirstNumber (beforeSearch L b list map)
+    go (yes z) = subst FirstNumber (sym (stage-passes _ _ z)) (rest (leb (count (tableOf b)) (length map)) (leb (length (shortWords (tableOf b))) (length list)))
+    go (no n) = subst FirstNumber (sym (stage-fails _ _ refl n)) (⊎-elim of-limits of-reading (read-within L b))
 
 -- the list is over the table's pairs
 pub list-formed : {L : Limits} {t : Table} → WellFormed L t → Formed (clauseList t) (pairs (count t))
@@ -123,12 +118,10 @@ module _ (L : Limits) (b : List ℕ) (budget : ℕ) (list map out : List ℕ) wh
       m = mapOf v (count (tableOf b))
 
       go : (t : Bool) → leb (length (quotientBytes b m)) (length out) ≡ t → Ways (deliver L b list map out m g u z)
-      go true p =
-          let e : quotientNumber L b m out ≡ 0 = rw (eq-eqb (checkNumber L b m) 0 (s .accepted), p, quotientNumber) in
-          rw (eq-eqb (quotientNumber L b m out) 0 e, deliver) (delivers v g u z s (leb-true _ _ p))
+      go true p = subst Ways (not-refused (quotientNumber L b m out) _ _ (stage-passes _ _ (s .accepted) ∙ passes 21 _ p ∙ no-test)) (delivers v g u z s (leb-true _ _ p))
       go false p =
-          let e : quotientNumber L b m out ≡ 21 = rw (eq-eqb (checkNumber L b m) 0 (s .accepted), p, quotientNumber) in
-          rw (ne-eqb (quotientNumber L b m out) 0 (λ z. omega arith), deliver) (rw e (refused-short v g u z s (leb-false _ _ p)))
+          let refusal : ℕ → Reduced = λ k. record { answer = Refused k; list = over (shortWords (tableOf b)) list; map = map; out = out } in
+          subst Ways (refuses (quotientNumber L b m out) _ refusal (stage-passes _ _ (s .accepted) ∙ fails 21 _ p) (λ y. omega (arith, y))) (refused-short v g u z s (leb-false _ _ p))
 
   search-ways : Begun L b list map → Ways (afterSearch L b list map out (triedOfTable b budget))
   unfolding afterSearch triedOfTable searchOfTable
@@ -174,8 +167,4 @@ module _ (L : Limits) (b : List ℕ) (budget : ℕ) (list map out : List ℕ) wh
 
   pub reduce-ways : Ways (reduceOf L b budget list map out)
   unfolding reduceOf
-  reduce-ways = go (eqb (beforeSearch L b list map) 0) refl
-    where
-      go : (t : Bool) → eqb (beforeSearch L b list map) 0 ≡ t → Ways (reduceOf L b budget list map out)
-      go true e = rw (e, reduceOf) (search-ways (begun L b list map (eqb-true _ _ e)))
-      go false e = rw (e, reduceOf) (refused-first (beforeSearch L b list map) refl (eqb-false _ _ e))
+  reduce-ways = by-number _ _ _ Ways (λ z. search-ways (begun L b list map z)) (refused-first (beforeSearch L b list map) refl)

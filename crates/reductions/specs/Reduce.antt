@@ -5,7 +5,7 @@ use mathlib.Core.List.{List, [], _∷_}
 use Prim.Native.Nat.{ℕ}
 use lib.ListN.{length}
 use lib.Dec.{eqb, leb}
-use Rattle.lists.specs.Lists.{keep, gather, upto, over}
+use Rattle.lists.specs.Lists.{keep, gather, upto, over, firstFailed, stage, Says}
 use Rattle.cnf.specs.Search.{Outcome, searchFrom, madeOf, isSpent}
 use Rattle.cnf.specs.Trials.{ceilingOf, Tried, searchTried}
 use Rattle.limits.specs.declared.Limits.{Limits}
@@ -29,13 +29,12 @@ pub record Reduced : Type 0 where
 
 -- 39, 1 to 8; then 22: "map buffer under one byte a state"; then 10: the list without group 2 longer than the clause buffer ("10 is judged on it"); or 0
 unfoldable pub beforeSearch : Limits → List ℕ → List ℕ → List ℕ → ℕ
-beforeSearch L b list map = elim (eqb (readNumber L b) 0) [
-  | true ↦ elim (leb (count (tableOf b)) (length map)) [
-    | true ↦ elim (leb (length (shortWords (tableOf b))) (length list)) [ true ↦ 0 | false ↦ 10 ]
-    | false ↦ 22
-  ]
-  | false ↦ readNumber L b
-]
+beforeSearch L b list map =
+    firstFailed
+    (stage (readNumber L b)
+    ∷ (22, leb (count (tableOf b)) (length map))
+    ∷ (10, leb (length (shortWords (tableOf b))) (length list))
+    ∷ [])
 
 -- the search that reduce runs: "Assignment and guess count must equal those over the full list", with a variable for each pair of the states
 unfoldable pub searchOfTable : List ℕ → ℕ → Outcome
@@ -96,3 +95,15 @@ spentValue false = 0
 unfoldable pub reductionValues : Reduction → List ℕ
 reductionValues (Delivered c g w l j u s) = c ∷ g ∷ w ∷ l ∷ j ∷ u ∷ spentValue s ∷ []
 reductionValues (Refused k) = []
+
+-- 39, 1 to 8, 22, 10, then those of the quotient under the map of the trial that is held, of which only 21 comes out (proofs/Ways); or 0
+unfoldable pub reduceNumber : Limits → List ℕ → ℕ → List ℕ → List ℕ → List ℕ → ℕ
+reduceNumber L b budget list map out = firstFailed (stage (beforeSearch L b list map) ∷ stage (quotientNumber L b (mapOf (triedOfTable b budget .trials .held) (count (tableOf b))) out) ∷ [])
+
+-- the answer by its number and its values
+abbrev pub ReduceSays : Limits → List ℕ → ℕ → List ℕ → List ℕ → List ℕ → Reduction → Type 0
+ReduceSays L b budget list map out r =
+    let e = triedOfTable b budget in
+    let m = mapOf (e .trials .held) (count (tableOf b)) in
+    Says (reductionNumber r) (reductionValues r) (reduceNumber L b budget list map out)
+    (classes m ∷ madeOf (e .outcome) ∷ length (shortWords (tableOf b)) ∷ length (quotientBytes b m) ∷ joinedPairs (count (tableOf b)) m ∷ ceilingOf (e .trials .ceiling) ∷ spentValue (isSpent (e .outcome)) ∷ [])

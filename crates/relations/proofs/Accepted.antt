@@ -1,18 +1,16 @@
 -- The check accepts a properly numbered map of a readable table exactly when it meets Definition 1. Assumes nothing.
-use mathlib.Core.Path.{_≡_, refl, _∙_}
+use mathlib.Core.Path.{_≡_, _∙_}
 use mathlib.Core.Logic.{_↔_}
-use mathlib.Core.Bool.{Bool, true, false}
 use mathlib.Core.List.{List}
 use Prim.Native.Nat.{ℕ}
 use native.Mathlib.Omega.{arith}
-use lib.Dec.{eqb}
-use borrow.Author.Tests.{eqb-true, eqb-false, eq-eqb}
+use borrow.Author.Tests.{eqb-true, eq-eqb}
 use Rattle.lists.specs.Lists.{firstFailed}
-use Rattle.lists.proofs.Refusals.{passed, passes, no-test}
+use Rattle.lists.proofs.Refusals.{passed, passes, no-test, stage-passes, stage-passed}
 use Rattle.vpa.proofs.Relations.{matched-of, joined-raq}
 use Rattle.limits.specs.declared.Limits.{Limits}
 use Rattle.format.specs.File.{Table, tableOf}
-use Rattle.format.specs.Reading.{readNumber, Readable, WellFormed}
+use Rattle.format.specs.Reading.{Readable, WellFormed}
 use Rattle.format.specs.Language.{automaton}
 use Rattle.format.specs.Maps.{classOf, JoinedBy, Proper, RaqMap}
 use Rattle.format.proofs.Bytes.{read-well-formed}
@@ -49,18 +47,14 @@ pub record Accepted (L : Limits) (b m : List ℕ) : Type 0 where
 module _ (L : Limits) (b m : List ℕ) where
   pub accepted : checkNumber L b m ≡ 0 → Accepted L b m
   unfolding checkNumber
-  accepted e = go (eqb (readNumber L b) 0) refl e
-    where
-      go : (t : Bool) → eqb (readNumber L b) 0 ≡ t → _≡_ {A = ℕ} (elim t [ true ↦ firstFailed (mapTests (tableOf b) m) | false ↦ readNumber L b ]) 0 → Accepted L b m
-      go true r f =
-          let h = eqb-true (readNumber L b) 0 r in
-          let k = tests-raq L (tableOf b) (read-well-formed L b h) m f in
-          record { readable = h; proper = k .0; raq = k .1 }
-      go false r f = absurd (eqb-false (readNumber L b) 0 r f)
+  accepted e =
+      let p = stage-passed _ _ e in
+      let k = tests-raq L (tableOf b) (read-well-formed L b (p .0)) m (p .1) in
+      record { readable = p .0; proper = k .0; raq = k .1 }
 
   pub accepts : Accepted L b m → checkNumber L b m ≡ 0
   unfolding checkNumber
-  accepts h = rw (eq-eqb (readNumber L b) 0 (h .readable), checkNumber) (raq-tests L (tableOf b) (read-well-formed L b (h .readable)) m (h .proper) (h .raq))
+  accepts h = stage-passes _ _ (h .readable) ∙ raq-tests L (tableOf b) (read-well-formed L b (h .readable)) m (h .proper) (h .raq)
 
   -- demand 2
   pub check-exact : Readable L b → Proper (tableOf b) m → (checkNumber L b m ≡ 0) ↔ RaqMap (tableOf b) m

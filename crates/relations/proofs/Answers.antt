@@ -1,20 +1,18 @@
 -- The check's number and its answer, by cases, and what the answer promises (demand 2). Assumes nothing.
 use mathlib.Core.Path.{_≡_, refl, sym, ap, _∙_, subst}
 use mathlib.Core.Logic.{_↔_}
-use mathlib.Core.Bool.{Bool, true, false}
 use mathlib.Core.List.{List}
 use Prim.Native.Nat.{ℕ}
 use native.Mathlib.Omega.{arith}
-use lib.Dec.{eqb}
-use borrow.Author.Tests.{eqb-true, eqb-false, eq-eqb, ne-eqb}
 use Rattle.lists.specs.Lists.{firstFailed}
+use Rattle.lists.proofs.Refusals.{stage-passes, refuses, not-refused, by-number, says}
 use Rattle.limits.specs.declared.Limits.{Limits}
 use Rattle.format.specs.File.{tableOf}
-use Rattle.format.specs.Reading.{readNumber, Readable}
+use Rattle.format.specs.Reading.{Readable}
 use Rattle.format.specs.Maps.{classes, Proper, RaqMap}
 use Rattle.relations.specs.declared.Checked.{Checked}
 use Rattle.relations.specs.declared.Checked.the-variants.{Accepted, Refused}
-use Rattle.relations.specs.Check.{mapTests, checkNumber, checkOf}
+use Rattle.relations.specs.Check.{mapTests, checkNumber, checkOf, checkedNumber, checkedValues, CheckSays}
 use Rattle.relations.specs.Accepting.{IsAccepted, AcceptsExactly}
 use Rattle.relations.proofs.Accepted.{accepted, accepts}
 
@@ -22,27 +20,34 @@ module _ (L : Limits) (b m : List ℕ) where
   -- of a readable table
   pub tested : {k : ℕ} → Readable L b → k ≡ firstFailed (mapTests (tableOf b) m) → checkNumber L b m ≡ k
   unfolding checkNumber
-  tested r f = rw (eq-eqb (readNumber L b) 0 r, checkNumber) (sym f)
+  tested r f = stage-passes _ _ r ∙ sym f
 
   pub check-refused : {k : ℕ} → checkNumber L b m ≡ k → (k ≡ 0 → ⊥) → Refused k ≡ checkOf L b m
   unfolding checkOf
-  check-refused e n = sym (rw (ne-eqb (checkNumber L b m) 0 (λ q. n (sym e ∙ q)), checkOf) (ap (λ k. Refused k) e))
+  check-refused e n = refuses _ _ Refused e n
 
   pub check-accepted : {k n : ℕ} → checkNumber L b m ≡ k → k ≡ 0 → n ≡ classes m → Accepted n ≡ checkOf L b m
   unfolding checkOf
-  check-accepted e z l = sym (rw (eq-eqb (checkNumber L b m) 0 (e ∙ z), checkOf) (ap (λ n. Accepted n) (sym l)))
+  check-accepted e z l = ap Accepted l ∙ not-refused _ _ _ (e ∙ z)
 
   -- demand 2
   exactly : AcceptsExactly L b m (checkOf L b m)
   unfolding checkOf
-  exactly readable = go (eqb (checkNumber L b m) 0) refl
-    where
-      go : (t : Bool) → eqb (checkNumber L b m) 0 ≡ t → IsAccepted (elim t as (λ _. Checked) [ true ↦ Accepted (classes m) | false ↦ Refused (checkNumber L b m) ]) ↔ (Proper (tableOf b) m × RaqMap (tableOf b) m)
-      go true p = (λ z. let a = accepted L b m (eqb-true _ _ p) in (a .proper, a .raq), λ z. tt)
-      go false p = (λ z. absurd z, λ z. eqb-false (checkNumber L b m) 0 p (accepts L b m (record { readable = readable; proper = z .0; raq = z .1 })))
+  exactly readable =
+      by-number
+      _
+      _
+      _
+      (λ r. IsAccepted r ↔ (Proper (tableOf b) m × RaqMap (tableOf b) m))
+      (λ n. (λ z. let a = accepted L b m n in (a .proper, a .raq), λ z. tt))
+      (λ n. (λ z. absurd z, λ z. n (accepts L b m (record { readable = readable; proper = z .0; raq = z .1 }))))
 
-  pub checked : {r : Checked} → r ≡ checkOf L b m → (r ≡ checkOf L b m) × AcceptsExactly L b m r
-  checked {r} e = (e, subst (λ (y : Checked). AcceptsExactly L b m y) (sym e) exactly)
+  numbered : CheckSays L b m (checkOf L b m)
+  unfolding checkOf checkedNumber checkedValues
+  numbered = says _ (Accepted (classes m)) (Refused (checkNumber L b m)) checkedNumber checkedValues refl refl refl refl
+
+  pub checked : {r : Checked} → r ≡ checkOf L b m → (r ≡ checkOf L b m) × (CheckSays L b m r × AcceptsExactly L b m r)
+  checked {r} e = (e, subst (λ (y : Checked). CheckSays L b m y × AcceptsExactly L b m y) (sym e) (numbered, exactly))
 
   -- by cases: the class count where the number is 0, else the number
   pub data Answers : Checked → Type 0 where
@@ -51,11 +56,7 @@ module _ (L : Limits) (b m : List ℕ) where
 
   pub answers : Answers (checkOf L b m)
   unfolding checkOf
-  answers = go (eqb (checkNumber L b m) 0) refl
-    where
-      go : (t : Bool) → eqb (checkNumber L b m) 0 ≡ t → Answers (elim t [ true ↦ Accepted (classes m) | false ↦ Refused (checkNumber L b m) ])
-      go true p = passes-by (eqb-true _ _ p)
-      go false p = refuses-by (eqb-false _ _ p)
+  answers = by-number _ _ _ Answers passes-by refuses-by
 
   pub accepted-number : {n : ℕ} → checkOf L b m ≡ Accepted n → checkNumber L b m ≡ 0
   accepted-number {n} f = go answers f

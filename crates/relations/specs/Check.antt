@@ -4,7 +4,7 @@ use mathlib.Core.List.{List, [], _∷_}
 use Prim.Native.Nat.{ℕ}
 use lib.ListN.{length, getD}
 use lib.Dec.{eqb}
-use Rattle.lists.specs.Lists.{any, all, upto, firstFailed}
+use Rattle.lists.specs.Lists.{any, all, upto, firstFailed, stage, Says}
 use Rattle.lists.specs.Bits.{has}
 use Rattle.limits.specs.declared.Limits.{Limits}
 use Rattle.format.specs.File.{Table, tableOf}
@@ -48,10 +48,7 @@ mapTests t m =
 
 -- 39, 1 to 8, then 15 to 20; or 0
 unfoldable pub checkNumber : Limits → List ℕ → List ℕ → ℕ
-checkNumber L b m = elim (eqb (readNumber L b) 0) [
-  | true ↦ firstFailed (mapTests (tableOf b) m)
-  | false ↦ readNumber L b
-]
+checkNumber L b m = firstFailed (stage (readNumber L b) ∷ mapTests (tableOf b) m)
 
 -- the operation: "Accepted, the answer is the class count."
 unfoldable pub checkOf : Limits → List ℕ → List ℕ → Checked
@@ -65,3 +62,7 @@ checkedNumber (Refused k) = k
 unfoldable pub checkedValues : Checked → List ℕ
 checkedValues (Accepted c) = c ∷ []
 checkedValues (Refused k) = []
+
+-- the answer by its number and its values
+abbrev pub CheckSays : Limits → List ℕ → List ℕ → Checked → Type 0
+CheckSays L b m r = Says (checkedNumber r) (checkedValues r) (checkNumber L b m) (classes m ∷ [])

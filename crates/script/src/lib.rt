@@ -10,7 +10,7 @@ ghost use Rattle.lists.specs.Bits.{hasBit};
 ghost use Rattle.limits.specs.Limits.{standard};
 ghost use Rattle.format.specs.File.{records, tableOf};
 ghost use Rattle.table.specs.Sections.{sectioned, HasRead};
-ghost use Rattle.scripts.specs.Script.{gain, moved, returned, ended, symbolsFit, tooDeep, scriptTests, answerBy, scriptOf};
+ghost use Rattle.scripts.specs.Script.{gain, moved, returned, ended, symbolsFit, tooDeep, scriptTests, answerBy, scriptOf, ScriptSays};
 ghost use Rattle.script.specs.Sections.{Lent, Sections, Indexed, Filled, allGain, popped, Fits, sectionsRead};
 ghost use Rattle.scripts.specs.Demands.{ScriptExact};
 use format::Reading;
@@ -330,6 +330,7 @@ fn read_known(table: &[u8], starts: Starts, script: &[u8]) -> Read
 // Reads a script on a table that is read at limits: yes or no, or the first refusal that applies.
 pub fn script_within(limits: Limits, table: &[u8], script: &[u8]) -> Read
     ensures answers { λ r. ⌜ r ≡ scriptOf limits (now (table .entry)) (now (script .entry)) ⌝ }
+    ensures number { λ r. ⌜ ScriptSays limits (now (table .entry)) (now (script .entry)) r ⌝ }
     ensures exact { λ r. ⌜ ScriptExact limits (now (table .entry)) (now (script .entry)) r ⌝ }
 {
     let reading = table::read_within(limits, table);
@@ -342,6 +343,7 @@ pub fn script_within(limits: Limits, table: &[u8], script: &[u8]) -> Read
 // Reads a script, at the limits of a caller that gives none.
 pub fn script(table: &[u8], script: &[u8]) -> Read
     ensures answers { λ r. ⌜ r ≡ scriptOf standard (now (table .entry)) (now (script .entry)) ⌝ }
+    ensures number { λ r. ⌜ ScriptSays standard (now (table .entry)) (now (script .entry)) r ⌝ }
     ensures exact { λ r. ⌜ ScriptExact standard (now (table .entry)) (now (script .entry)) r ⌝ }
 {
     script_within(limits::standard(), table, script)

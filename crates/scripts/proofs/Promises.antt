@@ -5,42 +5,40 @@ use mathlib.Core.List.{List}
 use Prim.Native.Nat.{ℕ}
 use native.Mathlib.Decide.{ℕ-discrete}
 use Rattle.lists.specs.Lists.{firstFailed}
+use Rattle.lists.proofs.Refusals.{says}
 use Rattle.limits.specs.declared.Limits.{Limits}
 use Rattle.format.specs.File.{tableOf}
-use Rattle.format.specs.Reading.{readNumber, Readable}
+use Rattle.format.specs.Reading.{Readable}
 use Rattle.format.specs.Language.{SameWords}
 use Rattle.format.proofs.Bytes.{read-well-formed}
 use Rattle.scripts.specs.declared.Read.{Read}
 use Rattle.scripts.specs.declared.Read.the-variants.{Answer, Refused}
-use Rattle.scripts.specs.Script.{reads, started, scriptTests, scriptNumber, answerBy, scriptOf}
+use Rattle.scripts.specs.Script.{reads, started, scriptTests, scriptNumber, answerBy, scriptOf, readNumberOf, readValues, ScriptSays}
 use Rattle.scripts.specs.Demands.{ScriptExact, SameScripts}
-use Rattle.scripts.proofs.Answers.{answered, refused, number-read, number-unread, script-read}
+use Rattle.scripts.proofs.Answers.{answered, refused, number-readable, script-read}
 use Rattle.scripts.proofs.Meaning.{reads-exact}
 
 module _ (L : Limits) (b w : List ℕ) where
-  -- what is not refused was read
-  number-readable : scriptNumber L b w ≡ 0 → Readable L b
-  number-readable e = go (ℕ-discrete (readNumber L b) 0)
-    where
-      go : Dec (readNumber L b ≡ 0) → Readable L b
-      go (yes z) = z
-      go (no n) = sym (number-unread L b w n) ∙ e
-
-  -- .. and has its answer
+  -- what is not refused has its answer
   yes-or-no : scriptNumber L b w ≡ 0 → Answer (reads (tableOf b) (started (tableOf b)) w) ≡ scriptOf L b w
-  yes-or-no e = let r = number-readable e in script-read L b w r (answered _ (tableOf b) w (sym (number-read L b w r) ∙ e) refl)
+  unfolding scriptOf
+  yes-or-no e = answered _ (tableOf b) w e refl
 
   script-exact : ScriptExact L b w (scriptOf L b w)
   script-exact e =
-      let h = reads-exact (read-well-formed L b (number-readable e)) w in
+      let h = reads-exact (read-well-formed L b (number-readable L b w e)) w in
       let a = yes-or-no e in
       (λ y. h .0 (told (a ∙ y)), λ k. sym a ∙ ap Answer (h .1 k))
     where
       told : {x : Bool} → Answer x ≡ Answer true → x ≡ true
       told y = cc
 
-  pub promised : {r : Read} → r ≡ scriptOf L b w → (r ≡ scriptOf L b w) × ScriptExact L b w r
-  promised e = (e, subst (λ r. ScriptExact L b w r) (sym e) script-exact)
+  numbered : ScriptSays L b w (scriptOf L b w)
+  unfolding scriptOf answerBy readNumberOf readValues
+  numbered = says _ (Answer (reads (tableOf b) (started (tableOf b)) w)) (Refused (scriptNumber L b w)) readNumberOf readValues refl refl refl refl
+
+  pub promised : {r : Read} → r ≡ scriptOf L b w → (r ≡ scriptOf L b w) × (ScriptSays L b w r × ScriptExact L b w r)
+  promised e = (e, subst (λ r. ScriptSays L b w r × ScriptExact L b w r) (sym e) (numbered, script-exact))
 
 -- two tests that hold together are one
 one-truth : (x y : Bool) → (x ≡ true → y ≡ true) → (y ≡ true → x ≡ true) → x ≡ y

@@ -7,7 +7,7 @@ use mathlib.Core.Option.{Option, none, some}
 use Prim.Native.Nat.{ℕ, zero, suc, _-_, _^_}
 use lib.ListN.{length, getD, replicate}
 use lib.Dec.{eqb, leb, ltb}
-use Rattle.lists.specs.Lists.{any, all, upto, firstFailed}
+use Rattle.lists.specs.Lists.{any, all, upto, firstFailed, stage, Says}
 use Rattle.lists.specs.Bits.{has}
 use Rattle.limits.specs.declared.Limits.{Limits}
 use Rattle.limits.specs.Limits.{stateMost}
@@ -98,7 +98,7 @@ scriptTests symbols w = (30, symbolsFit (length symbols) w) ∷ (31, not (tooDee
 
 -- "1 to 8 first, then 30 .., 31", and 39 before them; or 0
 unfoldable pub scriptNumber : Limits → List ℕ → List ℕ → ℕ
-scriptNumber L b w = elim (eqb (readNumber L b) 0) [ true ↦ firstFailed (scriptTests (tableOf b .symbols) w) | false ↦ readNumber L b ]
+scriptNumber L b w = firstFailed (stage (readNumber L b) ∷ scriptTests (tableOf b .symbols) w)
 
 -- the answer whose number is k, 0 where nothing is refused
 unfoldable pub answerBy : ℕ → Table → List ℕ → Read
@@ -120,3 +120,7 @@ yesValue false = 0
 unfoldable pub readValues : Read → List ℕ
 readValues (Answer b) = yesValue b ∷ []
 readValues (Refused k) = []
+
+-- the answer by its number and its values
+abbrev pub ScriptSays : Limits → List ℕ → List ℕ → Read → Type 0
+ScriptSays L b w r = Says (readNumberOf r) (readValues r) (scriptNumber L b w) (yesValue (reads (tableOf b) (started (tableOf b)) w) ∷ [])

@@ -4,7 +4,7 @@ ghost use mathlib.Core.Bool.{true};
 ghost use Prim.Native.Nat.{_≤_};
 ghost use Rattle.limits.specs.Limits.{standard, limitsFit};
 ghost use Rattle.pairs.specs.Pairs.{pairs};
-ghost use Rattle.solutions.specs.Answers.{Searched, searchAt, searchOf};
+ghost use Rattle.solutions.specs.Answers.{Searched, searchAt, searchOf, SearchSays};
 ghost use Rattle.solutions.specs.Demands.{SearchSound};
 ghost use Rattle.search.specs.Turns.{noneSet};
 use fits::list_fits;
@@ -80,6 +80,7 @@ pub fn search_within(
     answer: &mut [u8],
 ) -> Solution
     ensures answers { λ r. ⌜ _≡_ {A = Searched} (record { solution = r; answer = now (answer .exit) }) (searchOf limits (now (list .entry)) variables budget (now (answer .entry))) ⌝ }
+    ensures number { λ r. ⌜ SearchSays limits (now (list .entry)) variables budget (now (answer .entry)) r ⌝ }
     ensures sound { λ r. ⌜ SearchSound (now (list .entry)) variables r (now (answer .exit)) ⌝ }
 {
     if !limits_fit(limits) {
@@ -91,6 +92,7 @@ pub fn search_within(
 // The search at the limits of a caller that gives none.
 pub fn search(list: &[u16], variables: usize, budget: u64, answer: &mut [u8]) -> Solution
     ensures answers { λ r. ⌜ _≡_ {A = Searched} (record { solution = r; answer = now (answer .exit) }) (searchOf standard (now (list .entry)) variables budget (now (answer .entry))) ⌝ }
+    ensures number { λ r. ⌜ SearchSays standard (now (list .entry)) variables budget (now (answer .entry)) r ⌝ }
     ensures sound { λ r. ⌜ SearchSound (now (list .entry)) variables r (now (answer .exit)) ⌝ }
 {
     search_within(limits::standard(), list, variables, budget, answer)

@@ -1,13 +1,12 @@
 -- From the tests and the tables' turns to the answer of a season. Assumes nothing.
-use mathlib.Core.Path.{_≡_, sym, ap, _∙_}
+use mathlib.Core.Path.{_≡_, _∙_}
 use mathlib.Core.Bool.{true, false}
 use mathlib.Core.List.{List}
 use Prim.Native.Nat.{ℕ, _*_, _/_, _≤_}
 use native.Mathlib.Nat.{mul-comm, div-add-mod'}
 use native.Mathlib.Omega.{arith}
 use lib.ListN.{length}
-use borrow.Author.Tests.{eq-eqb, ne-eqb}
-use Rattle.lists.proofs.Refusals.{passes, fails, no-test}
+use Rattle.lists.proofs.Refusals.{passes, fails, no-test, refuses, not-refused}
 use Rattle.limits.specs.declared.Limits.{Limits}
 use Rattle.limits.specs.Limits.{limitsFit}
 use Rattle.seasons.specs.declared.Season.{Season}
@@ -22,9 +21,7 @@ module _ (L : Limits) (tables lengths : List ℕ) (guesses : ℕ) (list maps out
   refused-number : (k : ℕ) → seasonNumber L tables lengths ≡ k → (k ≡ 0 → ⊥) → {r : Season} → r ≡ refusedBy k
       → _≡_ {A = SeasonDone} (record { answer = r; list = list; maps = maps; out = out }) (seasonOf L tables lengths guesses list maps out)
   unfolding seasonOf
-  refused-number k e n {r} f =
-      rw (ne-eqb (seasonNumber L tables lengths) 0 (λ q. n (sym e ∙ q)), seasonOf)
-      (λ j. record { answer = (f ∙ ap refusedBy (sym e)) j; list = list; maps = maps; out = out })
+  refused-number k e n {r} f = (λ j. record { answer = f j; list = list; maps = maps; out = out }) ∙ refuses (seasonNumber L tables lengths) _ (λ k. record { answer = refusedBy k; list = list; maps = maps; out = out }) e n
 
   -- "39 .. before anything else"
   pub refused-limits : limitsFit L ≡ false → {r : Season} → r ≡ refusedBy 39 → _≡_ {A = SeasonDone} (record { answer = r; list = list; maps = maps; out = out }) (seasonOf L tables lengths guesses list maps out)
@@ -40,5 +37,5 @@ module _ (L : Limits) (tables lengths : List ℕ) (guesses : ℕ) (list maps out
       → _≡_ {A = SeasonDone} (record { answer = record { number = 0; values = values }; list = list'; maps = maps'; out = out' }) (seasonOf L tables lengths guesses list maps out)
   unfolding seasonNumber seasonOf shareOf
   reduced p q {values} {list'} {maps'} {out'} w =
-      rw (eq-eqb (seasonNumber L tables lengths) 0 (passes 39 _ p ∙ passes 34 _ q ∙ no-test), seasonOf)
       (λ j. record { answer = record { number = 0; values = w .rows j }; list = w .kept-list j; maps = w .new-maps j; out = w .new-out j })
+      ∙ not-refused (seasonNumber L tables lengths) _ _ (passes 39 _ p ∙ passes 34 _ q ∙ no-test)

@@ -10,7 +10,7 @@ ghost use Rattle.format.specs.Reading.{Readable};
 ghost use Rattle.format.specs.Language.{count};
 ghost use Rattle.reductions.specs.Reduce.{spentValue};
 ghost use Rattle.seasons.specs.Seasons.{lengthsFit, SeasonDone, refusedBy, seasonOf};
-ghost use Rattle.seasons.specs.Demands.{Alone, WithinAll, SolvedWithin, EachPromised};
+ghost use Rattle.seasons.specs.Demands.{SeasonPromises};
 ghost use Rattle.season.specs.Turns.{Turned, Ran};
 use format::Reading;
 use limits::Limits;
@@ -192,10 +192,9 @@ pub fn season_within(
     ensures answers { λ r. ⌜
         _≡_ {A = SeasonDone} (record { answer = r; list = now (list .exit); maps = now (maps .exit); out = now (out .exit) })
         (seasonOf limits (now (tables .entry)) (now (lengths .entry)) guesses (now (list .entry)) (now (maps .entry)) (now (out .entry))) ⌝ }
-    ensures alone { λ r. ⌜ Alone limits (now (tables .entry)) (now (lengths .entry)) guesses (now (list .entry)) (now (maps .entry)) (now (out .entry)) r (now (maps .exit)) (now (out .exit)) ⌝ }
-    ensures total { λ r. ⌜ WithinAll guesses r ⌝ }
-    ensures solved { λ r. ⌜ SolvedWithin limits (now (tables .entry)) (now (lengths .entry)) guesses (now (list .entry)) (now (maps .entry)) (now (out .entry)) r ⌝ }
-    ensures each { λ r. ⌜ EachPromised limits (now (tables .entry)) (now (lengths .entry)) guesses (now (list .entry)) (now (maps .entry)) (now (out .entry)) r (now (maps .exit)) (now (out .exit)) ⌝ }
+    ensures promises { λ r. ⌜
+        SeasonPromises limits (now (tables .entry)) (now (lengths .entry)) guesses (now (list .entry)) (now (maps .entry)) (now (out .entry)) r
+        (now (maps .exit)) (now (out .exit)) ⌝ }
 {
     if !limits::limits_fit(limits) {
         return refused(39);
@@ -220,11 +219,8 @@ pub fn season(
     ensures answers { λ r. ⌜
         _≡_ {A = SeasonDone} (record { answer = r; list = now (list .exit); maps = now (maps .exit); out = now (out .exit) })
         (seasonOf standard (now (tables .entry)) (now (lengths .entry)) guesses (now (list .entry)) (now (maps .entry)) (now (out .entry))) ⌝ }
-    ensures alone { λ r. ⌜ Alone standard (now (tables .entry)) (now (lengths .entry)) guesses (now (list .entry)) (now (maps .entry)) (now (out .entry)) r (now (maps .exit)) (now (out .exit)) ⌝ }
-    ensures total { λ r. ⌜ WithinAll guesses r ⌝ }
-    ensures solved { λ r. ⌜ SolvedWithin standard (now (tables .entry)) (now (lengths .entry)) guesses (now (list .entry)) (now (maps .entry)) (now (out .entry)) r ⌝ }
-    ensures each { λ r. ⌜
-        EachPromised standard (now (tables .entry)) (now (lengths .entry)) guesses (now (list .entry)) (now (maps .entry)) (now (out .entry)) r
+    ensures promises { λ r. ⌜
+        SeasonPromises standard (now (tables .entry)) (now (lengths .entry)) guesses (now (list .entry)) (now (maps .entry)) (now (out .entry)) r
         (now (maps .exit)) (now (out .exit)) ⌝ }
 {
     season_within(

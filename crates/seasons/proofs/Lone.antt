@@ -2,13 +2,13 @@
 -- only the length matters. Assumes nothing.
 use mathlib.Core.Path.{_≡_, refl, ap, subst}
 use mathlib.Core.Bool.{Bool, true, false}
-use mathlib.Core.List.{List, _++_}
+use mathlib.Core.List.{List, [], _∷_, _++_}
 use Prim.Native.Nat.{ℕ, _≤_}
 use native.Mathlib.Omega.{arith}
 use lib.ListN.{length, drop}
 use lib.Seq.{drop-append-seam}
 use lib.Dec.{eqb, leb}
-use Rattle.lists.specs.Lists.{over}
+use Rattle.lists.specs.Lists.{over, firstFailed, stage}
 use Rattle.lists.proofs.Copying.{length-over}
 use Rattle.cnf.specs.Trials.{ceilingOf, Tried}
 use Rattle.cnf.specs.Search.{madeOf, isSpent}
@@ -79,7 +79,7 @@ module _ (L : Limits) (b list other map out : List ℕ) (e : length list ≡ len
   same-before : beforeSearch L b list map ≡ beforeSearch L b other map
   unfolding beforeSearch
   same-before =
-      ap (λ (n : ℕ). elim (eqb (readNumber L b) 0) [ true ↦ elim (leb (count (tableOf b)) (length map)) [ true ↦ elim (leb (length (shortWords (tableOf b))) n) [ true ↦ 0 | false ↦ 10 ] | false ↦ 22 ] | false ↦ readNumber L b ]) e
+      ap (λ (n : ℕ). firstFailed (stage (readNumber L b) ∷ (22, leb (count (tableOf b)) (length map)) ∷ (10, leb (length (shortWords (tableOf b))) n) ∷ [])) e
 
   same-deliver : (m : List ℕ) (k u : ℕ) (z : Bool) → Same (deliver L b list map out m k u z) (deliver L b other map out m k u z)
   unfolding deliver

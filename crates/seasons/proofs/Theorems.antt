@@ -1,18 +1,17 @@
 -- What a season promises holds of the definition, and of whatever answers as it does. Assumes nothing.
 use mathlib.Core.Path.{_≡_, refl, sym, ap, _∙_, subst}
 use mathlib.Core.Logic.{_≢_}
-use mathlib.Core.Bool.{Bool, true, false}
+use mathlib.Core.Bool.{false}
 use mathlib.Core.List.{List, [], _∷_, _++_, map}
 use Prim.Native.Nat.{ℕ, zero, suc, _+_, _*_, _≤_, _<_}
 use native.Mathlib.Nat.{suc-mul, mul-comm, div-add-mod'}
 use native.Mathlib.Omega.{arith}
 use lib.ListN.{length, getD, take, drop, replicate}
 use lib.Seq.{getD-take, getD-drop, take-length}
-use lib.Dec.{eqb}
-use borrow.Author.Tests.{leb-true, eqb-true, eqb-false}
+use borrow.Author.Tests.{leb-true}
 use Rattle.lists.specs.Lists.{gather, parts, sum, over}
 use Rattle.lists.proofs.Members.{and-true}
-use Rattle.lists.proofs.Refusals.{passed}
+use Rattle.lists.proofs.Refusals.{passed, by-number}
 use Rattle.cnf.specs.Search.{madeOf, isSpent}
 use Rattle.cnf.proofs.Budgets.{enough}
 use Rattle.limits.specs.declared.Limits.{Limits}
@@ -34,7 +33,7 @@ use Rattle.reductions.proofs.Ways.{list-formed, Ways, refused-first, refused-sh
 use Rattle.reductions.proofs.Theorems.{promises}
 use Rattle.seasons.specs.declared.Season.{Season}
 use Rattle.seasons.specs.Seasons.{row, guessesIn, mapTaken, outTaken, Reductions, reductionsFrom, shareOf, lengthsFit, seasonNumber, SeasonDone, refusedBy, seasonOf}
-use Rattle.seasons.specs.Demands.{tableAt, answerAt, allowedTo, mapsBefore, outBefore, IsLone, answersOf, Alone, SolvedWithin, EachPromised, guessesReported, WithinAll}
+use Rattle.seasons.specs.Demands.{tableAt, answerAt, allowedTo, mapsBefore, outBefore, IsLone, answersOf, Alone, SolvedWithin, EachPromised, guessesReported, WithinAll, SeasonPromises}
 use Rattle.seasons.proofs.Each.{allowed, moved, used, counted, alone-in}
 
 -- ---- the guesses reported
@@ -141,11 +140,7 @@ module _ (L : Limits) (tables lengths : List ℕ) (guesses : ℕ) (list maps out
 
   season-ends : Ends (seasonOf L tables lengths guesses list maps out)
   unfolding seasonOf refusedBy
-  season-ends = go (eqb (seasonNumber L tables lengths) 0) refl
-    where
-      go : (t : Bool) → eqb (seasonNumber L tables lengths) 0 ≡ t → Ends (seasonOf L tables lengths guesses list maps out)
-      go true e = let f = lengths-few (eqb-true _ _ e) in rw (e, seasonOf) (reduced (f .0) (f .1))
-      go false e = rw (e, seasonOf) (refused (seasonNumber L tables lengths) (eqb-false _ _ e))
+  season-ends = by-number _ _ _ Ends (λ z. let f = lengths-few z in reduced (f .0) (f .1)) (refused (seasonNumber L tables lengths))
 
   alone-ends : {d : SeasonDone} → Ends d → Alone L tables lengths guesses list maps out (d .answer) (d .maps) (d .out)
   unfolding answersOf
@@ -179,7 +174,14 @@ module _ (L : Limits) (tables lengths : List ℕ) (guesses : ℕ) (list maps out
 -- what the contract of a season says, of the answer and the buffers that the definition gives
 pub promised : (L : Limits) (tables lengths : List ℕ) (guesses : ℕ) (list maps out : List ℕ) {r : Season} {list' maps' out' : List ℕ}
     → record { answer = r; list = list'; maps = maps'; out = out' } ≡ seasonOf L tables lengths guesses list maps out
-    → (_≡_ {A = SeasonDone} (record { answer = r; list = list'; maps = maps'; out = out' }) (seasonOf L tables lengths guesses list maps out)) × (Alone L tables lengths guesses list maps out r maps' out' × (WithinAll guesses r × (SolvedWithin L tables lengths guesses list maps out r × EachPromised L tables lengths guesses list maps out r maps' out')))
+    → (_≡_ {A = SeasonDone} (record { answer = r; list = list'; maps = maps'; out = out' }) (seasonOf L tables lengths guesses list maps out)) × SeasonPromises L tables lengths guesses list maps out r maps' out'
 promised L tables lengths guesses list maps out {r} {list'} {maps'} {out'} e =
-    let d : Ends L tables lengths guesses list maps out (record { answer = r; list = list'; maps = maps'; out = out' }) = subst (λ (x : SeasonDone). Ends L tables lengths guesses list maps out x) (sym e) (season-ends L tables lengths guesses list maps out) in
-    (e, (alone-ends L tables lengths guesses list maps out d, (within-ends L tables lengths guesses list maps out d, (solved-ends L tables lengths guesses list maps out d, promised-ends L tables lengths guesses list maps out d))))
+    let d : Ends L tables lengths guesses list maps out (record { answer = r; list = list'; maps = maps'; out = out' }) = subst (λ (x : SeasonDone). Ends L tables lengths guesses list maps out x) (sym e) (season-ends L tables lengths guesses list maps out) in (
+      e,
+      record {
+        alone = alone-ends L tables lengths guesses list maps out d;
+        total = within-ends L tables lengths guesses list maps out d;
+        solved = solved-ends L tables lengths guesses list maps out d;
+        each = promised-ends L tables lengths guesses list maps out d;
+      },
+    )

@@ -95,3 +95,10 @@ guessesReported r = sum (map (λ x. getD x 2 0) (parts 8 8 (r .values)))
 -- "The guesses of all tables together are at most G, in the counts reported."
 abbrev pub WithinAll : ℕ → Season → Type 0
 WithinAll guesses r = guessesReported r ≤ guesses
+
+-- all of it, of one season
+pub record SeasonPromises (L : Limits) (tables lengths : List ℕ) (guesses : ℕ) (list maps out : List ℕ) (r : Season) (maps' out' : List ℕ) : Type 0 where
+  pub alone : Alone L tables lengths guesses list maps out r maps' out'
+  pub total : WithinAll guesses r
+  pub solved : SolvedWithin L tables lengths guesses list maps out r
+  pub each : EachPromised L tables lengths guesses list maps out r maps' out'

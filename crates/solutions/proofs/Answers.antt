@@ -1,5 +1,5 @@
 -- The search's answer by cases: the refusals in order, each outcome, 39, and what the answer promises. Assumes nothing.
-use mathlib.Core.Path.{_≡_, refl, sym, ap, _∙_}
+use mathlib.Core.Path.{_≡_, refl, sym, ap, _∙_, subst}
 use mathlib.Core.Logic.{_≢_}
 use mathlib.Core.Bool.{Bool, true, false, _&&_}
 use mathlib.Core.List.{List, [], _∷_}
@@ -7,49 +7,45 @@ use Prim.Native.Nat.{ℕ, _≤_, _<_}
 use native.Mathlib.Omega.{arith}
 use lib.ListN.{length, take, drop}
 use lib.Seq.{take-at}
-use lib.Dec.{eqb, leb}
-use borrow.Author.Tests.{ne-eqb, eqb-true, le-leb, lt-leb, leb-true}
-use Rattle.lists.specs.Lists.{all, over, firstFailed}
+use lib.Dec.{leb}
+use borrow.Author.Tests.{le-leb, lt-leb, leb-true}
+use Rattle.lists.specs.Lists.{all, over, firstFailed, Says}
 use Rattle.lists.proofs.Members.{and-true}
-use Rattle.lists.proofs.Refusals.{passed, passes, fails}
+use Rattle.lists.proofs.Refusals.{passed, passes, fails, no-test, stage-passes, stage-fails, last-stage, refuses, not-refused, by-number, told-says, refused-says}
 use Rattle.cnf.specs.Clauses.{clausesIn, whole, clauseFits, Model, Maximal, Horn}
-use Rattle.cnf.specs.Search.{Outcome, solved, none-exists, spent, unfinished, searchFrom}
+use Rattle.cnf.specs.Search.{Outcome, solved, none-exists, spent, unfinished, searchFrom, madeOf}
 use Rattle.cnf.specs.Closing.{Formed}
 use Rattle.cnf.proofs.Words.{fit-formed}
 use Rattle.cnf.proofs.Theorems as theorems
 use Rattle.pairs.specs.Pairs.{pairs}
 use Rattle.solutions.specs.declared.Solution.{Solution}
 use Rattle.solutions.specs.declared.Solution.the-variants.{Solved, Refused}
-use Rattle.solutions.specs.Answers.{listFits, searchNumber, Searched, searched, searchAt, searchOf}
-use Rattle.solutions.specs.Demands.{SearchSound}
+use Rattle.solutions.specs.Answers.{listFits, searchNumber, Searched, searched, searchAt, searchOf, solutionNumber, solutionValues, endNumber, searchingNumber, SearchSays}
+use Rattle.solutions.specs.Demands.{OnSolved, SearchSound}
 use Rattle.limits.specs.declared.Limits.{Limits}
 use Rattle.limits.specs.Limits.{limitsFit}
 
 -- ---- the refusals, in order
 
 module _ (most : ℕ) (ws : List ℕ) (n b : ℕ) (a : List ℕ) where
-  by-number : (k : ℕ) → searchNumber most ws n a ≡ k → k ≢ 0 → record { solution = Refused k; answer = a } ≡ searchAt most ws n b a
+  refused-by : {k : ℕ} → searchNumber most ws n a ≡ k → k ≢ 0 → record { solution = Refused k; answer = a } ≡ searchAt most ws n b a
   unfolding searchAt
-  by-number k e z = rw (e, ne-eqb k 0 z, searchAt) (λ j. record { solution = Refused (sym e j); answer = a })
-
-  by-outcome : searchNumber most ws n a ≡ 0 → (o : Outcome) → o ≡ searchFrom (clausesIn ws) n b → searched a o ≡ searchAt most ws n b a
-  unfolding searchAt
-  by-outcome e o q = rw (e, searchAt) (ap (searched a) q)
+  refused-by e z = refuses (searchNumber most ws n a) _ (λ k. record { solution = Refused k; answer = a }) e z
 
   -- 11
   pub refuse-list : listFits most ws n ≡ false → record { solution = Refused 11; answer = a } ≡ searchAt most ws n b a
   unfolding searchNumber
-  refuse-list e = by-number 11 (fails 11 ((14, leb n (length a)) ∷ []) e) (omega arith)
+  refuse-list e = refused-by (fails 11 ((14, leb n (length a)) ∷ []) e) (omega arith)
 
   -- 14
   pub refuse-short : listFits most ws n ≡ true → length a < n → record { solution = Refused 14; answer = a } ≡ searchAt most ws n b a
   unfolding searchNumber
-  refuse-short e h = by-number 14 (passes 11 ((14, leb n (length a)) ∷ []) e ∙ fails 14 [] (lt-leb _ _ h)) (omega arith)
+  refuse-short e h = refused-by (passes 11 ((14, leb n (length a)) ∷ []) e ∙ fails 14 [] (lt-leb _ _ h)) (omega arith)
 
   -- the outcome
   answer-outcome : listFits most ws n ≡ true → n ≤ length a → (o : Outcome) → o ≡ searchFrom (clausesIn ws) n b → searched a o ≡ searchAt most ws n b a
-  unfolding searchNumber firstFailed
-  answer-outcome e h = by-outcome (passes 11 ((14, leb n (length a)) ∷ []) e ∙ passes 14 [] (le-leb _ _ h))
+  unfolding searchNumber searchAt
+  answer-outcome e h o q = ap (searched a) q ∙ not-refused (searchNumber most ws n a) _ _ (passes 11 ((14, leb n (length a)) ∷ []) e ∙ passes 14 [] (le-leb _ _ h) ∙ no-test)
 
 module _ (most : ℕ) (ws : List ℕ) (n b : ℕ) (a : List ℕ) (e : listFits most ws n ≡ true) (h : n ≤ length a) {k : ℕ} where
   pub answer-found : {v out : List ℕ} → solved v k ≡ searchFrom (clausesIn ws) n b → out ≡ over v a → record { solution = Solved k; answer = out } ≡ searchAt most ws n b a
@@ -91,6 +87,10 @@ not-solved e = let z : _≡_ {A = ℕ} 0 1 = cc in omega arith
 solved-one : {j k : ℕ} → Solved j ≡ Solved k → j ≡ k
 solved-one e = cc
 
+on-solved : (r : Solution) {P : ℕ → Type 0} → ((k : ℕ) → r ≡ Solved k → P k) → OnSolved r P
+on-solved (Solved k) h = h k refl
+on-solved (Refused n) h = tt
+
 refused-other : {j k : ℕ} → j ≢ k → Refused j ≡ Refused k → ⊥
 refused-other {j} {k} n e = let z : j ≡ k = cc in n z
 
@@ -107,35 +107,19 @@ module _ (most : ℕ) (ws : List ℕ) (n b : ℕ) (a : List ℕ) where
     pub made : ℕ
     pub outcome : searchFrom (clausesIn ws) n b ≡ none-exists made
 
-  formed-of : eqb (searchNumber most ws n a) 0 ≡ true → Formed (clausesIn ws) n
+  formed-of : searchNumber most ws n a ≡ 0 → Formed (clausesIn ws) n
   unfolding searchNumber
-  formed-of e = list-formed most n ws (passed 11 (listFits most ws n) ((14, leb n (length a)) ∷ []) (omega arith) (eqb-true _ _ e) .0) .2
-
-  abbrev answerBy : Bool → Searched
-  answerBy true = searched a (searchFrom (clausesIn ws) n b)
-  answerBy false = record { solution = Refused (searchNumber most ws n a); answer = a }
-
-  answer-by : searchAt most ws n b a ≡ answerBy (eqb (searchNumber most ws n a) 0)
-  unfolding searchAt
-  answer-by = go (eqb (searchNumber most ws n a) 0)
-    where
-      go : (t : Bool) → elim t as (λ _. Searched) [ true ↦ searched a (searchFrom (clausesIn ws) n b) | false ↦ record { solution = Refused (searchNumber most ws n a); answer = a } ] ≡ answerBy t
-      go true = refl
-      go false = refl
+  formed-of e = list-formed most n ws (passed 11 (listFits most ws n) ((14, leb n (length a)) ∷ []) (omega arith) e .0) .2
 
   solved-is : (s : Searched) → s ≡ searchAt most ws n b a → (k : ℕ) → s .solution ≡ Solved k → IsSolved s k
-  unfolding searched
-  solved-is s e k p = go (eqb (searchNumber most ws n a) 0) refl (e ∙ answer-by)
+  unfolding searched searchAt
+  solved-is s e k p = by-number (searchNumber most ws n a) _ _ (λ (x : Searched). s ≡ x → IsSolved s k) (λ z r. by (formed-of z) (searchFrom (clausesIn ws) n b) refl r) (λ z r. absurd (not-solved (sym (ap (λ (y : Searched). y .solution) r) ∙ p))) e
     where
       by : Formed (clausesIn ws) n → (o : Outcome) → searchFrom (clausesIn ws) n b ≡ o → s ≡ searched a o → IsSolved s k
       by f (solved v j) q r = record { formed = f; values = v; outcome = q ∙ ap (solved v) (solved-one (sym (ap (λ (z : Searched). z .solution) r) ∙ p)); answer = ap (λ (z : Searched). z .answer) r }
       by f (none-exists j) q r = absurd (not-solved (sym (ap (λ (z : Searched). z .solution) r) ∙ p))
       by f (spent j) q r = absurd (not-solved (sym (ap (λ (z : Searched). z .solution) r) ∙ p))
       by f unfinished q r = absurd (not-solved (sym (ap (λ (z : Searched). z .solution) r) ∙ p))
-
-      go : (t : Bool) → eqb (searchNumber most ws n a) 0 ≡ t → s ≡ answerBy t → IsSolved s k
-      go true t r = by (formed-of t) (searchFrom (clausesIn ws) n b) refl r
-      go false t r = absurd (not-solved (sym (ap (λ (z : Searched). z .solution) r) ∙ p))
 
   -- no other refusal has number 12
   not-twelve : searchNumber most ws n a ≢ 12
@@ -148,18 +132,14 @@ module _ (most : ℕ) (ws : List ℕ) (n b : ℕ) (a : List ℕ) where
       go false u = omega arith
 
   none-is : (s : Searched) → s ≡ searchAt most ws n b a → s .solution ≡ Refused 12 → IsNone
-  unfolding searched
-  none-is s e p = go (eqb (searchNumber most ws n a) 0) refl (e ∙ answer-by)
+  unfolding searched searchAt
+  none-is s e p = by-number (searchNumber most ws n a) _ _ (λ (x : Searched). s ≡ x → IsNone) (λ z r. by (formed-of z) (searchFrom (clausesIn ws) n b) refl r) (λ z r. absurd (refused-other not-twelve (sym (ap (λ (y : Searched). y .solution) r) ∙ p))) e
     where
       by : Formed (clausesIn ws) n → (o : Outcome) → searchFrom (clausesIn ws) n b ≡ o → s ≡ searched a o → IsNone
       by f (solved v j) q r = absurd (not-solved (sym p ∙ ap (λ (z : Searched). z .solution) r))
       by f (none-exists j) q r = record { formed = f; made = j; outcome = q }
       by f (spent j) q r = absurd (refused-other (omega arith) (sym (ap (λ (z : Searched). z .solution) r) ∙ p))
       by f unfinished q r = absurd (refused-other (omega arith) (sym (ap (λ (z : Searched). z .solution) r) ∙ p))
-
-      go : (t : Bool) → eqb (searchNumber most ws n a) 0 ≡ t → s ≡ answerBy t → IsNone
-      go true t r = by (formed-of t) (searchFrom (clausesIn ws) n b) refl r
-      go false t r = absurd (refused-other not-twelve (sym (ap (λ (z : Searched). z .solution) r) ∙ p))
 
   -- what the answer bytes begin with
   module _ {r : Solution} {out : List ℕ} (e : record { solution = r; answer = out } ≡ searchAt most ws n b a) where
@@ -181,17 +161,49 @@ module _ (most : ℕ) (ws : List ℕ) (n b : ℕ) (a : List ℕ) where
 
     -- the contract
     pub promised : (record { solution = r; answer = out } ≡ searchAt most ws n b a) × SearchSound ws n r out
-    promised = (e, record { satisfies = satisfies; maximal = maximal; complete = complete; few = few })
+    promised = (e, record { satisfies = on-solved r satisfies; maximal = on-solved r maximal; complete = complete; few = λ h. on-solved r (few h) })
 
 -- ---- 39, and the limits in force
 
-pub unfit : (L : Limits) (ws : List ℕ) (n b : ℕ) (a : List ℕ) → limitsFit L ≡ false → (record { solution = Refused 39; answer = a } ≡ searchOf L ws n b a) × SearchSound ws n (Refused 39) a
-unfolding searchOf
-unfit L ws n b a e = (
-  sym (rw (e, searchOf)),
-  record { satisfies = λ k p. absurd (not-solved p); maximal = λ k p. absurd (not-solved p); complete = λ p. absurd (refused-other (omega arith) p); few = λ h k p. absurd (not-solved p) },
-)
+module _ (L : Limits) (ws : List ℕ) (n b : ℕ) (a : List ℕ) where
+  end-says : (o : Outcome) {k : ℕ} → k ≡ endNumber o → Says (solutionNumber (searched a o .solution)) (solutionValues (searched a o .solution)) k (madeOf o ∷ [])
+  unfolding searched endNumber solutionNumber solutionValues
+  end-says (solved v g) e = told-says _ e
+  end-says (none-exists g) e = refused-says _ e (omega arith)
+  end-says (spent g) e = refused-says _ e (omega arith)
+  end-says unfinished e = refused-says _ e (omega arith)
 
-pub within : (L : Limits) (ws : List ℕ) (n b : ℕ) (a : List ℕ) {s : Searched} {m : ℕ} → limitsFit L ≡ true → m ≡ pairs (L .states) → s ≡ searchAt m ws n b a → s ≡ searchOf L ws n b a
-unfolding searchOf
-within L ws n b a e p q = q ∙ ap (λ (m : ℕ). searchAt m ws n b a) p ∙ sym (rw (e, searchOf))
+  -- its number and its values
+  numbered : SearchSays L ws n b a (searchOf L ws n b a .solution)
+  unfolding searchOf searchAt searchingNumber solutionNumber solutionValues
+  numbered = go (limitsFit L) refl
+    where
+      by : limitsFit L ≡ true → SearchSays L ws n b a (searchAt (pairs (L .states)) ws n b a .solution)
+      by l =
+          by-number
+          (searchNumber (pairs (L .states)) ws n a)
+          _
+          _
+          (λ (x : Searched). SearchSays L ws n b a (x .solution))
+          (λ z. end-says (searchFrom (clausesIn ws) n b) (passes 39 _ l ∙ stage-passes _ _ z ∙ last-stage _))
+          (λ z. refused-says _ (passes 39 _ l ∙ stage-fails _ _ refl z) z)
+
+      go : (t : Bool) → limitsFit L ≡ t → SearchSays L ws n b a (elim t as (λ _. Searched) [ true ↦ searchAt (pairs (L .states)) ws n b a | false ↦ record { solution = Refused 39; answer = a } ] .solution)
+      go true l = by l
+      go false l = refused-says _ (fails 39 _ l) (omega arith)
+
+  -- the contract
+  module _ {r : Solution} {out : List ℕ} where
+    promised-within : record { solution = r; answer = out } ≡ searchOf L ws n b a → SearchSound ws n r out
+        → (_≡_ {A = Searched} (record { solution = r; answer = out }) (searchOf L ws n b a)) × (SearchSays L ws n b a r × SearchSound ws n r out)
+    promised-within e s = (e, (subst (λ (x : Searched). SearchSays L ws n b a (x .solution)) (sym e) numbered, s))
+
+    pub within : {m : ℕ} → limitsFit L ≡ true → m ≡ pairs (L .states) → record { solution = r; answer = out } ≡ searchAt m ws n b a → SearchSound ws n r out
+        → (_≡_ {A = Searched} (record { solution = r; answer = out }) (searchOf L ws n b a)) × (SearchSays L ws n b a r × SearchSound ws n r out)
+    unfolding searchOf
+    within e p q s = promised-within (q ∙ ap (λ (m : ℕ). searchAt m ws n b a) p ∙ sym (rw (e, searchOf))) s
+
+  pub unfit : limitsFit L ≡ false → (_≡_ {A = Searched} (record { solution = Refused 39; answer = a }) (searchOf L ws n b a)) × (SearchSays L ws n b a (Refused 39) × SearchSound ws n (Refused 39) a)
+  unfolding searchOf
+  unfit e =
+      promised-within (sym (rw (e, searchOf))) record { satisfies = tt; maximal = tt; complete = λ p. absurd (refused-other (omega arith) p); few = λ h. tt }

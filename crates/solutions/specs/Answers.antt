@@ -5,11 +5,11 @@ use mathlib.Core.List.{List, [], _∷_}
 use Prim.Native.Nat.{ℕ}
 use lib.ListN.{length}
 use lib.Dec.{eqb, leb}
-use Rattle.lists.specs.Lists.{all, over, firstFailed}
+use Rattle.lists.specs.Lists.{all, over, firstFailed, stage, Says}
 use Rattle.limits.specs.declared.Limits.{Limits}
 use Rattle.limits.specs.Limits.{limitsFit}
 use Rattle.cnf.specs.Clauses.{clausesIn, whole, clauseFits}
-use Rattle.cnf.specs.Search.{Outcome, solved, none-exists, spent, unfinished, searchFrom}
+use Rattle.cnf.specs.Search.{Outcome, solved, none-exists, spent, unfinished, searchFrom, madeOf}
 use Rattle.pairs.specs.Pairs.{pairs}
 use Rattle.solutions.specs.declared.Solution.{Solution}
 use Rattle.solutions.specs.declared.Solution.the-variants.{Solved, Refused}
@@ -56,3 +56,23 @@ solutionNumber (Refused n) = n
 unfoldable pub solutionValues : Solution → List ℕ
 solutionValues (Solved k) = k ∷ []
 solutionValues (Refused n) = []
+
+-- "12 none exists, where the search ends so by (a); 13 spent, where it ends by (d)"; or 0
+unfoldable pub endNumber : Outcome → ℕ
+endNumber (solved v k) = 0
+endNumber (none-exists k) = 12
+endNumber (spent k) = 13
+endNumber unfinished = 13
+
+-- 39, 11, 14, then 12 or 13; or 0
+unfoldable pub searchingNumber : Limits → List ℕ → ℕ → ℕ → List ℕ → ℕ
+searchingNumber L list variables budget answer =
+    firstFailed
+    ((39, limitsFit L)
+    ∷ stage (searchNumber (pairs (L .states)) list variables answer)
+    ∷ stage (endNumber (searchFrom (clausesIn list) variables budget))
+    ∷ [])
+
+-- the answer by its number and its values
+abbrev pub SearchSays : Limits → List ℕ → ℕ → ℕ → List ℕ → Solution → Type 0
+SearchSays L list variables budget answer r = Says (solutionNumber r) (solutionValues r) (searchingNumber L list variables budget answer) (madeOf (searchFrom (clausesIn list) variables budget) ∷ [])

@@ -7,9 +7,14 @@ use Rattle.cnf.specs.Clauses.{clausesIn, Model, Maximal, Horn}
 use Rattle.solutions.specs.declared.Solution.{Solution}
 use Rattle.solutions.specs.declared.Solution.the-variants.{Solved, Refused}
 
+-- where an assignment was found, of the guesses made
+abbrev pub OnSolved : Solution → (ℕ → Type 0) → Type 0
+OnSolved (Solved k) P = P k
+OnSolved (Refused n) P = Unit {0}
+
 -- of clause words, a number of variables, the answer and the answer bytes at exit
 pub record SearchSound (list : List ℕ) (variables : ℕ) (r : Solution) (answer : List ℕ) : Type 0 where
-  pub satisfies : (k : ℕ) → r ≡ Solved k → Model (clausesIn list) variables (take variables answer)
-  pub maximal : (k : ℕ) → r ≡ Solved k → Maximal (clausesIn list) variables (take variables answer)
+  pub satisfies : OnSolved r (λ k. Model (clausesIn list) variables (take variables answer))
+  pub maximal : OnSolved r (λ k. Maximal (clausesIn list) variables (take variables answer))
   pub complete : r ≡ Refused 12 → (a : List ℕ) → Model (clausesIn list) variables a → ⊥
-  pub few : Horn (clausesIn list) → (k : ℕ) → r ≡ Solved k → k ≤ variables
+  pub few : Horn (clausesIn list) → OnSolved r (λ k. k ≤ variables)

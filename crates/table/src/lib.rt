@@ -9,7 +9,7 @@ ghost use Rattle.lists.specs.Lists.{any, all, firstFailed};
 ghost use Rattle.limits.specs.Limits.{standard, limitsFit};
 ghost use Rattle.format.specs.Limits.{longest};
 ghost use Rattle.format.specs.File.{word16, version, records, tableOf};
-ghost use Rattle.format.specs.Reading.{versionFits, distancesFit, countsFit, stateByteMost, bytesFit, isInitial, recordFits, recordsFit, ascend, orderFits, tableTests, startsOf, readOf};
+ghost use Rattle.format.specs.Reading.{versionFits, distancesFit, countsFit, stateByteMost, bytesFit, isInitial, recordFits, recordsFit, ascend, orderFits, tableTests, startsOf, readOf, ReadSays};
 ghost use Rattle.table.specs.Sections.{sectioned};
 use format::Reading;
 use format::Starts;
@@ -371,6 +371,7 @@ fn read_fit(limits: Limits, table: &[u8]) -> Reading
 // Reads a table at limits: the five section starts, or the first refusal that applies.
 pub fn read_within(limits: Limits, table: &[u8]) -> Reading
     ensures answers { λ r. ⌜ r ≡ readOf limits (now (table .entry)) ⌝ }
+    ensures number { λ r. ⌜ ReadSays limits (now (table .entry)) r ⌝ }
 {
     if !limits_fit(limits) {
         return Reading::Refused(39);
@@ -381,6 +382,7 @@ pub fn read_within(limits: Limits, table: &[u8]) -> Reading
 // Reads a table at the limits of a caller that gives none.
 pub fn read(table: &[u8]) -> Reading
     ensures answers { λ r. ⌜ r ≡ readOf standard (now (table .entry)) ⌝ }
+    ensures number { λ r. ⌜ ReadSays standard (now (table .entry)) r ⌝ }
 {
     read_within(limits::standard(), table)
 }

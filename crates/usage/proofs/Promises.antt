@@ -1,16 +1,16 @@
 -- The numbers and answers of src/, one law for each way to a return, and what an answer promises. Assumes nothing.
 use mathlib.Core.Path.{_≡_, refl, sym, ap, _∙_, subst}
-use mathlib.Core.Bool.{Bool, true, false, _&&_}
+use mathlib.Core.Bool.{true, false, _&&_}
 use mathlib.Core.List.{List, [], _∷_, map, List·Memᴰ}
 use Prim.Native.Nat.{ℕ, _/_, _%_, _*_, _≤_, _<_}
 use native.Mathlib.Omega.{arith}
 use native.Mathlib.Decide.{decLt}
 use lib.ListN.{length, getD, List·getD-eq-default}
 use lib.Dec.{eqb, leb, ltb}
-use borrow.Author.Tests.{eqb-true, eqb-false, eq-eqb, ne-eqb, leb-true, le-leb, lt-leb, ltb-true}
-use Rattle.lists.specs.Lists.{upto, firstFailed, sum}
+use borrow.Author.Tests.{eqb-true, eq-eqb, ne-eqb, leb-true, le-leb, lt-leb, ltb-true}
+use Rattle.lists.specs.Lists.{upto, firstFailed, stage, sum}
 use Rattle.lists.proofs.Members.{and-true, all-true, zeros}
-use Rattle.lists.proofs.Refusals.{passed, passes, fails, no-test}
+use Rattle.lists.proofs.Refusals.{passed, passes, fails, no-test, stage-passes, stage-fails, stage-passed, by-number}
 use Rattle.limits.specs.declared.Limits.{Limits}
 use Rattle.limits.specs.Limits.{stateMost}
 use Rattle.format.specs.File.{tableOf}
@@ -23,7 +23,7 @@ use Rattle.relations.proofs.Accepted.{accepted}
 use Rattle.relations.proofs.Numbered.{class-below, classes-few, class-under}
 use Rattle.usage.specs.declared.Counted.{Counted}
 use Rattle.usage.specs.Uses.{Line, linesOf, usesIn, classSum, stateSum, classSums, linesFit, statesFit, linesTests, usesNumber, counted, refusedBy, answerBy, usesOf}
-use Rattle.usage.specs.Demands.{AnyOrder, ByStates, ZeroPast, Fits}
+use Rattle.usage.specs.Demands.{AnyOrder, ByStates, MakeTotal, ZeroPast, Fits, Promises}
 use Rattle.usage.proofs.Sums.{sum-no-part, by-key, by-every-key, any-order, all-any-order, total-any-order, length-sums, sum-at}
 
 -- ---- 32 and 33
@@ -100,14 +100,12 @@ module _ (L : Limits) (b m s : List ℕ) where
   pub uses-refused : {k : ℕ} → checkNumber L b m ≡ k → (k ≡ 0 → ⊥) → refusedBy k ≡ usesOf L b m s
   unfolding usesOf usesNumber
   uses-refused {k} e h =
-      let n : usesNumber L b m s ≡ k = rw (ne-eqb (checkNumber L b m) 0 (λ z. h (sym e ∙ z)), usesNumber) e in
-      answer-refused m s h ∙ ap (λ j. answerBy j m s) (sym n)
+      answer-refused m s h ∙ ap (λ j. answerBy j m s) (sym (stage-fails _ _ e h))
 
   pub uses-accepted : checkNumber L b m ≡ 0 → answerBy (firstFailed (linesTests (length m) s)) m s ≡ usesOf L b m s
   unfolding usesOf usesNumber
   uses-accepted e =
-      let n : usesNumber L b m s ≡ firstFailed (linesTests (count (tableOf b)) s) = rw (eq-eqb (checkNumber L b m) 0 e, usesNumber) in
-      ap (λ k. answerBy (firstFailed (linesTests k s)) m s) (map-long L b m e) ∙ ap (λ j. answerBy j m s) (sym n)
+      ap (λ k. answerBy (firstFailed (linesTests k s)) m s) (map-long L b m e) ∙ ap (λ j. answerBy j m s) (sym (stage-passes _ _ e))
 
   same-order : AnyOrder L b m s (usesOf L b m s)
   unfolding usesOf usesNumber answerBy counted classSums classSum linesTests linesFit statesFit
@@ -116,7 +114,7 @@ module _ (L : Limits) (b m s : List ℕ) where
       let tests : linesTests n other ≡ linesTests n s =
       λ i. (32, eqb (l i % 5) 0 && leb (l i / 5) 65536) ∷ (33, sym (all-any-order (λ x. ltb (x .state) n) p) i) ∷ [] in
       let number : usesNumber L b m other ≡ usesNumber L b m s =
-      ap (λ ts. elim (eqb (checkNumber L b m) 0) as (λ _. ℕ) [ true ↦ firstFailed ts | false ↦ checkNumber L b m ]) tests in
+      ap (λ ts. firstFailed (stage (checkNumber L b m) ∷ ts)) tests in
       let counts : counted m other ≡ counted m s =
       λ i. record { number = 0; sums = map (λ c. sym (any-order (λ x. eqb (classOf m (x .state)) c) p) i) (upto stateMost); total = sym (total-any-order p) i } in
       λ i. elim (eqb (number i) 0) as (λ _. Counted) [ true ↦ counts i | false ↦ refusedBy (number i) ]
@@ -124,13 +122,7 @@ module _ (L : Limits) (b m s : List ℕ) where
   module _ (z : usesNumber L b m s ≡ 0) where
     nothing-refused : (checkNumber L b m ≡ 0) × (firstFailed (linesTests (count (tableOf b)) s) ≡ 0)
     unfolding usesNumber
-    nothing-refused = go (eqb (checkNumber L b m) 0) refl z
-      where
-        go : (t : Bool) → eqb (checkNumber L b m) 0 ≡ t
-            → _≡_ {A = ℕ} (elim t [ true ↦ firstFailed (linesTests (count (tableOf b)) s) | false ↦ checkNumber L b m ]) 0
-            → (checkNumber L b m ≡ 0) × (firstFailed (linesTests (count (tableOf b)) s) ≡ 0)
-        go true p e = (eqb-true _ _ p, e)
-        go false p e = absurd (eqb-false (checkNumber L b m) 0 p e)
+    nothing-refused = stage-passed _ _ z
 
     below : (l : Line) → List·Memᴰ l (linesOf s) → l .state < count (tableOf b)
     below = states-below _ _ (nothing-refused .1)
@@ -158,22 +150,21 @@ module _ (L : Limits) (b m s : List ℕ) where
         go (no l) = List·getD-eq-default (classSums m (linesOf s)) 0 {n = c} (omega (arith, length-sums m (linesOf s)))
 
   -- what holds of an answer, counted or refused
-  Kept : Counted → Type 0
-  Kept r = ByStates b m s r × ((sum (r .sums) ≡ r .total) × ZeroPast m r)
+  abbrev Kept : Counted → Type 0
+  Kept r = ByStates b m s r × MakeTotal r × ZeroPast m r
 
   kept : Kept (usesOf L b m s)
-  unfolding Kept usesOf answerBy refusedBy sum counted
-  kept = go (eqb (usesNumber L b m s) 0) refl
-    where
-      go : (t : Bool) → eqb (usesNumber L b m s) 0 ≡ t → Kept (elim t as (λ _. Counted) [ true ↦ counted m s | false ↦ refusedBy (usesNumber L b m s) ])
-      go true p = let z = eqb-true (usesNumber L b m s) 0 p in (by-states z, (sums-total z, none-past z))
-      go false p =
-          let never = eqb-false (usesNumber L b m s) 0 p in
-          (record { classes = λ e. absurd (never e); total = λ e. absurd (never e) }, (refl, λ c h. zeros stateMost c))
+  unfolding usesOf answerBy refusedBy sum counted
+  kept =
+      by-number
+      _
+      _
+      _
+      Kept
+      (λ z. (by-states z, sums-total z, none-past z))
+      (λ n. (record { classes = λ e. absurd (n e); total = λ e. absurd (n e) }, refl, λ c h. zeros stateMost c))
 
-  pub promised : {r : Counted} → r ≡ usesOf L b m s → Fits r
-      → (r ≡ usesOf L b m s) × (AnyOrder L b m s r × (ByStates b m s r × ((sum (r .sums) ≡ r .total) × (ZeroPast m r × Fits r))))
-  unfolding Kept
+  pub promised : {r : Counted} → r ≡ usesOf L b m s → Fits r → (r ≡ usesOf L b m s) × Promises L b m s r
   promised {r} e f =
       let k = subst Kept (sym e) kept in
-      (e, ((λ other l p. same-order other l p ∙ sym e), (k .0, (k .1 .0, (k .1 .1, f)))))
+      (e, record { order = λ other l p. same-order other l p ∙ sym e; states = k .0; total = k .1; past = k .2; fits = f })

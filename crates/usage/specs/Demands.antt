@@ -31,3 +31,15 @@ ZeroPast m r = (c : ℕ) → classes m ≤ c → getD (r .sums) c 0 ≡ 0
 pub record Fits (r : Counted) : Type 0 where
   pub total : r .total ≤ 65536 * 4294967295
   pub sums : (c : ℕ) → getD (r .sums) c 0 ≤ r .total
+
+-- "the class sums make the grand total"
+abbrev pub MakeTotal : Counted → Type 0
+MakeTotal r = sum (r .sums) ≡ r .total
+
+-- all of it, of one answer
+pub record Promises (L : Limits) (b m s : List ℕ) (r : Counted) : Type 0 where
+  pub order : AnyOrder L b m s r
+  pub states : ByStates b m s r
+  pub total : MakeTotal r
+  pub past : ZeroPast m r
+  pub fits : Fits r

@@ -4,7 +4,7 @@ use mathlib.Core.List.{List, [], _∷_, _++_, map}
 use Prim.Native.Nat.{ℕ, _+_, _*_, _/_, _%_}
 use lib.ListN.{length, getD, replicate}
 use lib.Dec.{eqb, leb, ltb}
-use Rattle.lists.specs.Lists.{all, keep, upto, sum, firstFailed}
+use Rattle.lists.specs.Lists.{all, keep, upto, sum, firstFailed, stage}
 use Rattle.limits.specs.declared.Limits.{Limits}
 use Rattle.limits.specs.Limits.{stateMost}
 use Rattle.format.specs.File.{records, tableOf}
@@ -55,10 +55,7 @@ linesTests n s = (32, linesFit s) ∷ (33, statesFit n s) ∷ []
 
 -- "those of the check, then 32 .., 33"; or 0
 unfoldable pub usesNumber : Limits → List ℕ → List ℕ → List ℕ → ℕ
-usesNumber L b m s = elim (eqb (checkNumber L b m) 0) [
-  | true ↦ firstFailed (linesTests (count (tableOf b)) s)
-  | false ↦ checkNumber L b m
-]
+usesNumber L b m s = firstFailed (stage (checkNumber L b m) ∷ linesTests (count (tableOf b)) s)
 
 -- the sums, then "the grand total"
 unfoldable pub counted : List ℕ → List ℕ → Counted

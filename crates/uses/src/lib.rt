@@ -2,11 +2,11 @@
 ghost use mathlib.Core.Path.{_≡_};
 ghost use Prim.Native.Nat.{ℕ, _*_, _<_, _≤_};
 ghost use lib.ListN.{length};
-ghost use Rattle.lists.specs.Lists.{sum, firstFailed};
+ghost use Rattle.lists.specs.Lists.{firstFailed};
 ghost use Rattle.limits.specs.Limits.{standard};
 ghost use Rattle.format.specs.Maps.{classOf};
 ghost use Rattle.usage.specs.Uses.{lineOf, statesFit, linesTests, counted, refusedBy, answerBy, usesOf};
-ghost use Rattle.usage.specs.Demands.{AnyOrder, ByStates, ZeroPast, Fits};
+ghost use Rattle.usage.specs.Demands.{Fits, Promises};
 use limits::Limits;
 use relations::Checked;
 use usage::Counted;
@@ -128,11 +128,7 @@ fn uses_under(map: &[u8], lines: &[u8]) -> Counted
 // Adds up the use counts of lines by the classes of a map, of a table that is read at limits; or the first refusal that applies.
 pub fn uses_within(limits: Limits, table: &[u8], map: &[u8], lines: &[u8]) -> Counted
     ensures answers { λ r. ⌜ r ≡ usesOf limits (now (table .entry)) (now (map .entry)) (now (lines .entry)) ⌝ }
-    ensures order { λ r. ⌜ AnyOrder limits (now (table .entry)) (now (map .entry)) (now (lines .entry)) r ⌝ }
-    ensures states { λ r. ⌜ ByStates (now (table .entry)) (now (map .entry)) (now (lines .entry)) r ⌝ }
-    ensures total { λ r. ⌜ sum (r .sums) ≡ r .total ⌝ }
-    ensures past { λ r. ⌜ ZeroPast (now (map .entry)) r ⌝ }
-    ensures fits { λ r. ⌜ Fits r ⌝ }
+    ensures promises { λ r. ⌜ Promises limits (now (table .entry)) (now (map .entry)) (now (lines .entry)) r ⌝ }
 {
     let checked = maps::check_within(limits, table, map);
     match checked {
@@ -144,11 +140,7 @@ pub fn uses_within(limits: Limits, table: &[u8], map: &[u8], lines: &[u8]) -> Co
 // Adds up the use counts of lines by class, at the limits of a caller that gives none.
 pub fn uses(table: &[u8], map: &[u8], lines: &[u8]) -> Counted
     ensures answers { λ r. ⌜ r ≡ usesOf standard (now (table .entry)) (now (map .entry)) (now (lines .entry)) ⌝ }
-    ensures order { λ r. ⌜ AnyOrder standard (now (table .entry)) (now (map .entry)) (now (lines .entry)) r ⌝ }
-    ensures states { λ r. ⌜ ByStates (now (table .entry)) (now (map .entry)) (now (lines .entry)) r ⌝ }
-    ensures total { λ r. ⌜ sum (r .sums) ≡ r .total ⌝ }
-    ensures past { λ r. ⌜ ZeroPast (now (map .entry)) r ⌝ }
-    ensures fits { λ r. ⌜ Fits r ⌝ }
+    ensures promises { λ r. ⌜ Promises standard (now (table .entry)) (now (map .entry)) (now (lines .entry)) r ⌝ }
 {
     uses_within(limits::standard(), table, map, lines)
 }

@@ -47,7 +47,7 @@ map-room c = omega (arith, c .state-count .ensures .0, c .before .before .before
 checked : (c : tie.After-state-count) → (c .state-count .result ≡ count (tableOf (c .before .before .before .before .before .before .before .before .before .before .before .before .before .before .args .table .now))) × (checkNumber widest (c .before .before .before .before .before .before .before .before .before .before .before .before .before .before .args .table .now) (take (c .state-count .result) (c .before .before .before .before .before .before .before .reduce-within .last .1 .1 .1 .1 .0)) ≡ 0)
 checked c =
     let b = c .before .before .before .before .before .before .before .before .before .before .before .before .before .before .args .table .now in
-    map-checked widest b _ (c .state-count .ensures .1) (delivered-checked widest b _ (c .before .before .answer .given .1) (rw (c .before .before .before .before .before .before .before .before .before .before .before .widest .ensures) at (c .before .before .before .before .before .before .before .reduce-within .ensures .1 .1 .1 .0)))
+    map-checked widest b _ (c .state-count .ensures .1) (delivered-checked widest b _ (c .before .before .answer .given .1) (rw (c .before .before .before .before .before .before .before .before .before .before .before .widest .ensures) at (c .before .before .before .before .before .before .before .reduce-within .ensures .1 .1 .checked)))
 
 put-counts-requires : tie.Need-put-counts-requires
 put-counts-requires c κs = search needs

@@ -26,13 +26,13 @@ enum-told c = search needs
 returns : tie.Need-returns
 returns c =
     let b = c .before .before .before .before .before .before .before .args .table .now in
-    let e = rw (c .before .before .before .before .before .widest .ensures) at (c .before .before .before .before .read-within .ensures) in
+    let e = rw (c .before .before .before .before .before .widest .ensures) at (c .before .before .before .before .read-within .ensures .0) in
     let h = read-as widest b _ (sym e ∙ c .before .before .reading .given .1) in
     (omega (arith, states-count h (c .part .ensures), states-few widest b (h .readable)), λ _. states-count h (c .part .ensures))
 
 returns-2 : tie.Need-returns-2
 returns-2 c =
-    let e = rw (c .before .before .before .widest .ensures) at (c .before .before .read-within .ensures) in
+    let e = rw (c .before .before .before .widest .ensures) at (c .before .before .read-within .ensures .0) in
     let r = read-refused widest (c .before .before .before .before .before .args .table .now) _ (sym e ∙ c .enum-told .given .1) in
     (omega arith, λ e. absurd (r .1 (sym (r .0) ∙ e)))
 

@@ -33,14 +33,14 @@ unfolding readOut readingNumber readingValues
 returns c =
     let f = c .before .before .before .before .before .before .reading .given .1 in
     answered _ (ap readingNumber f) (ap readingValues f) (c .before .before .store .ensures)
-    ∙ ap (readOut _) (c .before .before .before .before .before .before .before .before .read-within .ensures)
+    ∙ ap (readOut _) (c .before .before .before .before .before .before .before .before .read-within .ensures .0)
 
 returns-2 : tie.Need-returns-2
 unfolding readOut readingNumber readingValues
 returns-2 c =
     let f = c .before .reading2 .given .1 in
     refused _ (ap readingNumber f) (ap readingValues f)
-    ∙ ap (readOut _) (c .before .before .before .read-within .ensures)
+    ∙ ap (readOut _) (c .before .before .before .read-within .ensures .0)
 
 pub basilvault-read-within-spec : {M : Type 1} → statement M
 basilvault-read-within-spec =

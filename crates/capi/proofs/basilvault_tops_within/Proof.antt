@@ -15,7 +15,7 @@ enum-known-reading : tie.Need-enum-known-reading
 enum-known-reading c = search needs
 
 returns : tie.Need-returns
-returns c = tops-short _ _ _ (sym (c .before .before .reading .given .1) ∙ c .before .before .before .before .read-within .ensures) (c .if1 .taken)
+returns c = tops-short _ _ _ (sym (c .before .before .reading .given .1) ∙ c .before .before .before .before .read-within .ensures .0) (c .if1 .taken)
 
 slice-relend-prefix-tops-read : tie.Need-slice-relend-prefix-tops-read
 slice-relend-prefix-tops-read c = search needs
@@ -24,7 +24,7 @@ slice-aggregate-tops-read : tie.Need-slice-aggregate-tops-read
 slice-aggregate-tops-read c = sym (length-take-le 40 (c .before .before .before .before .before .before .before .before .args .values .now) (omega (arith, c .before .if1 .left)))
 
 tops-read-requires : tie.Need-tops-read-requires
-tops-read-requires c κs = (read-handed _ _ (sym (c .before .before .before .reading .given .1) ∙ c .before .before .before .before .before .read-within .ensures), length-take-le 40 (c .before .before .before .before .before .before .before .before .args .values .now) (omega (arith, c .before .if1 .left)))
+tops-read-requires c κs = (read-handed _ _ (sym (c .before .before .before .reading .given .1) ∙ c .before .before .before .before .before .read-within .ensures .0), length-take-le 40 (c .before .before .before .before .before .before .before .before .args .values .now) (omega (arith, c .before .if1 .left)))
 
 cast-values : tie.Need-cast-values
 cast-values c = search needs
@@ -42,10 +42,10 @@ same-length : tie.Need-same-length
 same-length c = search needs
 
 returns-2 : tie.Need-returns-2
-returns-2 c = tops-stored _ _ _ (sym (c .before .before .before .before .before .before .reading .given .1) ∙ c .before .before .before .before .before .before .before .before .read-within .ensures) (omega (arith, c .before .before .before .before .if1 .left)) (c .before .before .tops-read .ensures) refl
+returns-2 c = tops-stored _ _ _ (sym (c .before .before .before .before .before .before .reading .given .1) ∙ c .before .before .before .before .before .before .before .before .read-within .ensures .0) (omega (arith, c .before .before .before .before .if1 .left)) (c .before .before .tops-read .ensures) refl
 
 returns-3 : tie.Need-returns-3
-returns-3 c = tops-none _ _ _ (sym (c .before .reading2 .given .1) ∙ c .before .before .before .read-within .ensures)
+returns-3 c = tops-none _ _ _ (sym (c .before .reading2 .given .1) ∙ c .before .before .before .read-within .ensures .0)
 
 pub basilvault-tops-within-spec : {M : Type 1} → statement M
 basilvault-tops-within-spec =

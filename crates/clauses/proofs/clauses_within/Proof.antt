@@ -1,7 +1,7 @@
 -- `clauses::clauses_within` meets its contract: reading first, then the list. Assumes nothing.
 use mathlib.Core.Path.{_∙_}
 use Rattle.maps.proofs.Checking.{read-known, read-readable}
-use Rattle.encoding.proofs.Theorems.{sound-of}
+use Rattle.encoding.proofs.Theorems.{promised}
 use Rattle.clauses.proofs.Whole.{listed, unread}
 use borrow.Author.Needs.{needs}
 use Rattle.clauses.proofs.clauses_within.Statement.{statement}
@@ -11,7 +11,7 @@ examine-requires : tie.Need-examine-requires
 examine-requires c κs = search needs
 
 returns : tie.Need-returns
-returns c = let e = unread _ (c .before .before .before .before .before .args .table .now) (c .before .before .examine .ensures) (c .before .before .before .before .before .args .list .now) (c .if1 .taken) in (e, sound-of _ (c .before .before .before .before .before .args .table .now) (c .before .before .before .before .before .args .list .now) e)
+returns c = promised _ (c .before .before .before .before .before .args .table .now) (c .before .before .before .before .before .args .list .now) (unread _ (c .before .before .before .before .before .args .table .now) (c .before .before .examine .ensures) (c .before .before .before .before .before .args .list .now) (c .if1 .taken))
 
 list-read-requires : tie.Need-list-read-requires
 list-read-requires c κs = read-known _ _ (c .before .before .before .before .before .before .examine .ensures) (c .before .before .before .before .if1 .left)
@@ -24,8 +24,7 @@ returns-2 c =
     let b = c .before .before .before .before .before .before .before .before .before .before .before .before .args .table .now in
     let list = c .before .before .before .before .before .before .before .before .before .before .before .before .args .list .now in
     let k = read-readable _ b (c .before .before .before .before .before .before .before .before .before .examine .ensures) (c .before .before .before .before .before .before .before .if1 .left) in
-    let e = c .before .before .list-read .ensures ∙ listed _ b k list in
-    (e, sound-of _ b list e)
+    promised _ b list (c .before .before .list-read .ensures ∙ listed _ b k list)
 
 pub clauses-within-spec : {M : Type 1} → statement M
 clauses-within-spec =

@@ -14,7 +14,7 @@ enum-known-reading : tie.Need-enum-known-reading
 enum-known-reading c = search needs
 
 fit-second-requires : tie.Need-fit-second-requires
-fit-second-requires c κs = read-as _ _ _ (sym (c .before .before .before .read .ensures) ∙ c .before .reading .given .1)
+fit-second-requires c κs = read-as _ _ _ (sym (c .before .before .before .read .ensures .0) ∙ c .before .reading .given .1)
 
 enum-known-reading-2 : tie.Need-enum-known-reading-2
 enum-known-reading-2 c = search needs
@@ -24,7 +24,7 @@ returns c = promised _ _ (c .fit-second .ensures)
 
 returns-2 : tie.Need-returns-2
 returns-2 c =
-    let n = read-refused _ _ _ (sym (c .before .before .before .read .ensures) ∙ c .before .reading2 .given .1) in
+    let n = read-refused _ _ _ (sym (c .before .before .before .read .ensures .0) ∙ c .before .reading2 .given .1) in
     promised _ _ (first-refused _ _ (n .0) (n .1))
 
 pub fit-spec : {M : Type 1} → statement M

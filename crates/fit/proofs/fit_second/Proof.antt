@@ -13,7 +13,7 @@ enum-known-reading : tie.Need-enum-known-reading
 enum-known-reading c = search needs
 
 fit-both-requires : tie.Need-fit-both-requires
-fit-both-requires c κs = record { first = c .before .before .before .before .before .before .pre; second = read-as _ _ _ (sym (c .before .before .before .read .ensures) ∙ c .before .reading .given .1) }
+fit-both-requires c κs = record { first = c .before .before .before .before .before .before .pre; second = read-as _ _ _ (sym (c .before .before .before .read .ensures .0) ∙ c .before .reading .given .1) }
 
 enum-known-reading-2 : tie.Need-enum-known-reading-2
 enum-known-reading-2 c = search needs
@@ -23,7 +23,7 @@ returns c = search needs
 
 returns-2 : tie.Need-returns-2
 returns-2 c =
-    let n = read-refused _ _ _ (sym (c .before .before .before .read .ensures) ∙ c .before .reading2 .given .1) in
+    let n = read-refused _ _ _ (sym (c .before .before .before .read .ensures .0) ∙ c .before .reading2 .given .1) in
     second-refused _ _ (c .before .before .before .before .before .before .pre .readable) (n .0) (n .1)
 
 pub fit-second-spec : {M : Type 1} → statement M

@@ -1,6 +1,7 @@
 -- `quotient::quotient_within` meets its contract: refused by reading, or as a table that was read. Assumes nothing.
 use Rattle.maps.proofs.Checking.{read-readable, read-known, unread}
-use Rattle.quotient.proofs.Quotienting.{quotient-refused, quotiented}
+use Rattle.quotients.proofs.Theorems.{promised}
+use Rattle.quotient.proofs.Quotienting.{quotient-refused}
 use borrow.Author.Needs.{needs}
 use Rattle.quotient.proofs.quotient_within.Statement.{statement}
 use Rattle.quotient.proofs.quotient_within.Tie as tie
@@ -9,7 +10,7 @@ examine-requires : tie.Need-examine-requires
 examine-requires c κs = search needs
 
 returns : tie.Need-returns
-returns c = quotiented _ _ _ _ (quotient-refused _ _ _ _ (unread _ _ _ (c .before .before .examine .ensures) (c .if1 .taken)) (c .if1 .taken))
+returns c = promised _ _ _ _ (quotient-refused _ _ _ _ (unread _ _ _ (c .before .before .examine .ensures) (c .if1 .taken)) (c .if1 .taken))
 
 slice-aggregate-quotient-known : tie.Need-slice-aggregate-quotient-known
 slice-aggregate-quotient-known c = search needs
@@ -23,7 +24,7 @@ same-length c = search needs
 returns-2 : tie.Need-returns-2
 returns-2 c =
     let readable = read-readable _ _ (c .before .before .before .before .before .before .before .before .before .examine .ensures) (c .before .before .before .before .before .before .before .if1 .left) in
-    quotiented _ _ _ _ (c .before .before .quotient-known .ensures _ readable)
+    promised _ _ _ _ (c .before .before .quotient-known .ensures _ readable)
 
 pub quotient-within-spec : {M : Type 1} → statement M
 quotient-within-spec = tie.close (tie.spec examine-requires returns slice-aggregate-quotient-known quotient-known-requires same-length returns-2)

@@ -19,10 +19,10 @@ enum-told : tie.Need-enum-told
 enum-told c = search needs
 
 returns : tie.Need-returns
-returns c = let h = read-as _ _ _ (sym (c .before .before .before .before .read-within .ensures) ∙ c .before .before .reading .given .1) in λ _. states-count h (c .part .ensures)
+returns c = let h = read-as _ _ _ (sym (c .before .before .before .before .read-within .ensures .0) ∙ c .before .before .reading .given .1) in λ _. states-count h (c .part .ensures)
 
 returns-2 : tie.Need-returns-2
-returns-2 c = let r = read-refused _ _ _ (sym (c .before .before .read-within .ensures) ∙ c .enum-told .given .1) in λ e. absurd (r .1 (sym (r .0) ∙ e))
+returns-2 c = let r = read-refused _ _ _ (sym (c .before .before .read-within .ensures .0) ∙ c .enum-told .given .1) in λ e. absurd (r .1 (sym (r .0) ∙ e))
 
 pub state-count-spec : {M : Type 1} → statement M
 state-count-spec =

@@ -2,6 +2,7 @@
 use mathlib.Core.Path.{sym, _∙_}
 use borrow.Author.Needs.{needs}
 use borrow.Author.Tests.{not-true, not-false}
+use Rattle.format.proofs.Passed.{read-promised}
 use Rattle.table.proofs.Numbers.{limits-refused}
 use Rattle.table.proofs.read_within.Statement.{statement}
 use Rattle.table.proofs.read_within.Tie as tie
@@ -10,13 +11,13 @@ limits-fit-requires : tie.Need-limits-fit-requires
 limits-fit-requires c κs = search needs
 
 returns : tie.Need-returns
-returns c = limits-refused _ _ (sym (c .before .limits-fit .ensures) ∙ not-true _ (c .if1 .taken))
+returns c = read-promised _ _ (limits-refused _ _ (sym (c .before .limits-fit .ensures) ∙ not-true _ (c .if1 .taken)))
 
 read-fit-requires : tie.Need-read-fit-requires
 read-fit-requires c κs = sym (c .before .limits-fit .ensures) ∙ not-false _ (c .if1 .left)
 
 returns-2 : tie.Need-returns-2
-returns-2 c = c .read-fit .ensures
+returns-2 c = read-promised _ _ (c .read-fit .ensures)
 
 pub read-within-spec : {M : Type 1} → statement M
 read-within-spec = tie.close (tie.spec limits-fit-requires returns read-fit-requires returns-2)

@@ -15,16 +15,16 @@ slice-aggregate-tops-read : tie.Need-slice-aggregate-tops-read
 slice-aggregate-tops-read c = search needs
 
 tops-read-requires : tie.Need-tops-read-requires
-tops-read-requires c κs = (read-handed _ _ (sym (c .before .before .reading .given .1) ∙ c .before .before .before .before .read-within .ensures), refl)
+tops-read-requires c κs = (read-handed _ _ (sym (c .before .before .reading .given .1) ∙ c .before .before .before .before .read-within .ensures .0), refl)
 
 enum-known-reading-2 : tie.Need-enum-known-reading-2
 enum-known-reading-2 c = search needs
 
 returns : tie.Need-returns
-returns c = examined _ _ (sym (c .before .before .before .before .reading .given .1) ∙ c .before .before .before .before .before .before .read-within .ensures) (c .before .tops-read .ensures)
+returns c = examined _ _ (sym (c .before .before .before .before .reading .given .1) ∙ c .before .before .before .before .before .before .read-within .ensures .0) (c .before .tops-read .ensures)
 
 returns-2 : tie.Need-returns-2
-returns-2 c = examined-refused _ _ (sym (c .before .reading2 .given .1) ∙ c .before .before .before .read-within .ensures)
+returns-2 c = examined-refused _ _ (sym (c .before .reading2 .given .1) ∙ c .before .before .before .read-within .ensures .0)
 
 pub examine-spec : {M : Type 1} → statement M
 examine-spec =
