@@ -1,9 +1,6 @@
-pub mod Walking
-pub mod Asking
 pub mod Passing
 pub mod Sifting
 pub mod Lightening
-pub mod Linking
-pub mod Looking
+pub mod Falling
 pub mod Attending
 pub mod Settling

@@ -17,12 +17,12 @@ use Rattle.cnf.specs.Search.{isRight, isUnset}
 use Rattle.cnf.specs.Closing.{Formed, _⊑_, Settled, holds, waits, AtRest}
 use Rattle.cnf.proofs.Values.{set-cases}
 use Rattle.cnf.proofs.Found.{right-is}
-use Rattle.propagate.specs.Asked.{Over}
-use Rattle.propagate.specs.Chains.{clauseAt}
+use Rattle.asking.specs.Asked.{Over}
+use Rattle.asking.specs.Asked.{clauseAt}
 use Rattle.rows.specs.Conclusions.{saying}
 use Rattle.propagate.specs.Sift.{StandsAt, Left, units, unheld, lightened, SetIn, AllSet, Written}
 use Rattle.rows.specs.Trail.{unsetting}
-use Rattle.propagate.proofs.Walking.{clause-words}
+use Rattle.asking.proofs.Walking.{clause-words}
 use Rattle.propagate.proofs.Sifting.{any-more}
 
 -- ---- members of a mapped list

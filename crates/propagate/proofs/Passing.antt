@@ -12,9 +12,9 @@ use Rattle.cnf.specs.Closing.{SettledOr}
 use Rattle.rows.specs.Trail.{Ready, Worked, Passed}
 use Rattle.rows.specs.Rows.{Forced}
 use Rattle.rows.proofs.Working.{worked-none, asked-quiet, asked-below, worked-broken, worked-store, store-keeps, store-own}
-use Rattle.propagate.specs.Chains.{clauseAt}
-use Rattle.propagate.proofs.Walking.{Before, before-first, before-next, end-inside, none-left, clause-in, clause-cases}
-use Rattle.propagate.proofs.Asking.{Within, within}
+use Rattle.asking.specs.Asked.{clauseAt}
+use Rattle.asking.proofs.Walking.{Before, before-first, before-next, end-inside, none-left, clause-in, clause-cases}
+use Rattle.asking.proofs.Asking.{Within, within}
 
 -- before the clause at `at`: v₀ and t₀ were the values and the trail where the pass began
 pub record Passing (ws v₀ t₀ : List ℕ) (start : ℕ) (v t : List ℕ) (count at : ℕ) : Type 0 where

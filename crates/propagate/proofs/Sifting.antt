@@ -14,11 +14,11 @@ use Rattle.cnf.specs.Clauses.{clausesIn, whole, Right}
 use Rattle.cnf.specs.Search.{isRight, broken, forcing, seen}
 use Rattle.cnf.specs.Closing.{_⊑_}
 use Rattle.cnf.proofs.Found.{right-is, right-of}
-use Rattle.propagate.specs.Chains.{clauseAt}
+use Rattle.asking.specs.Asked.{clauseAt}
 use Rattle.propagate.specs.Sift.{StandsAt, Sifts}
 use Rattle.rows.specs.Trail.{Ready, Worked}
 use Rattle.rows.specs.Rows.{Forced}
-use Rattle.propagate.proofs.Walking.{Before, before-first, before-next, end-inside, none-left, clause-in, clause-cases}
+use Rattle.asking.proofs.Walking.{Before, before-first, before-next, end-inside, none-left, clause-in, clause-cases}
 use Rattle.rows.proofs.Working.{worked-none, worked-broken, worked-store, forced-literal}
 
 -- ---- a right literal stays right

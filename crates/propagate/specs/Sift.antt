@@ -9,7 +9,7 @@ use Rattle.lists.specs.Lists.{any, keep}
 use Rattle.cnf.specs.Clauses.{valueOf, clausesIn, wordsOf}
 use Rattle.cnf.specs.Search.{isRight}
 use Rattle.cnf.specs.Closing.{Formed}
-use Rattle.propagate.specs.Chains.{clauseAt}
+use Rattle.asking.specs.Asked.{clauseAt}
 use Rattle.rows.specs.Conclusions.{saying}
 use Rattle.rows.specs.Trail.{Worked}
 

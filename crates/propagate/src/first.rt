@@ -8,14 +8,14 @@ ghost use Rattle.lists.specs.Lists.{any};
 ghost use Rattle.cnf.specs.Clauses.{valueOf, clausesIn, whole};
 ghost use Rattle.cnf.specs.Search.{isRight};
 ghost use Rattle.pairs.specs.Entries.{PairTable};
-ghost use Rattle.propagate.specs.Asked.{Over};
+ghost use Rattle.asking.specs.Asked.{Over};
 ghost use Rattle.rows.specs.Conclusions.{saying};
 ghost use Rattle.rows.specs.Rows.{Rows};
 ghost use Rattle.propagate.specs.Sift.{Sifts, SetIn, AllSet, units, lightened, Lightens, Written};
 ghost use Rattle.rows.specs.Trail.{Ready};
-use super::passes::Asked;
-use super::passes::ask;
-use super::passes::is_right;
+use asking::Asked;
+use asking::ask;
+use asking::is_right;
 use rows::force;
 use rows::wide;
 
@@ -53,7 +53,7 @@ pub fn sift(
         at = first + wide(list[start]);
         let said = ask(&list[first..at], values);
         match said {
-            Asked::Holding => {
+            Asked::Holding(_) => {
                 continue 'clauses;
             }
             Asked::Broken => {
@@ -63,11 +63,20 @@ pub fn sift(
                     kept,
                 };
             }
-            Asked::Forcing(l) => {
-                count = force(n, table, l, values, trail, joined, apart, count);
+            Asked::Forcing(i) => {
+                count = force(
+                    n,
+                    table,
+                    list[first + i],
+                    values,
+                    trail,
+                    joined,
+                    apart,
+                    count,
+                );
                 continue 'clauses;
             }
-            Asked::Open => {
+            Asked::Open(_, _) => {
                 if kept < places.len() {
                     places[kept] = start as u16;
                 }

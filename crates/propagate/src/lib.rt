@@ -1,11 +1,9 @@
-// Unit propagation: the values that clauses force, by passes and by chains, with the transitivity of states drawn from words.
-mod chains;
+// Unit propagation: the values that clauses force, by passes and by the clauses of each literal, with the transitivity of states drawn from words.
+mod falls;
 mod first;
 mod passes;
 
-pub use chains::link;
-pub use chains::no_heads;
-pub use chains::settle_linked;
+pub use falls::settle_indexed;
 pub use first::Sifted;
 pub use first::lighten;
 pub use first::sift;

@@ -17,10 +17,10 @@ use Rattle.cnf.specs.Trials.{onlyTrue, satisfied, notFalse}
 use Rattle.cnf.specs.Closing.{Formed}
 use Rattle.cnf.proofs.Words.{clauses-nil}
 use Rattle.cnf.proofs.Trials.{length-only, only-one, only-zero}
-use Rattle.propagate.specs.Asked.{Over}
-use Rattle.propagate.specs.Chains.{clauseAt}
+use Rattle.asking.specs.Asked.{Over}
+use Rattle.asking.specs.Asked.{clauseAt}
 use Rattle.search.specs.Trial.{heldValue, heldIf}
-use Rattle.propagate.proofs.Walking.{Before, before-first, before-next, clause-in, at-clauses, clause-words}
+use Rattle.asking.proofs.Walking.{Before, before-first, before-next, clause-in, at-clauses, clause-words}
 
 -- ---- how many are not false
 

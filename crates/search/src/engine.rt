@@ -9,17 +9,17 @@ ghost use Rattle.pairs.specs.Entries.{PairTable};
 ghost use Rattle.rows.specs.Conclusions.{withTriangles};
 ghost use Rattle.rows.specs.Rows.{Rows};
 ghost use Rattle.rows.specs.Trail.{Ready, Queue, Settles};
-ghost use Rattle.propagate.specs.Chains.{LinkRoom, Chained};
+ghost use Rattle.occurrences.specs.Occurrences.{IndexRoom, Prepared};
 ghost use Rattle.search.specs.Turns.{NextUnset, Fresh, Begun, Rested, EndsWith};
 use super::trial::not_false;
 use super::trial::walk_back;
 use conclude::Reached;
+use occurrences::index;
+use occurrences::no_firsts;
 use pairs::pair_table;
 use propagate::lighten;
-use propagate::link;
-use propagate::no_heads;
 use propagate::settle;
-use propagate::settle_linked;
+use propagate::settle_indexed;
 use propagate::sift;
 use rows::force;
 use rows::own_rows;
@@ -61,14 +61,14 @@ fn next_unset(values: &[u8], low: usize) -> usize
     x
 }
 
-// Closes the values, where clauses wait for the trail's variables from `from` on: by chains where the list is linked, else by passes.
+// Closes the values, where clauses wait for the trail's variables from `from` on: by the clauses of each literal where the list is indexed, else by passes.
 fn close(
     list: &[u16],
     n: u8,
     table: &[u16],
-    heads: &[u16; 1560],
-    next: &[u16],
-    owner: &[u16],
+    firsts: &[u16; 1561],
+    clauses: &[u16],
+    hints: &mut [u16],
     values: &mut [u8],
     trail: &mut [u16],
     joined: &mut [u64; 40],
@@ -76,7 +76,7 @@ fn close(
     from: usize,
     start: usize,
 ) -> Reached
-    requires { ⌜ Chained (now list) (now heads) (now next) (now owner) ⌝ }
+    requires { ⌜ Prepared (now list) (now firsts) (now clauses) (now hints) ⌝ }
     requires { ⌜ Ready (withTriangles (now list) n) (now values) (now trail) start ⌝ }
     requires { ⌜ Queue (withTriangles (now list) n) (now values) (now trail) from start × (length (now values) ≤ 780) ⌝ }
     requires { ⌜ PairTable (now table) × Rows n (now values) (now joined) (now apart) ⌝ }
@@ -84,6 +84,7 @@ fn close(
         Settles (withTriangles (now (list .entry)) n) (now (values .entry)) (now (trail .entry)) start (now (values .exit)) (now (trail .exit)) (r .broken)
         (r .count)
         × Rows n (now (values .exit)) (now (joined .exit)) (now (apart .exit)) ⌝ }
+    ensures prepared { λ _. ⌜ Prepared (now (list .entry)) (now (firsts .entry)) (now (clauses .entry)) (now (hints .exit)) ⌝ }
 {
     if from == start {
         return Reached {
@@ -91,14 +92,14 @@ fn close(
             count: start,
         };
     }
-    if list.len() <= next.len() {
-        return settle_linked(
+    if list.len() <= clauses.len() {
+        return settle_indexed(
             list,
             n,
             table,
-            heads,
-            next,
-            owner,
+            firsts,
+            clauses,
+            hints,
             values,
             trail,
             joined,
@@ -117,9 +118,9 @@ fn turns(
     list: &[u16],
     n: u8,
     table: &[u16],
-    heads: &[u16; 1560],
-    next: &[u16],
-    owner: &[u16],
+    firsts: &[u16; 1561],
+    clauses: &[u16],
+    hints: &mut [u16],
     values: &mut [u8],
     trail: &mut [u16],
     joined: &mut [u64; 40],
@@ -127,7 +128,7 @@ fn turns(
     budget: u64,
     start: usize,
 ) -> Ending
-    requires { ⌜ Chained (now list) (now heads) (now next) (now owner) ⌝ }
+    requires { ⌜ Prepared (now list) (now firsts) (now clauses) (now hints) ⌝ }
     requires { ⌜ Rested (withTriangles (now list) n) (length (now values)) (now values) (now trail) start ⌝ }
     requires { ⌜ PairTable (now table) × Rows n (now values) (now joined) (now apart) ⌝ }
     ensures { λ r. ⌜ EndsWith (searchTried (withTriangles (now (list .entry)) n) (length (now (values .entry))) budget) r (now (values .exit)) (notFalse (now (values .entry))) ⌝ }
@@ -143,9 +144,9 @@ fn turns(
             list,
             n,
             table,
-            heads,
-            next,
-            owner,
+            firsts,
+            clauses,
+            hints,
             values,
             trail,
             joined,
@@ -192,13 +193,13 @@ fn turns(
     }
 }
 
-// The turns over a list with a chain for each literal, made in the room that is lent.
-fn turns_linked(
+// The turns over a list whose clauses are indexed by their literals, in the room that is lent.
+fn turns_indexed(
     list: &[u16],
     n: u8,
     table: &[u16],
-    next: &mut [u16],
-    owner: &mut [u16],
+    clauses: &mut [u16],
+    hints: &mut [u16],
     values: &mut [u8],
     trail: &mut [u16],
     joined: &mut [u64; 40],
@@ -206,20 +207,20 @@ fn turns_linked(
     budget: u64,
     start: usize,
 ) -> Ending
-    requires { ⌜ LinkRoom (now list) (now next) (now owner) ⌝ }
+    requires { ⌜ (whole (now list) ≡ true) × (length (now list) ≤ 32768) × IndexRoom (now list) (now clauses) (now hints) ⌝ }
     requires { ⌜ Rested (withTriangles (now list) n) (length (now values)) (now values) (now trail) start ⌝ }
     requires { ⌜ PairTable (now table) × Rows n (now values) (now joined) (now apart) ⌝ }
     ensures { λ r. ⌜ EndsWith (searchTried (withTriangles (now (list .entry)) n) (length (now (values .entry))) budget) r (now (values .exit)) (notFalse (now (values .entry))) ⌝ }
 {
-    let mut heads = no_heads();
-    link(list, &mut heads, next, owner);
+    let mut firsts = no_firsts();
+    index(list, &mut firsts, clauses, hints);
     turns(
         list,
         n,
         table,
-        &heads,
-        next,
-        owner,
+        &firsts,
+        clauses,
+        hints,
         values,
         trail,
         joined,
@@ -246,14 +247,14 @@ fn turns_short(
     requires { ⌜ PairTable (now table) × Rows n (now values) (now joined) (now apart) ⌝ }
     ensures { λ r. ⌜ EndsWith (searchTried (withTriangles (now (list .entry)) n) (length (now (values .entry))) budget) r (now (values .exit)) (notFalse (now (values .entry))) ⌝ }
 {
-    let mut next = [0u16; 4096];
-    let mut owner = [0u16; 4096];
-    turns_linked(
+    let mut clauses = [0u16; 4096];
+    let mut hints = [0u16; 12288];
+    turns_indexed(
         list,
         n,
         table,
-        &mut next,
-        &mut owner,
+        &mut clauses,
+        &mut hints,
         values,
         trail,
         joined,
@@ -280,14 +281,14 @@ fn turns_long(
     requires { ⌜ PairTable (now table) × Rows n (now values) (now joined) (now apart) ⌝ }
     ensures { λ r. ⌜ EndsWith (searchTried (withTriangles (now (list .entry)) n) (length (now (values .entry))) budget) r (now (values .exit)) (notFalse (now (values .entry))) ⌝ }
 {
-    let mut next = [0u16; 32768];
-    let mut owner = [0u16; 32768];
-    turns_linked(
+    let mut clauses = [0u16; 32768];
+    let mut hints = [0u16; 98304];
+    turns_indexed(
         list,
         n,
         table,
-        &mut next,
-        &mut owner,
+        &mut clauses,
+        &mut hints,
         values,
         trail,
         joined,
@@ -297,7 +298,7 @@ fn turns_long(
     )
 }
 
-// The turns by the length of the list: one over 32,768 words is not linked.
+// The turns by the length of the list: one over 32,768 words is not indexed.
 fn turns_any(
     list: &[u16],
     n: u8,
@@ -320,14 +321,15 @@ fn turns_any(
     if list.len() <= 32768 {
         return turns_long(list, n, table, values, trail, joined, apart, budget, start);
     }
-    let heads = no_heads();
+    let firsts = no_firsts();
+    let mut none = [0u16; 1];
     turns(
         list,
         n,
         table,
-        &heads,
+        &firsts,
         &list[..0],
-        &list[..0],
+        &mut none,
         values,
         trail,
         joined,

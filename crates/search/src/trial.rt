@@ -10,7 +10,7 @@ ghost use Rattle.cnf.specs.Trials.{onlyTrue, satisfied, notFalse};
 ghost use Rattle.cnf.specs.Closing.{Formed};
 ghost use Rattle.pairs.specs.Entries.{PairTable};
 ghost use Rattle.rows.specs.Rows.{Rows};
-ghost use Rattle.propagate.specs.Asked.{Over};
+ghost use Rattle.asking.specs.Asked.{Over};
 ghost use Rattle.search.specs.Trial.{heldValue, heldIf, backAlong, Retraceable};
 use rows::unwind;
 use rows::wide;

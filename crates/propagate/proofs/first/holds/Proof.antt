@@ -5,7 +5,7 @@ use Prim.Native.Nat.{_-_}
 use mathlib.Core.Path.{sym, _∙_}
 use lib.ListN.{length}
 use Rattle.lists.proofs.Members.{getD-mem}
-use Rattle.propagate.proofs.Asking.{holds-at}
+use Rattle.asking.proofs.Asking.{holds-at}
 use Rattle.propagate.proofs.Lightening as laws
 use Rattle.propagate.proofs.first.holds.Statement.{statement}
 use Rattle.propagate.proofs.first.holds.Tie as tie

@@ -6,8 +6,8 @@ use Prim.Native.Nat.{_-_}
 use mathlib.Core.Path.{_≡_, refl, ap, _∙_}
 use lib.ListN.{length}
 use Rattle.rows.specs.Rows.{Rows}
-use Rattle.propagate.proofs.Walking.{end-inside, clause-in}
-use Rattle.propagate.proofs.Asking.{lent-over, lent-seen, lent-holds}
+use Rattle.asking.proofs.Walking.{end-inside, clause-in}
+use Rattle.asking.proofs.Asking.{lent-over, lent-seen, lent-told, literal-place, literal-forced}
 use Rattle.rows.proofs.Working.{worked-length, asked-below, can-force}
 use Rattle.propagate.proofs.Sifting as laws
 use Rattle.propagate.proofs.first.sift.Statement.{statement}
@@ -63,7 +63,7 @@ clauses-less c = omega (arith, c .before .before .before .before .before .before
 
 clauses-again : tie.Need-clauses-again Inv-clauses μ-clauses
 clauses-again c =
-    let held = lent-holds _ _ (c .before .before .before .before .before .wide .ensures) _ (c .before .before .ask .ensures .1) (c .enum-told .given .1) in
+    let held = lent-told (c .before .before .before .before .before .before .before .before .before .before .before .before .before .before .args .list .now) (c .before .before .before .before .before .before .before .before .clauses .at) (c .before .before .before .before .before .wide .ensures) _ (c .before .before .ask .ensures .1) (c .enum-told .given .1) .1 in
     (rw (c .before .before .before .before .before .wide .ensures) (laws.sift-holding (c .before .before .before .before .before .before .before .before .before .before .before .before .before .before .pre .1 .0) (c .before .before .before .before .before .before .before .before .clauses .inv .0) (c .before .before .before .before .before .before .before .clauses-test .taken) held), c .before .before .before .before .before .before .before .before .clauses .inv .1, c .before .before .before .before .before .before .before .before .clauses .inv .2)
 
 enum-told-2 : tie.Need-enum-told-2 Inv-clauses μ-clauses
@@ -86,20 +86,29 @@ returns c =
 enum-known-said : tie.Need-enum-known-said Inv-clauses μ-clauses
 enum-known-said c = search needs
 
+add-force : tie.Need-add-force Inv-clauses μ-clauses
+add-force c = omega (arith, literal-place (c .before .before .before .before .before .before .before .before .before .before .before .before .before .before .before .args .list .now) (c .before .before .before .before .before .before .before .before .before .clauses .at) (end-inside (c .before .before .before .before .before .before .before .before .before .clauses .inv .0 .before) (c .before .before .before .before .before .before .before .before .clauses-test .taken)) (lent-told (c .before .before .before .before .before .before .before .before .before .before .before .before .before .before .before .args .list .now) (c .before .before .before .before .before .before .before .before .before .clauses .at) (c .before .before .before .before .before .before .wide .ensures) (c .before .before .before .before .before .before .before .before .before .clauses .values) (c .before .before .before .ask .ensures .1) (c .before .said .given .1)), c .before .before .before .before .before .before .before .before .before .before .before .before .before .before .before .good .0)
+
+mul-force : tie.Need-mul-force Inv-clauses μ-clauses
+mul-force c = omega (arith, literal-place (c .before .before .before .before .before .before .before .before .before .before .before .before .before .before .before .args .list .now) (c .before .before .before .before .before .before .before .before .before .clauses .at) (end-inside (c .before .before .before .before .before .before .before .before .before .clauses .inv .0 .before) (c .before .before .before .before .before .before .before .before .clauses-test .taken)) (lent-told (c .before .before .before .before .before .before .before .before .before .before .before .before .before .before .before .args .list .now) (c .before .before .before .before .before .before .before .before .before .clauses .at) (c .before .before .before .before .before .before .wide .ensures) (c .before .before .before .before .before .before .before .before .before .clauses .values) (c .before .before .before .ask .ensures .1) (c .before .said .given .1)), c .before .before .before .before .before .before .before .before .before .before .before .before .before .before .before .good .0, c .before .before .before .before .before .before .before .before .before .before .before .before .before .before .before .pre .0 .1)
+
+shared-slice-read-force : tie.Need-shared-slice-read-force Inv-clauses μ-clauses
+shared-slice-read-force c = literal-place (c .before .before .before .before .before .before .before .before .before .before .before .before .before .before .before .before .args .list .now) (c .before .before .before .before .before .before .before .before .before .before .clauses .at) (end-inside (c .before .before .before .before .before .before .before .before .before .before .clauses .inv .0 .before) (c .before .before .before .before .before .before .before .before .before .clauses-test .taken)) (lent-told (c .before .before .before .before .before .before .before .before .before .before .before .before .before .before .before .before .args .list .now) (c .before .before .before .before .before .before .before .before .before .before .clauses .at) (c .before .before .before .before .before .before .before .wide .ensures) (c .before .before .before .before .before .before .before .before .before .before .clauses .values) (c .before .before .before .before .ask .ensures .1) (c .before .before .said .given .1))
+
 force-requires : tie.Need-force-requires Inv-clauses μ-clauses
 force-requires c κs =
-    let i = c .before .before .before .before .before .before .before .before .before .before .before .before .before .clauses .inv .0 in
-    let said = lent-seen _ _ (c .before .before .before .before .before .before .before .before .before .before .wide .ensures) _ (c .before .before .before .before .before .before .before .ask .ensures .0) (c .before .before .before .before .before .said .given .1) in
-    (c .before .before .before .before .before .before .before .before .before .before .before .before .before .before .before .before .before .before .before .pre .1 .1 .0, can-force (c .before .before .before .before .before .before .before .before .before .before .before .before .before .before .before .before .before .before .before .pre .1 .0) (i .worked) (clause-in (i .before) (c .before .before .before .before .before .before .before .before .before .before .before .before .clauses-test .taken)) said (c .before .before .before .before .before .before .before .before .before .before .before .before .before .clauses .inv .1))
+    let i = c .before .before .before .before .before .before .before .before .before .before .before .before .before .before .clauses .inv .0 in
+    let said = literal-forced (c .before .before .before .before .before .before .before .before .before .before .before .before .before .before .before .before .before .before .before .before .args .list .now) (c .before .before .before .before .before .before .before .before .before .before .before .before .before .before .clauses .at) (end-inside (c .before .before .before .before .before .before .before .before .before .before .before .before .before .before .clauses .inv .0 .before) (c .before .before .before .before .before .before .before .before .before .before .before .before .before .clauses-test .taken)) (lent-told (c .before .before .before .before .before .before .before .before .before .before .before .before .before .before .before .before .before .before .before .before .args .list .now) (c .before .before .before .before .before .before .before .before .before .before .before .before .before .before .clauses .at) (c .before .before .before .before .before .before .before .before .before .before .before .wide .ensures) (c .before .before .before .before .before .before .before .before .before .before .before .before .before .before .clauses .values) (c .before .before .before .before .before .before .before .before .ask .ensures .1) (c .before .before .before .before .before .before .said .given .1)) _ (lent-seen _ _ (c .before .before .before .before .before .before .before .before .before .before .before .wide .ensures) _ (c .before .before .before .before .before .before .before .before .ask .ensures .0) (c .before .before .before .before .before .before .said .given .1)) in
+    (c .before .before .before .before .before .before .before .before .before .before .before .before .before .before .before .before .before .before .before .before .pre .1 .1 .0, can-force (c .before .before .before .before .before .before .before .before .before .before .before .before .before .before .before .before .before .before .before .before .pre .1 .0) (i .worked) (clause-in (i .before) (c .before .before .before .before .before .before .before .before .before .before .before .before .before .clauses-test .taken)) said (c .before .before .before .before .before .before .before .before .before .before .before .before .before .before .clauses .inv .1))
 
 clauses-less-2 : tie.Need-clauses-less-2 Inv-clauses μ-clauses
-clauses-less-2 c = omega (arith, c .before .before .before .before .before .before .before .before .before .before .before .before .before .before .before .before .before .clauses-test .taken)
+clauses-less-2 c = omega (arith, c .before .before .before .before .before .before .before .before .before .before .before .before .before .before .before .before .before .before .clauses-test .taken)
 
 clauses-again-2 : tie.Need-clauses-again-2 Inv-clauses μ-clauses
 clauses-again-2 c =
-    let said = lent-seen _ _ (c .before .before .before .before .before .before .before .before .before .before .before .before .before .before .before .wide .ensures) _ (c .before .before .before .before .before .before .before .before .before .before .before .before .ask .ensures .0) (c .before .before .before .before .before .before .before .before .before .before .said .given .1) in
+    let said = literal-forced (c .before .before .before .before .before .before .before .before .before .before .before .before .before .before .before .before .before .before .before .before .before .before .before .before .before .args .list .now) (c .before .before .before .before .before .before .before .before .before .before .before .before .before .before .before .before .before .before .before .clauses .at) (end-inside (c .before .before .before .before .before .before .before .before .before .before .before .before .before .before .before .before .before .before .before .clauses .inv .0 .before) (c .before .before .before .before .before .before .before .before .before .before .before .before .before .before .before .before .before .before .clauses-test .taken)) (lent-told (c .before .before .before .before .before .before .before .before .before .before .before .before .before .before .before .before .before .before .before .before .before .before .before .before .before .args .list .now) (c .before .before .before .before .before .before .before .before .before .before .before .before .before .before .before .before .before .before .before .clauses .at) (c .before .before .before .before .before .before .before .before .before .before .before .before .before .before .before .before .wide .ensures) (c .before .before .before .before .before .before .before .before .before .before .before .before .before .before .before .before .before .before .before .clauses .values) (c .before .before .before .before .before .before .before .before .before .before .before .before .before .ask .ensures .1) (c .before .before .before .before .before .before .before .before .before .before .before .said .given .1)) _ (lent-seen _ _ (c .before .before .before .before .before .before .before .before .before .before .before .before .before .before .before .before .wide .ensures) _ (c .before .before .before .before .before .before .before .before .before .before .before .before .before .ask .ensures .0) (c .before .before .before .before .before .before .before .before .before .before .before .said .given .1)) in
     let f = c .before .before .before .before .force .ensures in
-    (rw (c .before .before .before .before .before .before .before .before .before .before .before .before .before .before .before .wide .ensures) (laws.sift-forced (c .before .before .before .before .before .before .before .before .before .before .before .before .before .before .before .before .before .before .before .before .before .before .before .before .pre .1 .0) (c .before .before .before .before .before .before .before .before .before .before .before .before .before .before .before .before .before .before .clauses .inv .0) (c .before .before .before .before .before .before .before .before .before .before .before .before .before .before .before .before .before .clauses-test .taken) said f), f .assigned .rows, c .before .before .before .before .before .before .before .before .before .before .before .before .before .before .before .before .before .before .clauses .inv .2)
+    (rw (c .before .before .before .before .before .before .before .before .before .before .before .before .before .before .before .before .wide .ensures) (laws.sift-forced (c .before .before .before .before .before .before .before .before .before .before .before .before .before .before .before .before .before .before .before .before .before .before .before .before .before .pre .1 .0) (c .before .before .before .before .before .before .before .before .before .before .before .before .before .before .before .before .before .before .before .clauses .inv .0) (c .before .before .before .before .before .before .before .before .before .before .before .before .before .before .before .before .before .before .clauses-test .taken) said f), f .assigned .rows, c .before .before .before .before .before .before .before .before .before .before .before .before .before .before .before .before .before .before .before .clauses .inv .2)
 
 enum-told-3 : tie.Need-enum-told-3 Inv-clauses μ-clauses
 enum-told-3 c = search needs
@@ -140,42 +149,4 @@ returns-2 : tie.Need-returns-2 Inv-clauses μ-clauses
 returns-2 c = (laws.sift-end (c .before .before .before .before .before .before .before .pre .1 .0) (c .before .clauses .inv .0) (c .clauses-test .left), c .before .clauses .inv .1)
 
 pub sift-spec : {M : Type 1} → statement M
-sift-spec =
-    tie.close
-    (tie.spec
-    Inv-clauses
-    μ-clauses
-    clauses-holds
-    add-first
-    mul-wide
-    shared-slice-read-wide
-    wide-requires
-    add-at
-    mul-ask
-    sub-ask
-    part-ask-start
-    part-ask-end
-    ask-requires
-    enum-told
-    clauses-less
-    clauses-again
-    enum-told-2
-    same-length
-    same-length-2
-    same-length-3
-    returns
-    enum-known-said
-    force-requires
-    clauses-less-2
-    clauses-again-2
-    enum-told-3
-    cast-places
-    mul-places
-    slice-write-places
-    add-kept
-    clauses-less-3
-    clauses-again-3
-    same-length-4
-    same-length-5
-    same-length-6
-    returns-2)
+sift-spec = tie.close (tie.spec Inv-clauses μ-clauses clauses-holds add-first mul-wide shared-slice-read-wide wide-requires add-at mul-ask sub-ask part-ask-start part-ask-end ask-requires enum-told clauses-less clauses-again enum-told-2 same-length same-length-2 same-length-3 returns enum-known-said add-force mul-force shared-slice-read-force force-requires clauses-less-2 clauses-again-2 enum-told-3 cast-places mul-places slice-write-places add-kept clauses-less-3 clauses-again-3 same-length-4 same-length-5 same-length-6 returns-2)

@@ -10,8 +10,8 @@ use mathlib.Core.Bool.{false}
 use lib.ListN.{length}
 use Rattle.rows.specs.Rows.{Rows}
 use Rattle.rows.proofs.Working.{worked-length, can-force}
-use Rattle.propagate.proofs.Walking.{end-inside, clause-in}
-use Rattle.propagate.proofs.Asking as asking
+use Rattle.asking.proofs.Walking.{end-inside, clause-in}
+use Rattle.asking.proofs.Asking as asking
 use Rattle.propagate.proofs.Passing as laws
 use Rattle.propagate.proofs.passes.pass.Statement.{statement}
 use Rattle.propagate.proofs.passes.pass.Tie as tie

@@ -1,7 +1,7 @@
 -- `search::engine::turns_any` meets its contract. Assumes nothing.
 use borrow.Author.Needs.{needs}
 use native.Mathlib.Omega.{arith}
-use Rattle.propagate.proofs.Linking.{unchained}
+use Rattle.occurrences.proofs.Preparing.{unprepared}
 use Rattle.search.proofs.engine.turns_any.Statement.{statement}
 use Rattle.search.proofs.engine.turns_any.Tie as tie
 
@@ -29,8 +29,8 @@ same-length-4 c = search needs
 returns-2 : tie.Need-returns-2
 returns-2 c = search needs
 
-no-heads-requires : tie.Need-no-heads-requires
-no-heads-requires c κs = search needs
+no-firsts-requires : tie.Need-no-firsts-requires
+no-firsts-requires c κs = search needs
 
 slice-aggregate-turns : tie.Need-slice-aggregate-turns
 slice-aggregate-turns c = search needs
@@ -39,7 +39,7 @@ slice-aggregate-turns-2 : tie.Need-slice-aggregate-turns-2
 slice-aggregate-turns-2 c = search needs
 
 turns-requires : tie.Need-turns-requires
-turns-requires c κs = (unchained (c .before .before .before .before .before .before .before .before .before .before .before .before .before .before .pre .0) (omega (arith, c .before .before .before .before .before .before .before .before .if2 .left)), c .before .before .before .before .before .before .before .before .before .before .before .before .before .before .pre .1)
+turns-requires c κs = (unprepared (c .before .before .before .before .before .before .before .before .before .before .before .before .before .before .pre .0) (omega (arith, c .before .before .before .before .before .before .before .before .if2 .left)), c .before .before .before .before .before .before .before .before .before .before .before .before .before .before .pre .1)
 
 same-length-5 : tie.Need-same-length-5
 same-length-5 c = search needs
@@ -51,21 +51,4 @@ returns-3 : tie.Need-returns-3
 returns-3 c = search needs
 
 pub turns-any-spec : {M : Type 1} → statement M
-turns-any-spec =
-    tie.close
-    (tie.spec
-    turns-short-requires
-    same-length
-    same-length-2
-    returns
-    turns-long-requires
-    same-length-3
-    same-length-4
-    returns-2
-    no-heads-requires
-    slice-aggregate-turns
-    slice-aggregate-turns-2
-    turns-requires
-    same-length-5
-    same-length-6
-    returns-3)
+turns-any-spec = tie.close (tie.spec turns-short-requires same-length same-length-2 returns turns-long-requires same-length-3 same-length-4 returns-2 no-firsts-requires slice-aggregate-turns slice-aggregate-turns-2 turns-requires same-length-5 same-length-6 returns-3)

@@ -1,19 +1,20 @@
 -- `search::engine::turns_long` meets its contract. Assumes nothing.
 use borrow.Author.Needs.{needs}
+use native.Mathlib.Omega.{arith}
 use Prim.Native.Nat.{ℕ}
 use lib.ListN.{length-replicate}
-use Rattle.propagate.proofs.Linking.{link-room}
+use Rattle.occurrences.proofs.Preparing.{index-room}
 use Rattle.search.proofs.engine.turns_long.Statement.{statement}
 use Rattle.search.proofs.engine.turns_long.Tie as tie
 
-slice-aggregate-turns-linked : tie.Need-slice-aggregate-turns-linked
-slice-aggregate-turns-linked c = search needs
+slice-aggregate-turns-indexed : tie.Need-slice-aggregate-turns-indexed
+slice-aggregate-turns-indexed c = search needs
 
-slice-aggregate-turns-linked-2 : tie.Need-slice-aggregate-turns-linked-2
-slice-aggregate-turns-linked-2 c = search needs
+slice-aggregate-turns-indexed-2 : tie.Need-slice-aggregate-turns-indexed-2
+slice-aggregate-turns-indexed-2 c = search needs
 
-turns-linked-requires : tie.Need-turns-linked-requires
-turns-linked-requires c κs = (link-room 32768 (search needs) (c .before .before .before .before .before .before .before .before .before .before .pre .0 .0) (c .before .before .before .before .before .before .before .before .before .before .pre .0 .1) (length-replicate {A = ℕ} 32768 0) (length-replicate {A = ℕ} 32768 0), c .before .before .before .before .before .before .before .before .before .before .pre .1)
+turns-indexed-requires : tie.Need-turns-indexed-requires
+turns-indexed-requires c κs = ((c .before .before .before .before .before .before .before .before .before .before .pre .0 .0, omega (arith, c .before .before .before .before .before .before .before .before .before .before .pre .0 .1), index-room 32768 (search needs) (c .before .before .before .before .before .before .before .before .before .before .pre .0 .1) (length-replicate {A = ℕ} 32768 0) (length-replicate {A = ℕ} 98304 0)), c .before .before .before .before .before .before .before .before .before .before .pre .1)
 
 same-length : tie.Need-same-length
 same-length c = search needs
@@ -25,12 +26,4 @@ returns : tie.Need-returns
 returns c = search needs
 
 pub turns-long-spec : {M : Type 1} → statement M
-turns-long-spec =
-    tie.close
-    (tie.spec
-    slice-aggregate-turns-linked
-    slice-aggregate-turns-linked-2
-    turns-linked-requires
-    same-length
-    same-length-2
-    returns)
+turns-long-spec = tie.close (tie.spec slice-aggregate-turns-indexed slice-aggregate-turns-indexed-2 turns-indexed-requires same-length same-length-2 returns)

@@ -5,8 +5,8 @@ use Prim.Native.Nat.{_-_}
 use lib.ListN.{length}
 use borrow.Author.Tests.{not-true, not-false}
 use Rattle.cnf.specs.Trials.{onlyTrue}
-use Rattle.propagate.proofs.Walking.{end-inside}
-use Rattle.propagate.proofs.Asking.{lent-over}
+use Rattle.asking.proofs.Walking.{end-inside}
+use Rattle.asking.proofs.Asking.{lent-over}
 use Rattle.search.proofs.Trying as laws
 use Rattle.search.proofs.trial.trial_holds.Statement.{statement}
 use Rattle.search.proofs.trial.trial_holds.Tie as tie

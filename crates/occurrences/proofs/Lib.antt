@@ -1,0 +1,4 @@
+pub mod Several
+pub mod Counting
+pub mod Putting
+pub mod Preparing
