@@ -1,4 +1,1 @@
-pub mod Text
-pub mod Decimals
-pub mod Putting
 pub mod Going

@@ -38,7 +38,7 @@ use Rattle.encoding.specs.Maps.{mapOf}
 use Rattle.encoding.specs.declared.Listed.{Listed}
 use Rattle.encoding.specs.declared.Listed.the-variants.{List as Words, Refused as NotListed}
 use Rattle.encoding.proofs.Short.{short-formed, short-tried}
-use Rattle.clauses.specs.Emit.{listedBy}
+use Rattle.clauses.specs.Whole.{listedBy}
 use Rattle.search.specs.Turns.{noneSet, Fresh, EndsWith}
 use Rattle.rows.specs.Conclusions.{withTriangles}
 use Rattle.search.specs.declared.engine.Ending.{Ending}
