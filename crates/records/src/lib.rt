@@ -11,10 +11,7 @@ ghost use Rattle.relations.specs.Check.{mapTests};
 ghost use Rattle.maps.specs.Sections.{Known};
 ghost use Rattle.fates.specs.Fates.{fatesOf, recordsOf};
 ghost use Rattle.fates.specs.Demands.{AddUp, KeptAreQuotients, AllAreInputs};
-ghost use Rattle.records.specs.Marks.{FittingParts, partedFates, toldFor};
-
-mod marks;
-
+ghost use Rattle.records.specs.Told.{FittingParts, partedFates, toldFor};
 use fates::Recorded;
 use format::Starts;
 use limits::Limits;

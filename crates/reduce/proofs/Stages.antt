@@ -53,8 +53,8 @@ use Rattle.reductions.specs.declared.Reduction.the-variants.{Delivered, Refused
 use Rattle.reductions.proofs.Joined.{held-joined}
 use Rattle.reductions.proofs.Ways.{list-formed, trial-model}
 use Rattle.reduce.specs.Held.{MadeBy, HeldFor}
-use Rattle.reduce.specs.Lowest.{MapOf}
-use Rattle.reduce.specs.declared.map.Classes.{Classes}
+use Rattle.joining.specs.Lowest.{MapOf}
+use Rattle.joining.specs.declared.Classes.{Classes}
 use Rattle.reduce.specs.declared.Made.{Made}
 
 -- ---- map and quotient
