@@ -1,5 +1,5 @@
 -- What the code that writes the clause list is stated with: the literals of one clause, and clauses counted and written one behind the
--- other. Only contracts of functions within the crate cite it. Assumes nothing.
+-- other. Only contracts of functions that write clauses cite it. Assumes nothing.
 use mathlib.Core.Path.{_≡_}
 use mathlib.Core.Bool.{true, false, _&&_}
 use mathlib.Core.List.{List, [], _∷_, _++_, map}

@@ -10,7 +10,7 @@ use lib.ListN.{length}
 use lib.Dec.{ltb}
 use borrow.Author.Tests.{ltb-true, ltb-false}
 use Rattle.io.specs.Digits.{digits, Fewest}
-use Rattle.lines.specs.Lines.{placesOf, decimalText}
+use Rattle.printed.specs.Lines.{placesOf, decimalText}
 
 places : (f k n : ℕ) → k ≤ suc f → Fewest 10 1 n k → k ≡ placesOf f n
 unfolding placesOf

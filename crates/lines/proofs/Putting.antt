@@ -10,7 +10,7 @@ use Rattle.lists.specs.Lists.{over}
 use Rattle.lists.proofs.Copying.{copied}
 use Rattle.writing.proofs.Writing.{part-put}
 use Rattle.io.specs.Counts.{Counts}
-use Rattle.lines.specs.Lines.{Put, decimalText, hexText, numbersText, mapName, mapText}
+use Rattle.printed.specs.Lines.{Put, decimalText, hexText, numbersText, mapName, mapText}
 use Rattle.lines.proofs.Text.{hex-length}
 
 -- a piece over what stood behind the place

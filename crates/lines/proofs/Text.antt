@@ -9,7 +9,7 @@ use lib.Seq.{take-suc, take-all, drop-cons, length-take-le}
 use borrow.Author.Tests.{lt-ltb, le-ltb}
 use Rattle.io.specs.Digits.{glyph}
 use Rattle.lists.specs.Lists.{over}
-use Rattle.lines.specs.Lines.{hexText}
+use Rattle.printed.specs.Lines.{hexText}
 
 pub low-digit : (d : ℕ) → d < 10 → 48 + d ≡ glyph d
 low-digit d h = rw (lt-ltb d 10 h) refl

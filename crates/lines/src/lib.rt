@@ -5,7 +5,7 @@ ghost use Prim.Native.Nat.{_+_, _*_, _≤_, _<_};
 ghost use lib.ListN.{length};
 ghost use Rattle.io.specs.Digits.{glyph};
 ghost use Rattle.lists.specs.Lists.{over};
-ghost use Rattle.lines.specs.Lines.{Put, decimalText, spentText, countsText, hexText, mapText, tableText, recordsText};
+ghost use Rattle.printed.specs.Lines.{Put, decimalText, spentText, countsText, hexText, mapText, tableText, recordsText};
 
 fn wide(x: u8) -> u64
     ensures { λ r. ⌜ r ≡ x ⌝ }

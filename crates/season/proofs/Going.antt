@@ -15,10 +15,9 @@ use Rattle.reductions.specs.declared.Reduction.{Reduction}
 use Rattle.reductions.specs.declared.Reduction.the-variants.{Delivered, Refused}
 use Rattle.seasons.specs.Seasons.{row, guessesIn, mapTaken, outTaken, Reductions, reductionsFrom, lengthsFit}
 use Rattle.seasons.proofs.Lone.{leaves}
-use Rattle.turn.specs.declared.Turn.{Turn}
-use Rattle.turn.specs.Turns.{Turned}
-use Rattle.season.specs.Ran.{Ran}
-use Rattle.turn.proofs.Lengths.{fitting, sum-next}
+use Rattle.season.specs.declared.Turn.{Turn}
+use Rattle.season.specs.Turns.{Turned, Ran}
+use Rattle.lengths.proofs.Lengths.{fitting, sum-next}
 
 -- ---- a row among the values
 

@@ -1,2 +1,3 @@
+pub mod Turning
 pub mod Going
 pub mod Seasons

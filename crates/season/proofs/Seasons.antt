@@ -12,7 +12,7 @@ use Rattle.limits.specs.declared.Limits.{Limits}
 use Rattle.limits.specs.Limits.{limitsFit}
 use Rattle.seasons.specs.declared.Season.{Season}
 use Rattle.seasons.specs.Seasons.{shareOf, lengthsFit, seasonNumber, SeasonDone, refusedBy, seasonOf}
-use Rattle.season.specs.Ran.{Ran}
+use Rattle.season.specs.Turns.{Ran}
 
 -- the shares of all tables are within the guesses
 pub shares-within : (guesses k : ℕ) → k * (guesses / k) ≤ guesses

@@ -1,5 +1,5 @@
 -- `lines::put_records` meets its contract: one piece behind the other. Assumes nothing.
-use Rattle.lines.specs.Lines.{recordsText}
+use Rattle.printed.specs.Lines.{recordsText}
 use Rattle.lines.proofs.Putting.{put-on}
 use borrow.Author.Needs.{needs}
 use Rattle.lines.proofs.put_records.Statement.{statement}

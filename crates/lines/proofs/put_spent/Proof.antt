@@ -1,7 +1,7 @@
 -- `lines::put_spent` meets its contract. Assumes nothing.
 use mathlib.Core.Path.{sym, ap}
 use native.Mathlib.Omega.{arith}
-use Rattle.lines.specs.Lines.{spentText}
+use Rattle.printed.specs.Lines.{spentText}
 use Rattle.lines.proofs.Putting.{put-none, put-same}
 use borrow.Author.Needs.{needs}
 use Rattle.lines.proofs.put_spent.Statement.{statement}

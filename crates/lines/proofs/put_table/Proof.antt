@@ -1,6 +1,6 @@
 -- `lines::put_table` meets its contract. Assumes nothing.
 use native.Mathlib.Omega.{arith}
-use Rattle.lines.specs.Lines.{tableText}
+use Rattle.printed.specs.Lines.{tableText}
 use Rattle.lines.proofs.Putting.{put-hexed, put-on}
 use borrow.Author.Needs.{needs}
 use Rattle.lines.proofs.put_table.Statement.{statement}

@@ -3,7 +3,7 @@ use borrow.Author.Needs.{needs}
 use Prim.Native.Nat.{_+_, _-_, _<_, _^_}
 use native.Mathlib.Omega.{arith}
 use lib.ListN.{length, getD, take, drop}
-use Rattle.turn.specs.Turns.{Turned}
+use Rattle.season.specs.Turns.{Turned}
 use Rattle.season.proofs.Going.{Going, begin-going, ended, allowed-fits, table-in, of-parts, guesses-in, turn-row-long, map-room, out-room, next-back}
 use Rattle.season.proofs.run.Statement.{statement}
 use Rattle.season.proofs.run.Tie as tie

@@ -1,10 +1,10 @@
--- `turn::state_count` meets its contract. Assumes nothing.
+-- `season::state_count` meets its contract. Assumes nothing.
 use borrow.Author.Needs.{needs}
 use mathlib.Core.Path.{sym, _∙_}
 use Rattle.table.proofs.Handed.{read-as, read-refused}
 use Rattle.reduce.proofs.Stages.{states-count}
-use Rattle.turn.proofs.state_count.Statement.{statement}
-use Rattle.turn.proofs.state_count.Tie as tie
+use Rattle.season.proofs.state_count.Statement.{statement}
+use Rattle.season.proofs.state_count.Tie as tie
 
 read-within-requires : tie.Need-read-within-requires
 read-within-requires c κs = search needs

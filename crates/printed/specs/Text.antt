@@ -11,8 +11,8 @@ use Rattle.reductions.specs.declared.Reduction.{Reduction}
 use Rattle.reductions.specs.declared.Reduction.the-variants.{Delivered, Refused}
 use Rattle.reductions.specs.Reduce.{Reduced, reduceOf}
 use Rattle.reductions.specs.Demands.{mapWritten}
-use Rattle.basilvault.specs.Program.{widest}
-use Rattle.lines.specs.Lines.{mapText, tableText, countsText, recordsText, refusedText}
+use Rattle.printed.specs.Program.{widest}
+use Rattle.printed.specs.Lines.{mapText, tableText, countsText, recordsText, refusedText}
 
 -- the fourth line, of an answer
 abbrev pub recordedText : Recorded → List ℕ

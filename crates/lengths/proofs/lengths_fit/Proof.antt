@@ -1,10 +1,10 @@
--- `turn::lengths_fit` meets its contract: what is left of the buffer behind the lengths so far. Assumes nothing.
+-- `lengths::lengths_fit` meets its contract: what is left of the buffer behind the lengths so far. Assumes nothing.
 use borrow.Author.Needs.{needs}
 use Prim.Native.Nat.{_-_}
 use lib.ListN.{length}
-use Rattle.turn.proofs.Lengths.{Lefts, begin-lefts, next-left, too-few, too-many, too-long, left-over}
-use Rattle.turn.proofs.lengths_fit.Statement.{statement}
-use Rattle.turn.proofs.lengths_fit.Tie as tie
+use Rattle.lengths.proofs.Lengths.{Lefts, begin-lefts, next-left, too-few, too-many, too-long, left-over}
+use Rattle.lengths.proofs.lengths_fit.Statement.{statement}
+use Rattle.lengths.proofs.lengths_fit.Tie as tie
 
 abbrev Inv-lengths : tie.InvT-lengths
 Inv-lengths all lengths left₀ i₀ left i = Lefts all lengths left i

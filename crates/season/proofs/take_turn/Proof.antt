@@ -1,8 +1,8 @@
--- `turn::take_turn` meets its contract: the row of what reduce answers, and what it took. Assumes nothing.
+-- `season::take_turn` meets its contract: the row of what reduce answers, and what it took. Assumes nothing.
 use borrow.Author.Needs.{needs}
-use Rattle.turn.proofs.Turning.{turn-delivered, turn-refused}
-use Rattle.turn.proofs.take_turn.Statement.{statement}
-use Rattle.turn.proofs.take_turn.Tie as tie
+use Rattle.season.proofs.Turning.{turn-delivered, turn-refused}
+use Rattle.season.proofs.take_turn.Statement.{statement}
+use Rattle.season.proofs.take_turn.Tie as tie
 
 reduce-within-requires : tie.Need-reduce-within-requires
 reduce-within-requires c κs = search needs

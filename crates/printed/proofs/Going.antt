@@ -23,9 +23,9 @@ use Rattle.reductions.specs.declared.Reduction.{Reduction}
 use Rattle.reductions.specs.declared.Reduction.the-variants.{Delivered, Refused}
 use Rattle.reductions.specs.Reduce.{reduceOf}
 use Rattle.reductions.specs.Demands.{mapWritten, DeliversChecked}
-use Rattle.basilvault.specs.Program.{widest}
-use Rattle.basilvault.specs.Text.{goingText, reductionText, reducedText, printed}
-use Rattle.lines.specs.Lines.{countsText, mapText, tableText, refusedText}
+use Rattle.printed.specs.Program.{widest}
+use Rattle.printed.specs.Text.{goingText, reductionText, reducedText, printed}
+use Rattle.printed.specs.Lines.{countsText, mapText, tableText, refusedText}
 
 module _ (L : Limits) (b m : List ℕ) (e : checkNumber L b m ≡ 0) where
   records-few : recordCount (tableOf b) ≤ 6144

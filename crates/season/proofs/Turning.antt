@@ -13,7 +13,7 @@ use Rattle.reductions.specs.declared.Reduction.{Reduction}
 use Rattle.reductions.specs.declared.Reduction.the-variants.{Delivered, Refused}
 use Rattle.reductions.proofs.Ways.{Ways, refused-first, refused-short, delivers, reduce-ways}
 use Rattle.seasons.specs.Seasons.{row, guessesIn, mapTaken, outTaken}
-use Rattle.turn.specs.Turns.{Turned}
+use Rattle.season.specs.Turns.{Turned}
 
 module _ (L : Limits) (b : List ℕ) (budget : ℕ) (list map out : List ℕ) where
   -- only a readable table is delivered
