@@ -1,12 +1,11 @@
--- An answer's values stored where there is room, and an answer as a number, buffers and values. Assumes nothing.
+-- An answer as a number, buffers and values. Assumes nothing.
 use mathlib.Core.Path.{_≡_, refl, sym, ap, _∙_}
 use mathlib.Core.Logic.{_≢_}
-use mathlib.Core.List.{List, [], _∷_, _++_, append-assoc}
+use mathlib.Core.List.{List, [], _∷_, _++_}
 use Prim.Native.Nat.{ℕ, _≤_, _<_}
 use native.Mathlib.Omega.{arith}
-use lib.ListN.{length, getD, set, drop, replicate, length-append}
-use lib.Seq.{drop-cons, set-at}
-use borrow.Author.Tests.{le-leb, lt-leb, ne-eqb}
+use lib.ListN.{length, set, drop, replicate}
+use borrow.Author.Tests.{ne-eqb}
 use Rattle.lists.specs.Lists.{over}
 use Rattle.limits.specs.declared.Limits.{Limits}
 use Rattle.format.specs.File.{tableOf}
@@ -26,43 +25,11 @@ use Rattle.choices.specs.declared.Which.the-variants.{Neither, First, Second}
 use Rattle.choices.specs.declared.Choice.{Choice}
 use Rattle.choices.specs.Choose.{choiceValues}
 use Rattle.choices.specs.Demands.{NumberTells}
-use Rattle.seasons.specs.declared.Season.{Season}
-use Rattle.seasons.specs.Seasons.{seasonValues}
-use Rattle.capi.specs.Answers.{stored, out, topsOut}
+use Rattle.answers.specs.Storing.{stored}
+use Rattle.answers.proofs.Storing.{stored-all, stored-none, last-short, last-stored}
+use Rattle.capi.specs.Answers.{out, topsOut}
 
--- ---- storing
-
-pub stored-all : (vs values : List ℕ) → length vs ≤ length values → stored vs values ≡ over vs values
-unfolding stored
-stored-all vs values h = rw (le-leb (length vs) (length values) h, stored)
-
-pub stored-short : (vs values : List ℕ) → length values < length vs → stored vs values ≡ values
-unfolding stored
-stored-short vs values h = rw (lt-leb (length vs) (length values) h, stored)
-
-pub stored-none : (values : List ℕ) → stored [] values ≡ values
-unfolding over
-stored-none values = stored-all [] values (omega arith)
-
--- words, and one number behind them
-module _ (words values : List ℕ) (last : ℕ) (l : length words ≡ 40) where
-  long : length (words ++ (last ∷ [])) ≡ 41
-  long = omega (arith, length-append words (last ∷ []), l)
-
-  pub last-short : length values < 41 → values ≡ stored (words ++ (last ∷ [])) values
-  last-short h = sym (stored-short (words ++ (last ∷ [])) values (omega (arith, long)))
-
-  pub last-stored : 41 ≤ length values → set (stored words values) 40 last ≡ stored (words ++ (last ∷ [])) values
-  unfolding over
-  last-stored h =
-      ap (λ (r : List ℕ). set r 40 last) parted
-      ∙ set-at words (getD values 40 0) (drop 41 values) last 40 l
-      ∙ sym (stored-all (words ++ (last ∷ [])) values (omega (arith, long)) ∙ rw long (append-assoc words (last ∷ []) (drop 41 values)))
-    where
-      parted : stored words values ≡ words ++ getD values 40 0 ∷ drop 41 values
-      parted = stored-all words values (omega (arith, l)) ∙ rw (l, drop-cons values 40 0 (omega arith))
-
--- ---- an answer whose number is m and whose values are vs, as the code found them
+-- an answer whose number is m and whose values are vs, as the code found them
 
 module _ (values : List ℕ) {m n : ℕ} (e : m ≡ n) {vs : List ℕ} {buffers : List (List ℕ)} where
   pub answered :
@@ -133,11 +100,3 @@ module _ (r : Choice) (t : NumberTells r) where
   pub second-chosen : r .which ≡ Second → (r .number ≡ 0) × (choiceValues r ≡ 2 ∷ [])
   unfolding choiceValues
   second-chosen e = (t .1 (λ f. let z : _≡_ {A = ℕ} 0 1 = cc in omega arith), rw (e, choiceValues))
-
-pub season-reduced : (r : Season) → r .number ≡ 0 → seasonValues r ≡ r .values
-unfolding seasonValues
-season-reduced r e = rw (e, seasonValues)
-
-pub season-refused : (r : Season) → r .number ≢ 0 → seasonValues r ≡ []
-unfolding seasonValues
-season-refused r h = rw (ne-eqb (r .number) 0 h, seasonValues)

@@ -1,10 +1,7 @@
 -- What the C interface returns and writes, from the operations' answers. Assumes nothing.
-use mathlib.Core.Bool.{true, false}
 use mathlib.Core.List.{List, [], _∷_}
 use Prim.Native.Nat.{ℕ}
-use lib.ListN.{length}
-use lib.Dec.{leb}
-use Rattle.lists.specs.Lists.{over}
+use Rattle.answers.specs.Storing.{stored}
 use Rattle.format.specs.declared.Reading.{Reading}
 use Rattle.format.specs.Reading.{readingNumber, readingValues}
 use Rattle.reach.specs.declared.TopWords.{TopWords}
@@ -25,10 +22,6 @@ use Rattle.fitting.specs.Fit.{fittingNumber, fittingValues}
 use Rattle.fates.specs.Fates.{RecordsDone, recordedNumber, recordedValues}
 use Rattle.scripts.specs.declared.Read.{Read}
 use Rattle.scripts.specs.Script.{readNumberOf, readValues}
-
--- the values at the front of the buffer, where it has room for all of them
-unfoldable pub stored : List ℕ → List ℕ → List ℕ
-stored vs buffer = elim (leb (length vs) (length buffer)) [ true ↦ over vs buffer | false ↦ buffer ]
 
 -- what a call returns, and at its exit the operation's buffers and `values`
 pub record Out : Type 0 where

@@ -2,61 +2,25 @@
 //
 // Each function returns the refusal's number, or 0. The answer's values are the first elements of `values` where it has room for all of them.
 ghost use mathlib.Core.Path.{_≡_};
-ghost use mathlib.Core.List.{[], _∷_, _++_};
-ghost use lib.ListN.{length};
+ghost use mathlib.Core.List.{[], _∷_};
 ghost use Rattle.limits.specs.Limits.{standard};
 ghost use Rattle.format.specs.Reading.{readOf};
 ghost use Rattle.reach.specs.Tops.{topsOf};
 ghost use Rattle.encoding.specs.Clauses.{clausesOf};
 ghost use Rattle.solutions.specs.Answers.{searchOf};
 ghost use Rattle.relations.specs.Check.{checkOf};
-ghost use Rattle.quotients.specs.Quotient.{quotientOf, writtenNumber, writtenValues};
-ghost use Rattle.reductions.specs.Reduce.{reduceOf, spentValue};
+ghost use Rattle.quotients.specs.Quotient.{quotientOf};
+ghost use Rattle.reductions.specs.Reduce.{reduceOf};
 ghost use Rattle.usage.specs.Uses.{usesOf};
 ghost use Rattle.choices.specs.Choose.{choiceOf};
 ghost use Rattle.loads.specs.Loads.{loadOf, generateOf};
-ghost use Rattle.scripts.specs.Script.{yesValue, scriptOf};
+ghost use Rattle.scripts.specs.Script.{scriptOf};
 ghost use Rattle.fates.specs.Fates.{recordsOf};
 ghost use Rattle.fitting.specs.Fit.{fitOf};
 ghost use Rattle.seasons.specs.Seasons.{seasonOf};
-ghost use Rattle.capi.specs.Answers.{stored, readOut, topsOut, clausesOut, searchOut, checkOut, quotientOut, reduceOut, usesOut, chooseOut, scriptOut, recordsOut, fitOut, seasonOut};
+ghost use Rattle.capi.specs.Answers.{readOut, topsOut, clausesOut, searchOut, checkOut, quotientOut, reduceOut, usesOut, chooseOut, scriptOut, recordsOut, fitOut, seasonOut};
 use choices::Which;
-use encoding::Listed;
-use fates::Recorded;
-use fitting::Fitting;
-use format::Reading;
 use limits::Limits;
-use quotients::Written;
-use reductions::Reduction;
-use relations::Checked;
-use scripts::Read;
-use solutions::Solution;
-
-// Stores an answer's values where there is room for all of them.
-fn store(answer: &[u64], values: &mut [u64])
-    ensures { λ _. ⌜ now (values .exit) ≡ stored (now (answer .entry)) (now (values .entry)) ⌝ }
-{
-    if values.len() < answer.len() {
-        return;
-    }
-    let mut i: usize = 0;
-    'values: while i < answer.len() {
-        values[i] = answer[i];
-        i += 1;
-    }
-}
-
-// Stores words and one number behind them, where there is room for all.
-fn store_words(words: &[u64; 40], last: u64, values: &mut [u64])
-    requires { ⌜ length (now words) ≡ 40 ⌝ }
-    ensures { λ _. ⌜ now (values .exit) ≡ stored (now (words .entry) ++ (last ∷ [])) (now (values .entry)) ⌝ }
-{
-    if values.len() < 41 {
-        return;
-    }
-    store(words, values);
-    values[40] = last;
-}
 
 // Reads a table. Five values: the starts of symbols, states, internals, calls and returns.
 #[no_mangle]
@@ -72,20 +36,7 @@ pub extern "C" fn basilvault_read_within(
 {
     let limits = Limits { states, symbols };
     let reading = table::read_within(limits, table);
-    match reading {
-        Reading::Sections(starts) => {
-            let answer = [
-                starts.symbols as u64,
-                starts.states as u64,
-                starts.internals as u64,
-                starts.calls as u64,
-                starts.returns as u64,
-            ];
-            store(&answer, values);
-            0
-        }
-        Reading::Refused(number) => number as u32,
-    }
+    answers::say_reading(reading, values)
 }
 
 // The same at the limits of a caller that gives none.
@@ -150,14 +101,7 @@ pub extern "C" fn basilvault_clauses_within(
 {
     let limits = Limits { states, symbols };
     let listed = clauses::clauses_within(limits, table, list);
-    match listed {
-        Listed::List { clauses, words } => {
-            let answer = [clauses as u64, words as u64];
-            store(&answer, values);
-            0
-        }
-        Listed::Refused(number) => number as u32,
-    }
+    answers::say_listed(listed, values)
 }
 
 // The same at the limits of a caller that gives none.
@@ -187,14 +131,7 @@ pub extern "C" fn basilvault_search_within(
 {
     let limits = Limits { states, symbols };
     let solution = search::search_within(limits, list, variables, budget, answer);
-    match solution {
-        Solution::Solved(guesses) => {
-            let made = [guesses];
-            store(&made, values);
-            0
-        }
-        Solution::Refused(number) => number as u32,
-    }
+    answers::say_solution(solution, values)
 }
 
 // The same at the limits of a caller that gives none.
@@ -236,14 +173,7 @@ pub extern "C" fn basilvault_check_within(
 {
     let limits = Limits { states, symbols };
     let checked = maps::check_within(limits, table, map);
-    match checked {
-        Checked::Accepted(classes) => {
-            let answer = [classes as u64];
-            store(&answer, values);
-            0
-        }
-        Checked::Refused(number) => number as u32,
-    }
+    answers::say_checked(checked, values)
 }
 
 // The same at the limits of a caller that gives none.
@@ -254,21 +184,6 @@ pub extern "C" fn basilvault_check(table: &[u8], map: &[u8], values: &mut [u64])
         ≡ checkOut (now (values .entry)) (checkOf standard (now (table .entry)) (now (map .entry))) ⌝ }
 {
     basilvault_check_within(limits::STATES, limits::SYMBOLS, table, map, values)
-}
-
-// An answer that is a length: its one value is stored.
-fn say_written(written: Written, values: &mut [u64]) -> u32
-    ensures number { λ r. ⌜ r ≡ writtenNumber written ⌝ }
-    ensures values { λ _. ⌜ now (values .exit) ≡ stored (writtenValues written) (now (values .entry)) ⌝ }
-{
-    match written {
-        Written::Length(length) => {
-            let answer = [length as u64];
-            store(&answer, values);
-            0
-        }
-        Written::Refused(number) => number as u32,
-    }
 }
 
 // Writes the quotient under a map. One value: its length.
@@ -287,7 +202,7 @@ pub extern "C" fn basilvault_quotient_within(
 {
     let limits = Limits { states, symbols };
     let written = quotient::quotient_within(limits, table, map, out);
-    say_written(written, values)
+    answers::say_written(written, values)
 }
 
 // The same at the limits of a caller that gives none.
@@ -303,13 +218,6 @@ pub extern "C" fn basilvault_quotient(
         ≡ quotientOut (now (values .entry)) (quotientOf standard (now (table .entry)) (now (map .entry)) (now (out .entry))) ⌝ }
 {
     basilvault_quotient_within(limits::STATES, limits::SYMBOLS, table, map, out, values)
-}
-
-// Whether the budget was spent, as a value.
-fn spent_value(spent: bool) -> u64
-    ensures { λ r. ⌜ r ≡ spentValue spent ⌝ }
-{
-    if spent { 1 } else { 0 }
 }
 
 // Reduces a table. Seven values: classes, guesses, clause words, the quotient's length, joined pairs, the ceiling, and 1 or 0: the budget was spent.
@@ -331,30 +239,7 @@ pub extern "C" fn basilvault_reduce_within(
 {
     let limits = Limits { states, symbols };
     let reduction = reduce::reduce_within(limits, table, budget, list, map, out);
-    match reduction {
-        Reduction::Delivered {
-            classes,
-            guesses,
-            words,
-            length,
-            joined,
-            ceiling,
-            spent,
-        } => {
-            let answer = [
-                classes as u64,
-                guesses,
-                words as u64,
-                length as u64,
-                joined as u64,
-                ceiling as u64,
-                spent_value(spent),
-            ];
-            store(&answer, values);
-            0
-        }
-        Reduction::Refused(number) => number as u32,
-    }
+    answers::say_reduction(reduction, values)
 }
 
 // The same at the limits of a caller that gives none.
@@ -405,7 +290,7 @@ pub extern "C" fn basilvault_uses_within(
         return number as u32;
     }
     let sums = counted.sums;
-    store_words(&sums, counted.total, values);
+    answers::store_words(&sums, counted.total, values);
     0
 }
 
@@ -439,11 +324,11 @@ pub extern "C" fn basilvault_choose_within(
     match which {
         Which::Neither => choice.number as u32,
         Which::First => {
-            store(&[1u64], values);
+            answers::store(&[1u64], values);
             0
         }
         Which::Second => {
-            store(&[2u64], values);
+            answers::store(&[2u64], values);
             0
         }
     }
@@ -503,7 +388,7 @@ pub extern "C" fn basilvault_generate_within(
         density,
         out,
     );
-    say_written(written, values)
+    answers::say_written(written, values)
 }
 
 // The same at the limits of a caller that gives none.
@@ -536,13 +421,6 @@ pub extern "C" fn basilvault_generate(
     )
 }
 
-// Yes or no as a value.
-fn yes_value(yes: bool) -> u64
-    ensures { λ r. ⌜ r ≡ yesValue yes ⌝ }
-{
-    if yes { 1 } else { 0 }
-}
-
 // Reads a script on a table. One value: 1 yes, 0 no.
 #[no_mangle]
 pub extern "C" fn basilvault_script_within(
@@ -558,14 +436,7 @@ pub extern "C" fn basilvault_script_within(
 {
     let limits = Limits { states, symbols };
     let read = script::script_within(limits, table, script);
-    match read {
-        Read::Answer(yes) => {
-            let answer = [yes_value(yes)];
-            store(&answer, values);
-            0
-        }
-        Read::Refused(number) => number as u32,
-    }
+    answers::say_read(read, values)
 }
 
 // The same at the limits of a caller that gives none.
@@ -594,19 +465,7 @@ pub extern "C" fn basilvault_records_within(
 {
     let limits = Limits { states, symbols };
     let recorded = records::records_within(limits, table, map, out);
-    match recorded {
-        Recorded::Counts {
-            all,
-            kept,
-            folded,
-            dead,
-        } => {
-            let answer = [all as u64, kept as u64, folded as u64, dead as u64];
-            store(&answer, values);
-            0
-        }
-        Recorded::Refused(number) => number as u32,
-    }
+    answers::say_recorded(recorded, values)
 }
 
 // The same at the limits of a caller that gives none.
@@ -632,17 +491,7 @@ pub extern "C" fn basilvault_fit(first: &[u8], second: &[u8], values: &mut [u64]
         ≡ fitOut (now (values .entry)) (fitOf (now (first .entry)) (now (second .entry))) ⌝ }
 {
     let fitting = fit::fit(first, second);
-    match fitting {
-        Fitting::Yes => {
-            store(&[1u64], values);
-            0
-        }
-        Fitting::No => {
-            store(&[0u64], values);
-            0
-        }
-        Fitting::Refused(number) => number as u32,
-    }
+    answers::say_fitting(fitting, values)
 }
 
 // Reduces up to 8 tables back to back with shared guesses. 64 values: for each of 8 tables its refusal's number or 0, classes, guesses, words,
@@ -666,13 +515,7 @@ pub extern "C" fn basilvault_season_within(
 {
     let limits = Limits { states, symbols };
     let answer = season::season_within(limits, tables, lengths, guesses, list, maps, out);
-    let number = answer.number;
-    if number != 0 {
-        return number as u32;
-    }
-    let rows = answer.values;
-    store(&rows, values);
-    0
+    answers::say_season(answer, values)
 }
 
 // The same at the limits of a caller that gives none.

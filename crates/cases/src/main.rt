@@ -23,20 +23,12 @@
 // A line is the operation's name, the refusal's number or 0, the answer's values and, each behind a bar, the buffers at exit, which are filled
 // with 7 beforehand. Choose prints which map it is, 1 or 2, or 0 with a refusal, and behind the bar the map that is handed back.
 ghost use mathlib.Core.Path.{_≡_};
-use fitting::Fitting;
 ghost use Prim.Native.Nat.{_≤_, _<_};
 ghost use lib.ListN.{length};
 use choices::Which;
-use encoding::Listed;
-use fates::Recorded;
-use format::Reading;
 use libc::STDOUT_FILENO;
 use limits::Limits;
 use quotients::Written;
-use reductions::Reduction;
-use relations::Checked;
-use scripts::Read;
-use solutions::Solution;
 
 // Writes text to standard output.
 fn say(text: &[u8]) -> bool {
@@ -76,6 +68,11 @@ fn word_at(bytes: &[u8], at: usize) -> usize
     wide(bytes[at]) + 256 * wide(bytes[at + 1])
 }
 
+// A case whose parts are not all there.
+fn say_cut() -> bool {
+    say(b" ?\n")
+}
+
 // A buffer of bytes, behind a bar.
 fn say_bytes(bytes: &[u8]) {
     say(b" |");
@@ -86,23 +83,25 @@ fn say_bytes(bytes: &[u8]) {
     }
 }
 
+// The refusal's number; or 0, and the answer's values.
+fn say_answer(refused: u32, values: &[u64]) {
+    number(refused as u64);
+    if refused != 0 {
+        return;
+    }
+    let mut i: usize = 0;
+    'values: while i < values.len() {
+        number(values[i]);
+        i += 1;
+    }
+}
+
 // The five starts, or the refusal.
 fn say_read(limits: Limits, table: &[u8]) -> bool {
     say(b"read");
-    let reading = table::read_within(limits, table);
-    match reading {
-        Reading::Sections(starts) => {
-            number(0);
-            number(starts.symbols as u64);
-            number(starts.states as u64);
-            number(starts.internals as u64);
-            number(starts.calls as u64);
-            number(starts.returns as u64);
-        }
-        Reading::Refused(k) => {
-            number(k as u64);
-        }
-    }
+    let mut values = [0u64; 5];
+    let refused = answers::say_reading(table::read_within(limits, table), &mut values);
+    say_answer(refused, &values);
     say(b"\n")
 }
 
@@ -130,23 +129,11 @@ fn say_words(words: &[u16]) {
     }
 }
 
-// Writes the clauses into the first words of a buffer.
-fn say_listed(limits: Limits, table: &[u8], space: &mut [u16], length: usize) -> bool {
-    if space.len() < length {
-        return say(b" ?\n");
-    }
-    let list = &mut space[..length];
-    let listed = clauses::clauses_within(limits, table, list);
-    match listed {
-        Listed::List { clauses, words } => {
-            number(0);
-            number(clauses as u64);
-            number(words as u64);
-        }
-        Listed::Refused(k) => {
-            number(wide(k) as u64);
-        }
-    }
+// The clauses of a table, and the list.
+fn say_listed(limits: Limits, table: &[u8], list: &mut [u16]) -> bool {
+    let mut values = [0u64; 2];
+    let refused = answers::say_listed(clauses::clauses_within(limits, table, list), &mut values);
+    say_answer(refused, &values);
     say_words(list);
     say(b"\n")
 }
@@ -155,11 +142,14 @@ fn say_listed(limits: Limits, table: &[u8], space: &mut [u16], length: usize) ->
 fn say_clauses(limits: Limits, rest: &[u8]) -> bool {
     say(b"clauses");
     if rest.len() < 2 {
-        return say(b" ?\n");
+        return say_cut();
     }
     let length = word_at(rest, 0);
     let mut list = [7u16; 8192];
-    say_listed(limits, &rest[2..], &mut list, length)
+    if 8192 < length {
+        return say_cut();
+    }
+    say_listed(limits, &rest[2..], &mut list[..length])
 }
 
 // The clause words of a search, from their bytes.
@@ -177,33 +167,20 @@ fn words_from(bytes: &[u8], list: &mut [u16]) -> usize
     n
 }
 
-// Searches in the first words of a list, for an answer in the first bytes of a buffer.
+// Searches in a list, and the answer.
 fn say_found(
     limits: Limits,
     list: &[u16],
-    words: usize,
     variables: usize,
     budget: u64,
-    space: &mut [u8],
-    length: usize,
+    answer: &mut [u8],
 ) -> bool {
-    if list.len() < words {
-        return say(b" ?\n");
-    }
-    if space.len() < length {
-        return say(b" ?\n");
-    }
-    let answer = &mut space[..length];
-    let solution = search::search_within(limits, &list[..words], variables, budget, answer);
-    match solution {
-        Solution::Solved(guesses) => {
-            number(0);
-            number(guesses);
-        }
-        Solution::Refused(k) => {
-            number(wide(k) as u64);
-        }
-    }
+    let mut values = [0u64; 1];
+    let refused = answers::say_solution(
+        search::search_within(limits, list, variables, budget, answer),
+        &mut values,
+    );
+    say_answer(refused, &values);
     say_bytes(answer);
     say(b"\n")
 }
@@ -212,15 +189,22 @@ fn say_found(
 fn say_search(limits: Limits, rest: &[u8]) -> bool {
     say(b"search");
     if rest.len() < 6 {
-        return say(b" ?\n");
+        return say_cut();
     }
-    let variables = word_at(rest, 0);
-    let budget = word_at(rest, 2) as u64;
     let length = word_at(rest, 4);
+    if 1024 < length {
+        return say_cut();
+    }
     let mut list = [0u16; 8192];
     let words = words_from(&rest[6..], &mut list);
     let mut answer = [7u8; 1024];
-    say_found(limits, &list, words, variables, budget, &mut answer, length)
+    say_found(
+        limits,
+        &list[..words],
+        word_at(rest, 0),
+        word_at(rest, 2) as u64,
+        &mut answer[..length],
+    )
 }
 
 // Checks the map at the beginning on the table behind it.
@@ -228,44 +212,28 @@ fn say_check(limits: Limits, rest: &[u8]) -> bool {
     say(b"check");
     let end = 2 + word_at(rest, 0);
     if rest.len() < end {
-        return say(b" ?\n");
+        return say_cut();
     }
+    let mut values = [0u64; 1];
     let checked = maps::check_within(limits, &rest[end..], &rest[2..end]);
-    match checked {
-        Checked::Accepted(classes) => {
-            number(0);
-            number(classes as u64);
-        }
-        Checked::Refused(k) => {
-            number(wide(k) as u64);
-        }
-    }
+    let refused = answers::say_checked(checked, &mut values);
+    say_answer(refused, &values);
     say(b"\n")
 }
 
-// The length of what was written, or the refusal.
-fn say_length(written: Written) {
-    match written {
-        Written::Length(bytes) => {
-            number(0);
-            number(bytes as u64);
-        }
-        Written::Refused(k) => {
-            number(wide(k) as u64);
-        }
-    }
-}
-
-// Writes the quotient into the first bytes of a buffer.
-fn say_written(limits: Limits, table: &[u8], map: &[u8], space: &mut [u8], length: usize) -> bool {
-    if space.len() < length {
-        return say(b" ?\n");
-    }
-    let out = &mut space[..length];
-    let written = quotient::quotient_within(limits, table, map, out);
-    say_length(written);
+// A table that was written: its length, or the refusal, and the buffer.
+fn say_written(written: Written, out: &[u8]) -> bool {
+    let mut values = [0u64; 1];
+    let refused = answers::say_written(written, &mut values);
+    say_answer(refused, &values);
     say_bytes(out);
     say(b"\n")
+}
+
+// Writes the quotient.
+fn say_image(limits: Limits, table: &[u8], map: &[u8], out: &mut [u8]) -> bool {
+    let written = quotient::quotient_within(limits, table, map, out);
+    say_written(written, out)
 }
 
 // The quotient under the map at the beginning of the table behind it.
@@ -273,16 +241,14 @@ fn say_quotient(limits: Limits, rest: &[u8]) -> bool {
     say(b"quotient");
     let end = 4 + word_at(rest, 0);
     if rest.len() < end {
-        return say(b" ?\n");
+        return say_cut();
     }
     let length = word_at(rest, 2);
+    if 4096 < length {
+        return say_cut();
+    }
     let mut out = [7u8; 4096];
-    say_written(limits, &rest[end..], &rest[4..end], &mut out, length)
-}
-
-// Whether something is so, as a number.
-fn bit(so: bool) -> u64 {
-    if so { 1 } else { 0 }
+    say_image(limits, &rest[end..], &rest[4..end], &mut out[..length])
 }
 
 // Reduces a table with buffers that exist, and prints the clause list, the map buffer and the output.
@@ -294,30 +260,10 @@ fn say_reduction(
     map: &mut [u8],
     out: &mut [u8],
 ) -> bool {
+    let mut values = [0u64; 7];
     let reduction = reduce::reduce_within(limits, table, budget, list, map, out);
-    match reduction {
-        Reduction::Delivered {
-            classes,
-            guesses,
-            words,
-            length,
-            joined,
-            ceiling,
-            spent,
-        } => {
-            number(0);
-            number(classes as u64);
-            number(guesses);
-            number(words as u64);
-            number(length as u64);
-            number(joined as u64);
-            number(ceiling as u64);
-            number(bit(spent));
-        }
-        Reduction::Refused(k) => {
-            number(wide(k) as u64);
-        }
-    }
+    let refused = answers::say_reduction(reduction, &mut values);
+    say_answer(refused, &values);
     say_words(list);
     say_bytes(map);
     say_bytes(out);
@@ -337,16 +283,16 @@ fn say_reduced(
     let states = word_at(rest, 4);
     let length = word_at(rest, 6);
     if rest.len() < 8 {
-        return say(b" ?\n");
+        return say_cut();
     }
     if list.len() < words {
-        return say(b" ?\n");
+        return say_cut();
     }
     if map.len() < states {
-        return say(b" ?\n");
+        return say_cut();
     }
     if out.len() < length {
-        return say(b" ?\n");
+        return say_cut();
     }
     say_reduction(
         limits,
@@ -386,7 +332,7 @@ fn say_uses(limits: Limits, rest: &[u8]) -> bool {
     let middle = 4 + word_at(rest, 0);
     let end = middle + word_at(rest, 2);
     if rest.len() < end {
-        return say(b" ?\n");
+        return say_cut();
     }
     say_counted(limits, &rest[end..], &rest[4..middle], &rest[middle..end])
 }
@@ -411,15 +357,6 @@ fn lengths_from(bytes: &[u8]) -> [u64; 16] {
     lengths
 }
 
-// The numbers of eight tables.
-fn say_rows(values: [u64; 64]) {
-    let mut i: usize = 0;
-    'numbers: while i < 64 {
-        number(values[i]);
-        i += 1;
-    }
-}
-
 // Reduces the tables of a season with buffers that exist, and prints the clause list, the maps and the output.
 fn say_seasoned(
     limits: Limits,
@@ -430,12 +367,10 @@ fn say_seasoned(
     maps: &mut [u8],
     out: &mut [u8],
 ) -> bool {
+    let mut values = [0u64; 64];
     let answer = season::season_within(limits, tables, lengths, guesses, list, maps, out);
-    number(answer.number as u64);
-    if answer.number == 0 {
-        let values = answer.values;
-        say_rows(values);
-    }
+    let refused = answers::say_season(answer, &mut values);
+    say_answer(refused, &values);
     say_words(list);
     say_bytes(maps);
     say_bytes(out);
@@ -459,16 +394,16 @@ fn say_parts(
     let length = word_at(rest, at + 4);
     let end = at + 6;
     if rest.len() < end {
-        return say(b" ?\n");
+        return say_cut();
     }
     if list.len() < words {
-        return say(b" ?\n");
+        return say_cut();
     }
     if maps.len() < states {
-        return say(b" ?\n");
+        return say_cut();
     }
     if out.len() < length {
-        return say(b" ?\n");
+        return say_cut();
     }
     say_seasoned(
         limits,
@@ -486,7 +421,7 @@ fn say_season(limits: Limits, rest: &[u8]) -> bool {
     say(b"season");
     let count = word_at(rest, 2);
     if 16 < count {
-        return say(b" ?\n");
+        return say_cut();
     }
     let lengths = lengths_from(rest);
     let mut list = [7u16; 4096];
@@ -503,14 +438,10 @@ fn say_season(limits: Limits, rest: &[u8]) -> bool {
     )
 }
 
-// Writes the table of a load into the first bytes of a buffer; its numbers stand behind each other, 16 bits each.
-fn say_generated(limits: Limits, rest: &[u8], space: &mut [u8], length: usize) -> bool {
-    if space.len() < length {
-        return say(b" ?\n");
-    }
+// Writes the table of a load; its numbers stand behind each other, 16 bits each.
+fn say_load(limits: Limits, rest: &[u8], out: &mut [u8]) -> bool {
     let seed = word_at(rest, 0) as u32 + 65536 * word_at(rest, 2) as u32;
     let density = word_at(rest, 12) as u32 + 65536 * word_at(rest, 14) as u32;
-    let out = &mut space[..length];
     let written = generate::generate_within(
         limits,
         seed,
@@ -521,17 +452,18 @@ fn say_generated(limits: Limits, rest: &[u8], space: &mut [u8], length: usize) -
         density,
         out,
     );
-    say_length(written);
-    say_bytes(out);
-    say(b"\n")
+    say_written(written, out)
 }
 
 // A random table from a seed, with a buffer for it.
 fn say_generate(limits: Limits, rest: &[u8]) -> bool {
     say(b"generate");
     let length = word_at(rest, 16);
+    if 4096 < length {
+        return say_cut();
+    }
     let mut out = [7u8; 4096];
-    say_generated(limits, rest, &mut out, length)
+    say_load(limits, rest, &mut out[..length])
 }
 
 // The number, which map, and the map that is handed back.
@@ -560,7 +492,7 @@ fn say_choose(limits: Limits, rest: &[u8]) -> bool {
     let middle = 4 + word_at(rest, 0);
     let end = middle + word_at(rest, 2);
     if rest.len() < end {
-        return say(b" ?\n");
+        return say_cut();
     }
     say_chosen(limits, &rest[end..], &rest[4..middle], &rest[middle..end])
 }
@@ -570,49 +502,21 @@ fn say_script(limits: Limits, rest: &[u8]) -> bool {
     say(b"script");
     let end = 2 + word_at(rest, 0);
     if rest.len() < end {
-        return say(b" ?\n");
+        return say_cut();
     }
+    let mut values = [0u64; 1];
     let read = script::script_within(limits, &rest[end..], &rest[2..end]);
-    match read {
-        Read::Answer(yes) => {
-            number(0);
-            if yes {
-                number(1);
-            } else {
-                number(0);
-            }
-        }
-        Read::Refused(refusal) => {
-            number(refusal as u64);
-        }
-    }
+    let refused = answers::say_read(read, &mut values);
+    say_answer(refused, &values);
     say(b"\n")
 }
 
-// Tells where the records went, in the first bytes of a buffer.
-fn say_recorded(limits: Limits, table: &[u8], map: &[u8], space: &mut [u8], length: usize) -> bool {
-    if space.len() < length {
-        return say(b" ?\n");
-    }
-    let out = &mut space[..length];
+// Tells where the records went.
+fn say_recorded(limits: Limits, table: &[u8], map: &[u8], out: &mut [u8]) -> bool {
+    let mut values = [0u64; 4];
     let recorded = records::records_within(limits, table, map, out);
-    match recorded {
-        Recorded::Counts {
-            all,
-            kept,
-            folded,
-            dead,
-        } => {
-            number(0);
-            number(all as u64);
-            number(kept as u64);
-            number(folded as u64);
-            number(dead as u64);
-        }
-        Recorded::Refused(k) => {
-            number(wide(k) as u64);
-        }
-    }
+    let refused = answers::say_recorded(recorded, &mut values);
+    say_answer(refused, &values);
     say_bytes(out);
     say(b"\n")
 }
@@ -622,29 +526,21 @@ fn say_records(limits: Limits, rest: &[u8]) -> bool {
     say(b"records");
     let end = 4 + word_at(rest, 0);
     if rest.len() < end {
-        return say(b" ?\n");
+        return say_cut();
     }
     let length = word_at(rest, 2);
+    if 4096 < length {
+        return say_cut();
+    }
     let mut out = [7u8; 4096];
-    say_recorded(limits, &rest[end..], &rest[4..end], &mut out, length)
+    say_recorded(limits, &rest[end..], &rest[4..end], &mut out[..length])
 }
 
 // Whether the second table accepts every word of the first.
 fn say_fitting(first: &[u8], second: &[u8]) -> bool {
-    let fitting = fit::fit(first, second);
-    match fitting {
-        Fitting::Yes => {
-            number(0);
-            number(1);
-        }
-        Fitting::No => {
-            number(0);
-            number(0);
-        }
-        Fitting::Refused(k) => {
-            number(k as u64);
-        }
-    }
+    let mut values = [0u64; 1];
+    let refused = answers::say_fitting(fit::fit(first, second), &mut values);
+    say_answer(refused, &values);
     say(b"\n")
 }
 
@@ -653,7 +549,7 @@ fn say_fit(rest: &[u8]) -> bool {
     say(b"fit");
     let middle = 2 + word_at(rest, 0);
     if rest.len() < middle {
-        return say(b" ?\n");
+        return say_cut();
     }
     say_fitting(&rest[2..middle], &rest[middle..])
 }

@@ -25,7 +25,7 @@ fn which_known(table: &[u8], starts: Starts, words: &[u64], first: &[u8], second
     if two != 0 {
         return Which::First;
     }
-    if maps::class_count(second) < maps::class_count(first) {
+    if numbering::class_count(second) < numbering::class_count(first) {
         return Which::Second;
     }
     Which::First

@@ -1,11 +1,2 @@
-pub mod Collecting
-pub mod Emitting
-pub mod Stepping
-pub mod Pairwise
-pub mod Tidying
-pub mod Targeting
-pub mod Few
-pub mod Moving
-pub mod Returning
 pub mod Writing
 pub mod Whole

@@ -28,8 +28,11 @@ use Rattle.maps.specs.Sections.{Known}
 use Rattle.maps.proofs.Checking.{examined-number}
 use Rattle.encoding.specs.declared.Listed.the-variants.{Refused}
 use Rattle.encoding.specs.Clauses.{lookClauses, transitivity, moveClauses, returnClauses, clauseList, shortList, clauseWords, clausesNumber, ClausesDone, clausesOf}
-use Rattle.clauses.specs.Emit.{State, emit, statesOnly, returnClausesBy, Ready, listFor, closureFor, listBy, listedBy}
-use Rattle.clauses.proofs.Emitting.{emit-append}
+use Rattle.emit.specs.Emit.{State, emit}
+use Rattle.statewise.specs.Alone.{statesOnly}
+use Rattle.recordwise.specs.Sorted.{returnClausesBy}
+use Rattle.clauses.specs.Whole.{Ready, listFor, closureFor, listBy, listedBy}
+use Rattle.emit.proofs.Emitting.{emit-append}
 
 -- ---- group 2, where the list is to be whole
 

@@ -13,9 +13,10 @@ use borrow.Author.Tests.{lt-ltb, le-ltb, le-leb, lt-leb}
 use Rattle.lists.specs.Lists.{gather, over}
 use Rattle.cnf.specs.Clauses.{wordsOf}
 use Rattle.encoding.specs.declared.Listed.the-variants.{List as Words, Refused}
-use Rattle.clauses.specs.declared.emit.Tally.{Tally}
-use Rattle.clauses.specs.Emit.{State, state, place, written, emitOne, emit, listedBy}
-use Rattle.clauses.proofs.Emitting.{emit-full, length-place, length-written}
+use Rattle.emit.specs.declared.emit.Tally.{Tally}
+use Rattle.emit.specs.Emit.{State, state, place, written, emitOne, emit}
+use Rattle.clauses.specs.Whole.{listedBy}
+use Rattle.emit.proofs.Emitting.{emit-full, length-place, length-written}
 
 -- ---- the words of clauses
 

@@ -7,23 +7,18 @@ ghost use Rattle.format.specs.File.{tableOf};
 ghost use Rattle.maps.specs.Sections.{Known};
 ghost use Rattle.encoding.specs.Clauses.{clausesOf, ClausesSays};
 ghost use Rattle.encoding.specs.Demands.{ListSound};
-ghost use Rattle.clauses.specs.Emit.{state, Ordered, emit, statesOnly, closureFor, Ready, listFor, listBy, listedBy};
+ghost use Rattle.emit.specs.Emit.{state, Ordered, emit};
+ghost use Rattle.statewise.specs.Alone.{statesOnly};
+ghost use Rattle.clauses.specs.Whole.{closureFor, Ready, listFor, listBy, listedBy};
 use emit::Tally;
 use encoding::Listed;
 use format::Starts;
 use limits::Limits;
-use moves::moves;
-use returns::live_returns;
-use states::looks_apart;
-use states::transitive;
+use recordwise::live_returns;
+use recordwise::moves;
+use statewise::looks_apart;
+use statewise::transitive;
 use table::Section;
-
-mod emit;
-mod literals;
-mod matched;
-mod moves;
-mod returns;
-mod states;
 
 // Group 2, where the list is to be whole.
 fn closure(whole: bool, states: &[u8], tally: Tally, list: &mut [u16]) -> Tally

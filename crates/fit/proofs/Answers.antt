@@ -15,7 +15,7 @@ use Rattle.table.specs.declared.view.Section.the-variants.{Symbols}
 use Rattle.table.proofs.Parts.{symbols-read}
 use Rattle.fitting.specs.Fit.{fits, noChoice, sameSymbols, fitNumber, fitOf}
 use Rattle.fitting.specs.declared.Fitting.the-variants.{Yes, No, Refused}
-use Rattle.fit.specs.Rows.{BothRead}
+use Rattle.compare.specs.Told.{BothRead}
 
 module _ (b c : List ℕ) where
   refused-by : {k : ℕ} → fitNumber b c ≡ k → (k ≡ 0 → ⊥) → Refused k ≡ fitOf b c

@@ -1,9 +1,1 @@
-pub mod Holding
-pub mod Passing
-pub mod Targets
-pub mod Settling
-pub mod Marking
-pub mod Handing
-pub mod Choosing
 pub mod Answers
-pub mod Quickly

@@ -1,23 +1,15 @@
 // Does the second table accept every word of the first?
-mod choice;
-mod marks;
-mod nexts;
-mod pairs;
-mod quick;
-mod rows;
-mod settle;
-
 ghost use mathlib.Core.Path.{_≡_};
 ghost use Rattle.limits.specs.Limits.{standard};
 ghost use Rattle.table.specs.Sections.{ReadAs};
 ghost use Rattle.fitting.specs.Fit.{fitOf, FitSays};
 ghost use Rattle.fitting.specs.Demands.{YesExactly, NoApart, FitsQuotient, FitsOn};
-ghost use Rattle.fit.specs.Rows.{BothRead};
+ghost use Rattle.compare.specs.Told.{BothRead};
 use choice::no_choice;
+use compare::fits;
 use fitting::Fitting;
 use format::Reading;
 use format::Starts;
-use settle::fits;
 use table::Section;
 
 // The answer for two tables that were read.

@@ -23,7 +23,8 @@ use Rattle.table.proofs.Parts.{states-read, internals-read, calls-read, returns
 use Rattle.tops.specs.declared.Examined.{Examined}
 use Rattle.tops.specs.Sections.{examinedOf}
 use Rattle.relations.specs.Check.{looksAgree, movesMatched, returnsMatched, mapTests, checkNumber}
-use Rattle.maps.specs.Sections.{ofStates, recordMatched, recordsMatched, Lent, Known, Parted, partTests}
+use Rattle.maps.specs.Sections.{Known, Parted, partTests}
+use Rattle.matching.specs.Matching.{ofStates, recordMatched, recordsMatched, Lent}
 
 -- ---- 15 to 20, over the parts of a table
 

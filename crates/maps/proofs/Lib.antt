@@ -1,3 +1,1 @@
-pub mod Matched
-pub mod Reaching
 pub mod Checking

@@ -6,17 +6,11 @@ ghost use Rattle.format.specs.File.{tableOf};
 ghost use Rattle.relations.specs.Check.{mapTests, checkOf, CheckSays};
 ghost use Rattle.relations.specs.Accepting.{AcceptsExactly};
 ghost use Rattle.maps.specs.Sections.{Known, Parted, partTests};
-use limits::Limits;
-
-mod matching;
-mod numbering;
-
 use format::Starts;
-pub use matching::keeps;
+use limits::Limits;
 use matching::looks_agree;
 use matching::records_matched;
-pub use numbering::class_count;
-pub use numbering::class_of;
+use numbering::class_count;
 use numbering::numbered;
 use relations::Checked;
 use table::Section;

@@ -1,2 +1,1 @@
-pub mod ClassBytes
 pub mod Quotienting

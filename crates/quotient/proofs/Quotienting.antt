@@ -27,8 +27,9 @@ use Rattle.table.specs.declared.view.Section.the-variants.{Symbols, States, Int
 use Rattle.table.proofs.Parts.{symbols-read, states-read, internals-read, calls-read, returns-read}
 use Rattle.reach.specs.Tops.{live, liveReturns}
 use Rattle.relations.specs.Check.{checkNumber}
-use Rattle.maps.specs.Sections.{ofStates, kept, Known}
-use Rattle.maps.proofs.Matched.{move-kept, return-kept}
+use Rattle.maps.specs.Sections.{Known}
+use Rattle.matching.specs.Matching.{ofStates, kept}
+use Rattle.matching.proofs.Matched.{move-kept, return-kept}
 use Rattle.quotients.specs.Quotient.{image, images, memberHas, classMark, classByte, quotientTable, quotientBytes, quotientNumber, quotientOf}
 use Rattle.table.specs.Keys.{key}
 use Rattle.table.proofs.Keys.{part-bytes}
@@ -39,8 +40,9 @@ use Rattle.writing.specs.Tables.{keyedTable, writtenFor}
 use Rattle.writing.proofs.Keys.{Same, keys-back}
 use Rattle.writing.proofs.Whole.{bytes-long}
 use Rattle.images.proofs.Collecting.{image-bytes}
-use Rattle.quotient.specs.Sections.{classBytes, Sized, imageKeys, partedQuotient}
-use Rattle.quotient.proofs.ClassBytes.{length-bytes}
+use Rattle.quotient.specs.Sections.{Sized, imageKeys, partedQuotient}
+use Rattle.members.specs.Classes.{classBytes}
+use Rattle.members.proofs.ClassBytes.{length-bytes}
 
 -- ---- counts
 

@@ -1,27 +1,16 @@
 -- What the functions of src/ are stated with: the parts of a table that they are lent. Assumes nothing.
-use mathlib.Core.Bool.{Bool}
-use mathlib.Core.List.{List, map}
-use Prim.Native.Nat.{ℕ, _/_, _%_, _≤_}
+use mathlib.Core.List.{List}
+use Prim.Native.Nat.{ℕ, _≤_}
 use lib.ListN.{length}
-use lib.Dec.{eqb}
-use Rattle.lists.specs.Lists.{keep, upto}
+use Rattle.lists.specs.Lists.{keep}
 use Rattle.limits.specs.Limits.{symbolMost}
 use Rattle.format.specs.File.{Table, records}
 use Rattle.format.specs.Maps.{classes}
-use Rattle.maps.specs.Sections.{ofStates, kept}
-use Rattle.quotients.specs.Quotient.{images, classByte}
+use Rattle.matching.specs.Matching.{ofStates, kept}
+use Rattle.quotients.specs.Quotient.{images}
+use Rattle.members.specs.Classes.{classBytes}
 use Rattle.writing.specs.Keys.{keysOf}
 use Rattle.writing.specs.Tables.{keyedTable}
-
--- a state byte has the flag 1 "for initial" or 2 "for accepting"
-unfoldable pub flagged : ℕ → ℕ → Bool
-flagged flag byte = eqb (byte / flag % 2) 1
-
--- the state bytes of n classes
-abbrev pub classBytes : Table → List ℕ → ℕ → List ℕ
-classBytes t m n = map (classByte t m) (upto n)
-
--- ---- over the parts of a table
 
 -- parts no longer than the limits
 pub record Sized (symbols internals calls returns : List ℕ) : Type 0 where

@@ -7,14 +7,11 @@ ghost use Rattle.quotients.specs.Quotient.{quotientBytes, quotientOf, QuotientS
 ghost use Rattle.quotients.specs.Demands.{Promises};
 ghost use Rattle.writing.specs.Tables.{writtenFor};
 ghost use Rattle.quotient.specs.Sections.{Sized, partedQuotient};
-
-mod classes;
-
-use classes::put_states;
 use format::Starts;
 use images::collect;
 use limits::Limits;
-use maps::class_count;
+use members::put_states;
+use numbering::class_count;
 use quotients::Written;
 use table::Section;
 use writing::put_table;

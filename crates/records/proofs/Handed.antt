@@ -28,14 +28,16 @@ use Rattle.relations.specs.Check.{mapTests, checkNumber}
 use Rattle.relations.proofs.Accepted.{accepted}
 use Rattle.relations.proofs.Answers.{tested}
 use Rattle.relations.proofs.Numbered.{classes-few}
-use Rattle.maps.specs.Sections.{kept, Known}
-use Rattle.maps.proofs.Matched.{move-kept, return-kept}
+use Rattle.maps.specs.Sections.{Known}
+use Rattle.matching.specs.Matching.{kept}
+use Rattle.matching.proofs.Matched.{move-kept, return-kept}
 use Rattle.fates.specs.declared.Recorded.the-variants.{Counts, Refused}
 use Rattle.fates.specs.Fates.{keptMark, foldedMark, deadMark, sectionFates, having, fatesOf, countsOf, recordsOf}
 use Rattle.fates.proofs.Counts.{one-each}
 use Rattle.fates.proofs.Sections.{fates-same}
 use Rattle.fates.proofs.Answers.{records-short, records-told}
-use Rattle.records.specs.Marks.{Fitting, FittingParts, partedFates, toldFor}
+use Rattle.marks.specs.Marks.{Fitting}
+use Rattle.records.specs.Told.{FittingParts, partedFates, toldFor}
 
 -- ---- the marks of a section of moves, and of returns
 

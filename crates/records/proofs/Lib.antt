@@ -1,6 +1,2 @@
-pub mod Places
-pub mod Spans
-pub mod Passing
-pub mod Counting
 pub mod Telling
 pub mod Handed

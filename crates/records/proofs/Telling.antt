@@ -10,13 +10,14 @@ use Rattle.lists.specs.Lists.{over}
 use Rattle.lists.proofs.Members.{zeros}
 use Rattle.lists.proofs.Copying.{length-over}
 use Rattle.format.specs.File.{records}
-use Rattle.maps.specs.Sections.{kept}
+use Rattle.matching.specs.Matching.{kept}
 use Rattle.writing.proofs.Writing.{Writing, begun, written, part-room, part-put, finished}
 use Rattle.fates.specs.declared.Recorded.the-variants.{Counts, Refused}
 use Rattle.fates.specs.Fates.{keptMark, foldedMark, deadMark, sectionFates, having}
 use Rattle.fates.proofs.Counts.{length-fates}
-use Rattle.records.specs.Marks.{UpTo, recordsIn, partedFates, toldFor}
-use Rattle.records.proofs.Spans.{records-count}
+use Rattle.marks.specs.Marks.{UpTo, recordsIn}
+use Rattle.records.specs.Told.{partedFates, toldFor}
+use Rattle.marks.proofs.Spans.{records-count}
 
 pub fresh-room : UpTo 0 (replicate 102400 0)
 fresh-room = record { places = length-replicate {A = ℕ} 102400 0; small = λ k. omega (arith, zeros 102400 k) }

@@ -9,10 +9,7 @@ ghost use Rattle.relations.specs.Check.{mapTests};
 ghost use Rattle.maps.specs.Sections.{Known, WhereReadable};
 ghost use Rattle.fates.specs.Fates.{fatesOf, recordsOf, RecordsSays};
 ghost use Rattle.fates.specs.Demands.{Promises};
-ghost use Rattle.records.specs.Marks.{FittingParts, partedFates, toldFor};
-
-mod marks;
-
+ghost use Rattle.records.specs.Told.{FittingParts, partedFates, toldFor};
 use fates::Recorded;
 use format::Starts;
 use limits::Limits;

@@ -39,7 +39,7 @@ use Rattle.encoding.specs.Maps.{mapOf}
 use Rattle.encoding.specs.declared.Listed.{Listed}
 use Rattle.encoding.specs.declared.Listed.the-variants.{List as Words, Refused as NotListed}
 use Rattle.encoding.proofs.Short.{short-formed, short-tried}
-use Rattle.clauses.specs.Emit.{listedBy}
+use Rattle.clauses.specs.Whole.{listedBy}
 use Rattle.search.specs.Turns.{noneSet, Fresh, EndsWith}
 use Rattle.rows.specs.Conclusions.{withTriangles}
 use Rattle.search.specs.declared.engine.Ending.{Ending}
@@ -54,8 +54,8 @@ use Rattle.reductions.specs.declared.Reduction.the-variants.{Delivered, Refused
 use Rattle.reductions.proofs.Joined.{held-joined}
 use Rattle.reductions.proofs.Ways.{list-formed, trial-model}
 use Rattle.reduce.specs.Held.{MadeBy, HeldFor}
-use Rattle.reduce.specs.Lowest.{MapOf}
-use Rattle.reduce.specs.declared.map.Classes.{Classes}
+use Rattle.joining.specs.Lowest.{MapOf}
+use Rattle.joining.specs.declared.Classes.{Classes}
 use Rattle.reduce.specs.declared.Made.{Made}
 
 -- ---- map and quotient

@@ -13,14 +13,12 @@ ghost use Rattle.reductions.specs.Demands.{Promises};
 ghost use Rattle.reduce.specs.Held.{MadeBy, HeldFor, ListWritten};
 use encoding::Listed;
 use format::Starts;
+use joining::map_of;
 use limits::Limits;
-use map::map_of;
 use quotients::Written;
 use reductions::Reduction;
 use search::Ending;
 use table::Section;
-
-mod map;
 
 // The end of a search as its guesses, and whether none exists or the budget is spent.
 struct Made {

@@ -24,7 +24,8 @@ use Rattle.table.specs.declared.view.Section.the-variants.{Symbols, States, Int
 use Rattle.table.proofs.Parts.{symbols-read, states-read, internals-read, calls-read, returns-read}
 use Rattle.reach.specs.Tops.{startWords}
 use Rattle.scripts.specs.Script.{Levels, behind, ended, reads, started, scriptTests}
-use Rattle.script.specs.Sections.{Lent, Sections, Fits, sectionsRead}
+use Rattle.script.specs.Sections.{Sections, Fits, sectionsRead}
+use Rattle.levels.specs.Levels.{Lent}
 
 -- what is read does not hang on the version
 module _ (v u : ℕ) (symbols states internals calls returns : List ℕ) where

@@ -1,4 +1,3 @@
-pub mod Lengths
 pub mod Turning
 pub mod Going
 pub mod Seasons

@@ -13,6 +13,7 @@ ghost use Rattle.seasons.specs.Seasons.{lengthsFit, SeasonDone, refusedBy, seas
 ghost use Rattle.seasons.specs.Demands.{SeasonPromises};
 ghost use Rattle.season.specs.Turns.{Turned, Ran};
 use format::Reading;
+use lengths::lengths_fit;
 use limits::Limits;
 use reductions::Reduction;
 use seasons::Season;
@@ -24,28 +25,6 @@ struct Turn {
     states: usize,
     length: usize,
     guesses: u64,
-}
-
-// 34: one to 8 tables whose lengths add up to so many bytes, without wrapping.
-fn lengths_fit(all: usize, lengths: &[u64]) -> bool
-    ensures { λ r. ⌜ r ≡ lengthsFit all (now (lengths .entry)) ⌝ }
-{
-    if lengths.len() < 1 {
-        return false;
-    }
-    if 8 < lengths.len() {
-        return false;
-    }
-    let mut left = all as u64;
-    let mut i: usize = 0;
-    'lengths: while i < lengths.len() {
-        if left < lengths[i] {
-            return false;
-        }
-        left -= lengths[i];
-        i += 1;
-    }
-    left == 0
 }
 
 // How many states a table has that is readable at the limits.

@@ -89,7 +89,7 @@ fn add_lines(lines: &[u8], map: &[u8]) -> Counted
     'lines: while LINE <= lines.len() - at {
         let next = at + LINE;
         let uses = uses_in(&lines[at..next]);
-        let class = index(maps::class_of(map, state_in(&lines[at..next])));
+        let class = index(numbering::class_of(map, state_in(&lines[at..next])));
         sums[class] += uses;
         total += uses;
         at = next;

@@ -8,10 +8,10 @@ use Rattle.format.specs.File.{tableOf}
 use Rattle.format.specs.Language.{count}
 use Rattle.relations.specs.Check.{checkNumber}
 use Rattle.reductions.proofs.Theorems.{delivered-fits}
-use Rattle.basilvault.specs.Program.{widest}
-use Rattle.basilvault.specs.Text.{refusedText}
-use Rattle.basilvault.proofs.Putting.{put-on, put-whole}
-use Rattle.basilvault.proofs.Going.{delivered-checked, map-checked, delivered-text, refused-text}
+use Rattle.printed.specs.Program.{widest}
+use Rattle.printed.specs.Lines.{refusedText}
+use Rattle.lines.proofs.Putting.{put-on, put-whole}
+use Rattle.printed.proofs.Going.{delivered-checked, map-checked, delivered-text, refused-text}
 use borrow.Author.Needs.{needs}
 use Rattle.basilvault.proofs.reduce_lent.Statement.{statement}
 use Rattle.basilvault.proofs.reduce_lent.Tie as tie

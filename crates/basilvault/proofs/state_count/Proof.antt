@@ -1,7 +1,7 @@
 -- `basilvault::state_count` meets its contract. Assumes nothing.
 use mathlib.Core.Path.{sym, _∙_}
 use native.Mathlib.Omega.{arith}
-use Rattle.basilvault.specs.Program.{widest}
+use Rattle.printed.specs.Program.{widest}
 use Rattle.table.proofs.Handed.{read-as, read-refused}
 use Rattle.reduce.proofs.Stages.{states-count, states-few}
 use borrow.Author.Needs.{needs}

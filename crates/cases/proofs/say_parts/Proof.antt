@@ -1,4 +1,5 @@
 -- `cases::say_parts` is safe and ends. Assumes nothing.
+use lib.ListN.{length}
 use native.Mathlib.Omega.{arith}
 use lib.ListN.{length-take}
 use borrow.Author.Needs.{needs}
@@ -23,38 +24,26 @@ word-at-requires-3 c κs = search needs
 add-end : tie.Need-add-end
 add-end c = search needs
 
-slice-aggregate-say : tie.Need-slice-aggregate-say
-slice-aggregate-say c = search needs
-
-say-requires : tie.Need-say-requires
-say-requires c κs = search needs
+say-cut-requires : tie.Need-say-cut-requires
+say-cut-requires c κs = search needs
 
 returns : tie.Need-returns
 returns c = search needs
 
-slice-aggregate-say-2 : tie.Need-slice-aggregate-say-2
-slice-aggregate-say-2 c = search needs
-
-say-requires-2 : tie.Need-say-requires-2
-say-requires-2 c κs = search needs
+say-cut-requires-2 : tie.Need-say-cut-requires-2
+say-cut-requires-2 c κs = search needs
 
 returns-2 : tie.Need-returns-2
 returns-2 c = search needs
 
-slice-aggregate-say-3 : tie.Need-slice-aggregate-say-3
-slice-aggregate-say-3 c = search needs
-
-say-requires-3 : tie.Need-say-requires-3
-say-requires-3 c κs = search needs
+say-cut-requires-3 : tie.Need-say-cut-requires-3
+say-cut-requires-3 c κs = search needs
 
 returns-3 : tie.Need-returns-3
 returns-3 c = search needs
 
-slice-aggregate-say-4 : tie.Need-slice-aggregate-say-4
-slice-aggregate-say-4 c = search needs
-
-say-requires-4 : tie.Need-say-requires-4
-say-requires-4 c κs = search needs
+say-cut-requires-4 : tie.Need-say-cut-requires-4
+say-cut-requires-4 c κs = search needs
 
 returns-4 : tie.Need-returns-4
 returns-4 c = search needs
@@ -114,17 +103,13 @@ say-parts-spec =
     add-word-at-2
     word-at-requires-3
     add-end
-    slice-aggregate-say
-    say-requires
+    say-cut-requires
     returns
-    slice-aggregate-say-2
-    say-requires-2
+    say-cut-requires-2
     returns-2
-    slice-aggregate-say-3
-    say-requires-3
+    say-cut-requires-3
     returns-3
-    slice-aggregate-say-4
-    say-requires-4
+    say-cut-requires-4
     returns-4
     sub-say-seasoned
     part-say-seasoned-start

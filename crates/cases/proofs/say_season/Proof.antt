@@ -14,11 +14,8 @@ say-requires c κs = search needs
 word-at-requires : tie.Need-word-at-requires
 word-at-requires c κs = search needs
 
-slice-aggregate-say-2 : tie.Need-slice-aggregate-say-2
-slice-aggregate-say-2 c = search needs
-
-say-requires-2 : tie.Need-say-requires-2
-say-requires-2 c κs = search needs
+say-cut-requires : tie.Need-say-cut-requires
+say-cut-requires c κs = search needs
 
 returns : tie.Need-returns
 returns c = search needs
@@ -60,8 +57,7 @@ say-season-spec =
     slice-aggregate-say
     say-requires
     word-at-requires
-    slice-aggregate-say-2
-    say-requires-2
+    say-cut-requires
     returns
     lengths-from-requires
     mul-say-parts

@@ -1,6 +1,6 @@
 -- `records::tell_read` meets its contract: the parts that are handed on are the sections. Assumes nothing.
 use mathlib.Core.Path.{ap, _∙_}
-use Rattle.records.specs.Marks.{toldFor}
+use Rattle.records.specs.Told.{toldFor}
 use Rattle.records.proofs.Handed.{parts-fit, parts-marked}
 use borrow.Author.Needs.{needs}
 use Rattle.records.proofs.tell_read.Statement.{statement}

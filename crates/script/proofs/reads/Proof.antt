@@ -6,7 +6,7 @@ use mathlib.Core.Bool.{true, false}
 use mathlib.Core.List.{[]}
 use Rattle.format.specs.File.{records}
 use Rattle.scripts.specs.Script.{moved, returned, started, ended}
-use Rattle.script.proofs.Index.{lent-more}
+use Rattle.levels.proofs.Index.{lent-more}
 use Rattle.script.proofs.Walking.{Walking, walking, walked, walked-open, room, walk-internal, walk-call, walk-none, walk-return}
 use Rattle.script.proofs.Depths.{symbol-inside}
 use Rattle.script.specs.Sections.{sectionsRead}

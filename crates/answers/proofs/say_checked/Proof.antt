@@ -1,0 +1,53 @@
+-- `answers::say_checked` meets its contract: its values are stored, a refusal has none. Assumes nothing.
+use borrow.Author.Needs.{needs}
+use mathlib.Core.Path.{sym, ap, _∙_}
+use Rattle.relations.specs.Check.{checkedNumber, checkedValues}
+use Rattle.answers.specs.Storing.{stored}
+use Rattle.answers.proofs.Storing.{stored-none}
+use Rattle.answers.proofs.say_checked.Statement.{statement}
+use Rattle.answers.proofs.say_checked.Tie as tie
+
+enum-known-checked : tie.Need-enum-known-checked
+enum-known-checked c = search needs
+
+slice-aggregate-store : tie.Need-slice-aggregate-store
+slice-aggregate-store c = search needs
+
+store-requires : tie.Need-store-requires
+store-requires c κs = search needs
+
+enum-known-checked-2 : tie.Need-enum-known-checked-2
+enum-known-checked-2 c = search needs
+
+cast-result : tie.Need-cast-result
+cast-result c = search needs
+
+same-length : tie.Need-same-length
+same-length c = search needs
+
+returns : tie.Need-returns
+unfolding checkedNumber checkedValues
+returns c =
+    let f = c .before .before .before .before .before .before .checked .given .1 in
+    let v = c .before .before .before .before .before .before .before .before .before .args .values .now in
+    (sym (ap checkedNumber f), c .before .before .store .ensures ∙ ap (λ vs. stored vs v) (sym (ap checkedValues f)))
+
+returns-2 : tie.Need-returns-2
+unfolding checkedNumber checkedValues
+returns-2 c =
+    let f = c .before .checked2 .given .1 in
+    let v = c .before .before .before .before .args .values .now in
+    (sym (ap checkedNumber f), sym (stored-none v) ∙ ap (λ vs. stored vs v) (sym (ap checkedValues f)))
+
+pub say-checked-spec : {M : Type 1} → statement M
+say-checked-spec =
+    tie.close
+    (tie.spec
+    enum-known-checked
+    slice-aggregate-store
+    store-requires
+    enum-known-checked-2
+    cast-result
+    same-length
+    returns
+    returns-2)

@@ -1,0 +1,53 @@
+-- `answers::say_listed` meets its contract: its values are stored, a refusal has none. Assumes nothing.
+use borrow.Author.Needs.{needs}
+use mathlib.Core.Path.{sym, ap, _∙_}
+use Rattle.encoding.specs.Clauses.{listedNumber, listedValues}
+use Rattle.answers.specs.Storing.{stored}
+use Rattle.answers.proofs.Storing.{stored-none}
+use Rattle.answers.proofs.say_listed.Statement.{statement}
+use Rattle.answers.proofs.say_listed.Tie as tie
+
+enum-known-listed : tie.Need-enum-known-listed
+enum-known-listed c = search needs
+
+slice-aggregate-store : tie.Need-slice-aggregate-store
+slice-aggregate-store c = search needs
+
+store-requires : tie.Need-store-requires
+store-requires c κs = search needs
+
+enum-known-listed-2 : tie.Need-enum-known-listed-2
+enum-known-listed-2 c = search needs
+
+cast-result : tie.Need-cast-result
+cast-result c = search needs
+
+same-length : tie.Need-same-length
+same-length c = search needs
+
+returns : tie.Need-returns
+unfolding listedNumber listedValues
+returns c =
+    let f = c .before .before .before .before .before .before .listed .given .1 in
+    let v = c .before .before .before .before .before .before .before .before .before .args .values .now in
+    (sym (ap listedNumber f), c .before .before .store .ensures ∙ ap (λ vs. stored vs v) (sym (ap listedValues f)))
+
+returns-2 : tie.Need-returns-2
+unfolding listedNumber listedValues
+returns-2 c =
+    let f = c .before .listed2 .given .1 in
+    let v = c .before .before .before .before .args .values .now in
+    (sym (ap listedNumber f), sym (stored-none v) ∙ ap (λ vs. stored vs v) (sym (ap listedValues f)))
+
+pub say-listed-spec : {M : Type 1} → statement M
+say-listed-spec =
+    tie.close
+    (tie.spec
+    enum-known-listed
+    slice-aggregate-store
+    store-requires
+    enum-known-listed-2
+    cast-result
+    same-length
+    returns
+    returns-2)

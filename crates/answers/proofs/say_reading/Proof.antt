@@ -1,0 +1,53 @@
+-- `answers::say_reading` meets its contract: its values are stored, a refusal has none. Assumes nothing.
+use borrow.Author.Needs.{needs}
+use mathlib.Core.Path.{sym, ap, _∙_}
+use Rattle.format.specs.Reading.{readingNumber, readingValues}
+use Rattle.answers.specs.Storing.{stored}
+use Rattle.answers.proofs.Storing.{stored-none}
+use Rattle.answers.proofs.say_reading.Statement.{statement}
+use Rattle.answers.proofs.say_reading.Tie as tie
+
+enum-known-reading : tie.Need-enum-known-reading
+enum-known-reading c = search needs
+
+slice-aggregate-store : tie.Need-slice-aggregate-store
+slice-aggregate-store c = search needs
+
+store-requires : tie.Need-store-requires
+store-requires c κs = search needs
+
+enum-known-reading-2 : tie.Need-enum-known-reading-2
+enum-known-reading-2 c = search needs
+
+cast-result : tie.Need-cast-result
+cast-result c = search needs
+
+same-length : tie.Need-same-length
+same-length c = search needs
+
+returns : tie.Need-returns
+unfolding readingNumber readingValues
+returns c =
+    let f = c .before .before .before .before .before .before .reading .given .1 in
+    let v = c .before .before .before .before .before .before .before .before .before .args .values .now in
+    (sym (ap readingNumber f), c .before .before .store .ensures ∙ ap (λ vs. stored vs v) (sym (ap readingValues f)))
+
+returns-2 : tie.Need-returns-2
+unfolding readingNumber readingValues
+returns-2 c =
+    let f = c .before .reading2 .given .1 in
+    let v = c .before .before .before .before .args .values .now in
+    (sym (ap readingNumber f), sym (stored-none v) ∙ ap (λ vs. stored vs v) (sym (ap readingValues f)))
+
+pub say-reading-spec : {M : Type 1} → statement M
+say-reading-spec =
+    tie.close
+    (tie.spec
+    enum-known-reading
+    slice-aggregate-store
+    store-requires
+    enum-known-reading-2
+    cast-result
+    same-length
+    returns
+    returns-2)

@@ -1,0 +1,43 @@
+-- `answers::say_season` meets its contract: the rows are stored, a refusal has none. Assumes nothing.
+use borrow.Author.Needs.{needs}
+use mathlib.Core.Path.{refl, sym, ap, _∙_}
+use Rattle.answers.specs.Storing.{stored}
+use Rattle.answers.proofs.Storing.{stored-none, season-reduced, season-refused}
+use Rattle.answers.proofs.say_season.Statement.{statement}
+use Rattle.answers.proofs.say_season.Tie as tie
+
+cast-result : tie.Need-cast-result
+cast-result c = search needs
+
+returns : tie.Need-returns
+returns c =
+    let r = c .before .before .args .answer in
+    let v = c .before .before .args .values .now in
+    (refl, sym (stored-none v) ∙ ap (λ vs. stored vs v) (sym (season-refused r (c .if1 .taken))))
+
+slice-aggregate-store : tie.Need-slice-aggregate-store
+slice-aggregate-store c = search needs
+
+store-requires : tie.Need-store-requires
+store-requires c κs = search needs
+
+same-length : tie.Need-same-length
+same-length c = search needs
+
+returns-2 : tie.Need-returns-2
+returns-2 c =
+    let d = c .before .before .before .before .before .before in
+    let r = d .before .before .args .answer in
+    let v = d .before .before .args .values .now in
+    (sym (d .if1 .left), c .before .before .store .ensures ∙ ap (λ vs. stored vs v) (sym (season-reduced r (d .if1 .left))))
+
+pub say-season-spec : {M : Type 1} → statement M
+say-season-spec =
+    tie.close
+    (tie.spec
+    cast-result
+    returns
+    slice-aggregate-store
+    store-requires
+    same-length
+    returns-2)

@@ -1,4 +1,0 @@
-pub mod Text
-pub mod Decimals
-pub mod Putting
-pub mod Going

@@ -1,0 +1,47 @@
+-- What the code that writes the whole clause list is stated with. Assumes nothing.
+use mathlib.Core.Bool.{Bool, true, false}
+use mathlib.Core.List.{List, [], _++_}
+use Prim.Native.Nat.{ℕ, _≤_}
+use lib.ListN.{length}
+use lib.Dec.{leb}
+use Rattle.lists.specs.Lists.{over}
+use Rattle.limits.specs.Limits.{stateMost}
+use Rattle.format.specs.File.{Table, records}
+use Rattle.cnf.specs.Clauses.{wordsOf}
+use Rattle.encoding.specs.declared.Listed.the-variants.{List as Words, Refused}
+use Rattle.statewise.specs.Alone.{statesOnly}
+use Rattle.recordwise.specs.Sorted.{Sorted, returnClausesBy}
+use Rattle.encoding.specs.Clauses.{lookClauses, transitivity, moveClauses, ClausesDone, clauseList, shortList}
+
+-- at most 40 states, and sections that ascend and name states
+pub record Ready (states internals calls returns : List ℕ) : Type 0 where
+  pub few : length states ≤ stateMost
+  pub internals-sorted : Sorted 3 internals
+  pub calls-sorted : Sorted 3 calls
+  pub returns-sorted : Sorted 4 returns
+
+-- the whole list of a table, or the one without group 2
+abbrev pub listFor : Bool → Table → List (List ℕ)
+listFor true t = clauseList t
+listFor false t = shortList t
+
+-- group 2, where the list is to be whole
+abbrev pub closureFor : Bool → Table → List (List ℕ)
+closureFor true t = transitivity t
+closureFor false t = []
+
+-- the list of a table's four sections under its tops
+unfoldable pub listBy : Bool → List ℕ → List ℕ → List ℕ → List ℕ → List ℕ → List (List ℕ)
+listBy whole states internals calls returns tops =
+    lookClauses (statesOnly states)
+    ++ closureFor whole (statesOnly states)
+    ++ moveClauses (records 3 internals) (length states)
+    ++ moveClauses (records 3 calls) (length states)
+    ++ returnClausesBy tops (records 4 returns) (length states)
+
+-- the answer and the buffer for a list
+unfoldable pub listedBy : List (List ℕ) → List ℕ → ClausesDone
+listedBy cs list = elim (leb (length (wordsOf cs)) (length list)) [
+  | true ↦ record { answer = Words (length cs) (length (wordsOf cs)); list = over (wordsOf cs) list }
+  | false ↦ record { answer = Refused 10; list = list }
+]

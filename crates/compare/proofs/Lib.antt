@@ -1,0 +1,4 @@
+pub mod Marking
+pub mod Settling
+pub mod Targets
+pub mod Handing

@@ -1,0 +1,70 @@
+-- `compare::nexts::next_returns` meets its contract. The invariant: the places below i are filled. Assumes nothing.
+use borrow.Author.Needs.{needs}
+use Rattle.compare.proofs.Targets.{Filling, filling, fill-on, filled, returnAt, next-returns, returns-most}
+use mathlib.Core.Path.{_∙_}
+use mathlib.Core.List.{[], _∷_}
+use Prim.Native.Nat.{_-_}
+use Rattle.format.specs.File.{records}
+use Rattle.fitting.specs.Fit.{after}
+use Rattle.compare.proofs.nexts.next_returns.Statement.{statement}
+use Rattle.compare.proofs.nexts.next_returns.Tie as tie
+
+abbrev Inv-returns : tie.InvT-returns
+Inv-returns section sink next₀ i₀ next i = Filling (returnAt (records 4 section) sink) 20000 next i
+
+abbrev μ-returns : tie.MeasureT-returns
+μ-returns section sink next₀ i₀ next i = 20000 - i
+
+returns-holds : tie.Need-returns-holds Inv-returns μ-returns
+returns-holds c = filling _ 20000
+
+narrow-requires : tie.Need-narrow-requires Inv-returns μ-returns
+narrow-requires c κs = search needs
+
+narrow-requires-2 : tie.Need-narrow-requires-2 Inv-returns μ-returns
+narrow-requires-2 c κs = search needs
+
+narrow-requires-3 : tie.Need-narrow-requires-3 Inv-returns μ-returns
+narrow-requires-3 c κs = search needs
+
+return-key-requires : tie.Need-return-key-requires Inv-returns μ-returns
+return-key-requires c κs = search needs
+
+target-of-requires : tie.Need-target-of-requires Inv-returns μ-returns
+target-of-requires c κs = (search needs, c .before .before .before .before .before .before .before .pre .in-order)
+
+array-write-next : tie.Need-array-write-next Inv-returns μ-returns
+array-write-next c = search needs
+
+add-i : tie.Need-add-i Inv-returns μ-returns
+add-i c = search needs
+
+returns-less : tie.Need-returns-less Inv-returns μ-returns
+returns-less c = search needs
+
+returns-again : tie.Need-returns-again Inv-returns μ-returns
+returns-again c = fill-on (c .before .before .before .before .before .before .returns .inv) (c .before .before .before .before .before .returns-test .taken) (c .target-of .ensures _ (c .before .return-key .ensures) ∙ (λ j. after (records 4 (c .before .before .before .before .before .before .before .before .args .section .now)) (c .before .before .before .before .before .before .before .before .args .sink) (c .before .before .before .before .narrow .ensures j ∷ c .before .before .before .narrow2 .ensures j ∷ c .before .before .narrow3 .ensures j ∷ [])))
+
+returns : tie.Need-returns Inv-returns μ-returns
+returns c =
+    let p = c .before .before .before .pre in
+    let d = filled (c .before .returns .inv) (c .returns-test .left) in
+    (next-returns (p .few) d, returns-most p (c .before .returns .inv .long) d)
+
+pub next-returns-spec : {M : Type 1} → statement M
+next-returns-spec =
+    tie.close
+    (tie.spec
+    Inv-returns
+    μ-returns
+    returns-holds
+    narrow-requires
+    narrow-requires-2
+    narrow-requires-3
+    return-key-requires
+    target-of-requires
+    array-write-next
+    add-i
+    returns-less
+    returns-again
+    returns)

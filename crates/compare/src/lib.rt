@@ -1,0 +1,6 @@
+// The comparison of two tables that were read: the tops of their pairs, and whether a pair accepts where it must not.
+mod marks;
+mod nexts;
+mod settle;
+
+pub use settle::fits;

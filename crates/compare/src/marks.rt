@@ -1,0 +1,105 @@
+// Which pairs are initial, and which accept: the first does and the second does not.
+ghost use mathlib.Core.Path.{_≡_};
+ghost use mathlib.Core.Bool.{_&&_};
+ghost use mathlib.Core.List.{List};
+ghost use Prim.Native.Nat.{ℕ, _+_, _*_, _<_, _≤_};
+ghost use lib.ListN.{length, getD};
+ghost use Rattle.lists.specs.Bits.{has};
+ghost use Rattle.format.specs.Reading.{isInitial, isAccepting};
+ghost use Rattle.fitting.specs.Fit.{pairByte};
+ghost use Rattle.rounds.specs.Rows.{Holds};
+ghost use Rattle.compare.specs.Told.{startStep, EndsTold, StartsTold};
+use rounds::held;
+use rounds::put;
+
+// A state's byte; 0 past the count.
+fn byte_at(states: &[u8], q: usize) -> u8
+    ensures { λ r. ⌜ r ≡ getD (now (states .entry)) q 0 ⌝ }
+{
+    if states.len() <= q {
+        return 0;
+    }
+    states[q]
+}
+
+// The first accepts and the second does not.
+fn accepts(first: u8, second: u8) -> bool
+    ensures { λ r. ⌜ r ≡ isAccepting (pairByte first second) ⌝ }
+{
+    if first / 2 % 2 != 1 {
+        return false;
+    }
+    if second / 2 % 2 == 1 {
+        return false;
+    }
+    true
+}
+
+// The pair u of such states has the bottom among its tops.
+fn ends_at(first: u8, second: u8, rows: &[u64; 6000], u: usize, bottom: usize) -> bool
+    requires { ⌜ (u < 600) × (bottom < 640) ⌝ }
+    ensures { λ r. ⌜ ((F : List ℕ) → Holds (now (rows .entry)) F → r ≡ (isAccepting (pairByte first second) && has F u bottom)) ⌝ }
+{
+    if accepts(first, second) {
+        return held(rows, u, bottom);
+    }
+    false
+}
+
+// Some pair that accepts has the bottom among its tops.
+pub fn any_ends(first: &[u8], second: &[u8], rows: &[u64; 6000]) -> bool
+    requires { ⌜ (length (now first) ≤ 24) × (length (now second) ≤ 24) ⌝ }
+    ensures { λ r. ⌜ EndsTold (now (first .entry)) (now (second .entry)) (now (rows .entry)) r ⌝ }
+{
+    let width = second.len() + 1;
+    let bottom = first.len() * width;
+    let mut u: usize = 0;
+    'pairs: while u < bottom {
+        let p = byte_at(first, u / width);
+        let q = byte_at(second, u % width);
+        if ends_at(p, q, rows, u, bottom) {
+            return true;
+        }
+        u += 1;
+    }
+    false
+}
+
+// Both are initial.
+fn starts(first: u8, second: u8) -> bool
+    ensures { λ r. ⌜ r ≡ isInitial (pairByte first second) ⌝ }
+{
+    if first % 2 != 1 {
+        return false;
+    }
+    if second % 2 != 1 {
+        return false;
+    }
+    true
+}
+
+// The pair u of such states gains the bottom.
+fn start_at(first: u8, second: u8, u: usize, bottom: usize, rows: &mut [u64; 6000])
+    requires { ⌜ (u < 600) × (bottom < 640) ⌝ }
+    ensures { λ _. ⌜ ((F : List ℕ) → Holds (now (rows .entry)) F → u < length F → Holds (now (rows .exit)) (startStep (pairByte first second) u bottom F)) ⌝ }
+{
+    if starts(first, second) {
+        put(rows, u, bottom);
+    }
+}
+
+// An initial pair has the bottom, from rows without a bit.
+pub fn start_rows(first: &[u8], second: &[u8], rows: &mut [u64; 6000])
+    requires { ⌜ (length (now first) ≤ 24) × (length (now second) ≤ 24) ⌝ }
+    ensures { λ _. ⌜ StartsTold (now (first .entry)) (now (second .entry)) (now (rows .entry)) (now (rows .exit)) ⌝ }
+{
+    let width = second.len() + 1;
+    let bottom = first.len() * width;
+    let mut u: usize = 0;
+    'pairs: while u < bottom {
+        let p = byte_at(first, u / width);
+        let q = byte_at(second, u % width);
+        start_at(p, q, u, bottom, rows);
+        u += 1;
+    }
+}

@@ -1,0 +1,5 @@
+pub mod Collecting
+pub mod Emitting
+pub mod Stepping
+pub mod Tidying
+pub mod Targeting

@@ -1,0 +1,28 @@
+-- `emit::literals::add_literal` meets its contract. Assumes nothing.
+use mathlib.Core.Path.{sym, _∙_}
+use borrow.Author.Needs.{needs}
+use Rattle.emit.proofs.Collecting.{kept-literal, new-literal}
+use Rattle.emit.proofs.literals.add_literal.Statement.{statement}
+use Rattle.emit.proofs.literals.add_literal.Tie as tie
+
+contains-requires : tie.Need-contains-requires
+contains-requires c κs = search needs
+
+returns : tie.Need-returns
+returns c = (kept-literal _ _ (c .before .before .before .pre .1) (c .before .before .before .pre .0) (sym (c .before .contains .ensures) ∙ c .if1 .taken), c .before .before .before .pre .1)
+
+mul-words : tie.Need-mul-words
+mul-words c = search needs
+
+element-write-words : tie.Need-element-write-words
+element-write-words c = search needs
+
+add-result : tie.Need-add-result
+add-result c = search needs
+
+returns-2 : tie.Need-returns-2
+returns-2 c = (new-literal _ _ (c .before .before .before .pre .1) (c .before .before .before .pre .0) (sym (c .before .contains .ensures) ∙ c .if1 .left), search needs)
+
+pub add-literal-spec : {M : Type 1} → statement M
+add-literal-spec =
+    tie.close (tie.spec contains-requires returns mul-words element-write-words add-result returns-2)

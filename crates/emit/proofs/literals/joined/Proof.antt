@@ -1,0 +1,21 @@
+-- `emit::literals::joined` meets its contract. Assumes nothing.
+use native.Mathlib.Omega.{arith}
+use borrow.Author.Needs.{needs}
+use Rattle.pairs.proofs.Pairs.{variable-byte}
+use Rattle.emit.proofs.literals.joined.Statement.{statement}
+use Rattle.emit.proofs.literals.joined.Tie as tie
+
+-- src/literals.rt:20:9
+variable-of-requires : tie.Need-variable-of-requires
+variable-of-requires c κs = search needs
+
+-- src/literals.rt:20:5
+mul-result : tie.Need-mul-result
+mul-result c = omega (arith, c .variable-of .ensures, variable-byte (c .before .args .p) (c .before .args .q) (search needs) (search needs))
+
+-- src/literals.rt:17:1
+returns : tie.Need-returns
+returns c = search needs
+
+pub joined-spec : {M : Type 1} → statement M
+joined-spec = tie.close (tie.spec variable-of-requires mul-result returns)

@@ -1,0 +1,82 @@
+-- `lines::put_map` meets its contract: the classes of the states before this one are put. Assumes nothing.
+use mathlib.Core.Path.{_∙_}
+use native.Mathlib.Omega.{arith}
+use Prim.Native.Nat.{_-_}
+use lib.ListN.{length}
+use Rattle.lines.proofs.Putting.{Mapping, mapping, map-on, mapped}
+use borrow.Author.Needs.{needs}
+use Rattle.lines.proofs.put_map.Statement.{statement}
+use Rattle.lines.proofs.put_map.Tie as tie
+
+abbrev Inv-states : tie.InvT-states
+Inv-states map text₀ at to₀ q₀ t7 t8 text to q = Mapping map text₀ text to₀ to q
+
+abbrev μ-states : tie.MeasureT-states
+μ-states map text₀ at to₀ q₀ t7 t8 text to q = length map - q
+
+slice-aggregate-put : tie.Need-slice-aggregate-put Inv-states μ-states
+slice-aggregate-put c = search needs
+
+put-requires : tie.Need-put-requires Inv-states μ-states
+put-requires c κs = search needs
+
+states-holds : tie.Need-states-holds Inv-states μ-states
+states-holds c = mapping _ _ _ (c .before .before .put .ensures .inside)
+
+slice-aggregate-put-number : tie.Need-slice-aggregate-put-number Inv-states μ-states
+slice-aggregate-put-number c = search needs
+
+shared-slice-read-wide : tie.Need-shared-slice-read-wide Inv-states μ-states
+shared-slice-read-wide c = search needs
+
+wide-requires : tie.Need-wide-requires Inv-states μ-states
+wide-requires c κs = search needs
+
+put-number-requires : tie.Need-put-number-requires Inv-states μ-states
+put-number-requires c κs = let a = c .before .before .before .before .before .before .before .before .before .before .before .before .before in let i = c .before .before .before .before .before .states .inv in let p = c .before .before .before .before .before .before .before .before .put .ensures in omega (arith, a .pre, i .few, i .told .long, c .before .before .before .before .states-test .taken, p .place, p .long)
+
+add-q : tie.Need-add-q Inv-states μ-states
+add-q c = search needs
+
+states-less : tie.Need-states-less Inv-states μ-states
+states-less c = search needs
+
+states-again : tie.Need-states-again Inv-states μ-states
+states-again c = map-on (c .before .before .before .before .before .before .before .before .states .inv) (c .before .before .before .before .before .before .before .states-test .taken) (c .before .before .before .before .wide .ensures) (c .before .before .put-number .ensures .0) (c .before .before .put-number .ensures .1)
+
+slice-aggregate-put-2 : tie.Need-slice-aggregate-put-2 Inv-states μ-states
+slice-aggregate-put-2 c = search needs
+
+put-requires-2 : tie.Need-put-requires-2 Inv-states μ-states
+put-requires-2 c κs = let a = c .before .before .before .before .before .before .before .before .before .before .before in let i = c .before .before .before .states .inv in let p = c .before .before .before .before .before .before .put .ensures in omega (arith, a .pre, i .few, i .inside, i .told .long, p .place, p .long)
+
+same-length : tie.Need-same-length Inv-states μ-states
+same-length c = c .before .before .put2 .ensures .long ∙ c .before .before .before .before .before .before .states .inv .told .long ∙ c .before .before .before .before .before .before .before .before .before .put .ensures .long
+
+returns : tie.Need-returns Inv-states μ-states
+returns c =
+    let i = c .before .before .before .before .before .before .states .inv in
+    let p = c .before .before .before .before .before .before .before .before .before .put .ensures in
+    let q = c .before .before .put2 .ensures in
+    (mapped i (c .before .before .before .before .before .states-test .left) p q, omega (arith, i .few, i .inside, p .place, q .place))
+
+pub put-map-spec : {M : Type 1} → statement M
+put-map-spec =
+    tie.close
+    (tie.spec
+    Inv-states
+    μ-states
+    slice-aggregate-put
+    put-requires
+    states-holds
+    slice-aggregate-put-number
+    shared-slice-read-wide
+    wide-requires
+    put-number-requires
+    add-q
+    states-less
+    states-again
+    slice-aggregate-put-2
+    put-requires-2
+    same-length
+    returns)

@@ -1,0 +1,4 @@
+pub mod Places
+pub mod Spans
+pub mod Passing
+pub mod Counting

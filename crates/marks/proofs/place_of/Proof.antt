@@ -1,0 +1,62 @@
+-- `marks::place_of` meets its contract: the place is in the room. Assumes nothing.
+use Prim.Native.Nat.{_-_, _+_, _*_}
+use native.Mathlib.Omega.{arith}
+use lib.ListN.{getD, length}
+use Rattle.marks.specs.Marks.{placeOf}
+use borrow.Author.Needs.{needs}
+use Rattle.marks.proofs.place_of.Statement.{statement}
+use Rattle.marks.proofs.place_of.Tie as tie
+
+sub-last : tie.Need-sub-last
+sub-last c = search needs
+
+shared-slice-read-wide : tie.Need-shared-slice-read-wide
+shared-slice-read-wide c = search needs
+
+wide-requires : tie.Need-wide-requires
+wide-requires c κs = search needs
+
+mul-result : tie.Need-mul-result
+mul-result c = search needs
+
+shared-slice-read-class-at : tie.Need-shared-slice-read-class-at
+shared-slice-read-class-at c = search needs
+
+class-at-requires : tie.Need-class-at-requires
+class-at-requires c κs = search needs
+
+add-result : tie.Need-add-result
+add-result c = omega (arith, c .before .before .wide .ensures, c .class-at .ensures, c .before .before .before .before .before .before .pre .symbol, c .before .before .before .before .before .before .pre .class (getD (c .before .before .before .before .before .before .args .fields .now) 2 0))
+
+mul-result-2 : tie.Need-mul-result-2
+mul-result-2 c = omega (arith, c .before .before .wide .ensures, c .class-at .ensures, c .before .before .before .before .before .before .pre .symbol, c .before .before .before .before .before .before .pre .class (getD (c .before .before .before .before .before .before .args .fields .now) 2 0))
+
+shared-slice-read-class-at-2 : tie.Need-shared-slice-read-class-at-2
+shared-slice-read-class-at-2 c = search needs
+
+class-at-requires-2 : tie.Need-class-at-requires-2
+class-at-requires-2 c κs = search needs
+
+add-result-2 : tie.Need-add-result-2
+add-result-2 c = omega (arith, c .before .before .before .before .wide .ensures, c .before .before .class-at .ensures, c .class-at2 .ensures, c .before .before .before .before .before .before .before .before .pre .symbol, c .before .before .before .before .before .before .before .before .pre .class (getD (c .before .before .before .before .before .before .before .before .args .fields .now) 2 0), c .before .before .before .before .before .before .before .before .pre .class (getD (c .before .before .before .before .before .before .before .before .args .fields .now) (length (c .before .before .before .before .before .before .before .before .args .fields .now) - 1) 0))
+
+returns : tie.Need-returns
+unfolding placeOf
+returns c = ((λ j. (c .before .before .before .before .wide .ensures j * 40 + c .before .before .class-at .ensures j) * 40 + c .class-at2 .ensures j), omega (arith, c .before .before .before .before .wide .ensures, c .before .before .class-at .ensures, c .class-at2 .ensures, c .before .before .before .before .before .before .before .before .pre .symbol, c .before .before .before .before .before .before .before .before .pre .class (getD (c .before .before .before .before .before .before .before .before .args .fields .now) 2 0), c .before .before .before .before .before .before .before .before .pre .class (getD (c .before .before .before .before .before .before .before .before .args .fields .now) (length (c .before .before .before .before .before .before .before .before .args .fields .now) - 1) 0)))
+
+pub place-of-spec : {M : Type 1} → statement M
+place-of-spec =
+    tie.close
+    (tie.spec
+    sub-last
+    shared-slice-read-wide
+    wide-requires
+    mul-result
+    shared-slice-read-class-at
+    class-at-requires
+    add-result
+    mul-result-2
+    shared-slice-read-class-at-2
+    class-at-requires-2
+    add-result-2
+    returns)

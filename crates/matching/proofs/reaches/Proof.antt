@@ -1,0 +1,74 @@
+-- `matching::reaches` meets its contract: no record of the key before this one goes to a joined target. Assumes nothing.
+use mathlib.Core.Path.{sym, ap, _∙_}
+use Prim.Native.Nat.{_-_}
+use native.Mathlib.Omega.{arith}
+use lib.ListN.{length}
+use Rattle.lists.specs.Lists.{any}
+use Rattle.format.specs.File.{records}
+use Rattle.format.specs.Maps.{joins}
+use Rattle.table.proofs.Walks.{Still, begin}
+use Rattle.matching.proofs.Reaching.{goes, missed, met, none-met, over-targets}
+use borrow.Author.Needs.{needs}
+use Rattle.matching.proofs.reaches.Statement.{statement}
+use Rattle.matching.proofs.reaches.Tie as tie
+
+abbrev Inv-records : tie.InvT-records
+Inv-records section width wanted map target found at₀ at = Still (λ x. any (goes map target (width - 1)) (records width x)) found at
+
+abbrev μ-records : tie.MeasureT-records
+μ-records section width wanted map target found at₀ at = length found - at
+
+starting-requires : tie.Need-starting-requires Inv-records μ-records
+starting-requires c κs = search needs
+
+records-holds : tie.Need-records-holds Inv-records μ-records
+records-holds c = begin _ _
+
+sub-records : tie.Need-sub-records Inv-records μ-records
+sub-records c = search needs
+
+add-next : tie.Need-add-next Inv-records μ-records
+add-next c = search needs
+
+sub-wide : tie.Need-sub-wide Inv-records μ-records
+sub-wide c = omega (arith, c .before .before .before .before .before .pre .0)
+
+shared-slice-read-wide : tie.Need-shared-slice-read-wide Inv-records μ-records
+shared-slice-read-wide c = omega (arith, c .before .before .before .before .before .before .pre .0, c .before .records-test .taken)
+
+wide-requires : tie.Need-wide-requires Inv-records μ-records
+wide-requires c κs = search needs
+
+joined-requires : tie.Need-joined-requires Inv-records μ-records
+joined-requires c κs = search needs
+
+returns : tie.Need-returns Inv-records μ-records
+returns c = λ k d. over-targets (c .before .before .before .before .before .before .before .before .before .args .width) (c .before .before .before .before .before .before .before .before .before .args .section .now) k (c .before .before .before .before .before .before .starting .result .now) (c .before .before .before .before .before .before .before .before .before .args .map .now) (c .before .before .before .before .before .before .before .before .before .args .target) (d .long) (c .before .before .before .before .before .before .starting .ensures k d (c .before .before .before .before .before .before .before .before .before .pre .1)) (met (c .before .before .before .before .before .before .before .before .before .args .map .now) (c .before .before .before .before .before .before .before .before .before .args .target) (c .before .before .before .before .before .before .before .before .before .args .width - 1) (omega (arith, c .before .before .before .before .before .before .before .before .before .pre .0)) (c .before .before .before .before .before .records .inv) (c .before .before .before .before .records-test .taken) (sym (ap (joins (c .before .before .before .before .before .before .before .before .before .args .map .now) (c .before .before .before .before .before .before .before .before .before .args .target)) (c .before .before .wide .ensures)) ∙ sym (c .before .joined .ensures) ∙ c .if1 .taken))
+
+records-less : tie.Need-records-less Inv-records μ-records
+records-less c = omega (arith, c .before .before .before .before .before .before .before .before .before .pre .0, c .before .before .before .before .records-test .taken)
+
+records-again : tie.Need-records-again Inv-records μ-records
+records-again c = missed (c .before .before .before .before .before .before .before .before .before .args .map .now) (c .before .before .before .before .before .before .before .before .before .args .target) (c .before .before .before .before .before .before .before .before .before .args .width - 1) (omega (arith, c .before .before .before .before .before .before .before .before .before .pre .0)) (c .before .before .before .before .before .records .inv) (c .before .before .before .before .records-test .taken) (sym (ap (joins (c .before .before .before .before .before .before .before .before .before .args .map .now) (c .before .before .before .before .before .before .before .before .before .args .target)) (c .before .before .wide .ensures)) ∙ sym (c .before .joined .ensures) ∙ c .if1 .left)
+
+returns-2 : tie.Need-returns-2 Inv-records μ-records
+returns-2 c = λ k d. over-targets (c .before .before .before .before .before .args .width) (c .before .before .before .before .before .args .section .now) k (c .before .before .starting .result .now) (c .before .before .before .before .before .args .map .now) (c .before .before .before .before .before .args .target) (d .long) (c .before .before .starting .ensures k d (c .before .before .before .before .before .pre .1)) (none-met (c .before .before .before .before .before .args .map .now) (c .before .before .before .before .before .args .target) (c .before .before .before .before .before .args .width - 1) (omega (arith, c .before .before .before .before .before .pre .0)) (c .before .records .inv) (c .records-test .left))
+
+pub reaches-spec : {M : Type 1} → statement M
+reaches-spec =
+    tie.close
+    (tie.spec
+    Inv-records
+    μ-records
+    starting-requires
+    records-holds
+    sub-records
+    add-next
+    sub-wide
+    shared-slice-read-wide
+    wide-requires
+    joined-requires
+    returns
+    records-less
+    records-again
+    returns-2)

@@ -1,0 +1,57 @@
+-- `matching::record_matched` meets its contract: a move, or a return. Assumes nothing.
+use mathlib.Core.Path.{sym, _∙_, subst}
+use mathlib.Core.List.{[], _∷_}
+use native.Mathlib.Omega.{arith}
+use lib.ListN.{getD}
+use Rattle.table.specs.Keys.{Keyed}
+use Rattle.matching.proofs.Matched.{record-move, return-lent, return-long, return-live, record-return}
+use borrow.Author.Needs.{needs}
+use Rattle.matching.proofs.record_matched.Statement.{statement}
+use Rattle.matching.proofs.record_matched.Tie as tie
+
+cast-move-key : tie.Need-cast-move-key
+cast-move-key c = search needs
+
+shared-slice-read-move-key : tie.Need-shared-slice-read-move-key
+shared-slice-read-move-key c = omega (arith, c .before .before .before .before .before .before .pre .0 .0 .moves, c .before .before .before .before .before .before .pre .0 .1)
+
+move-key-requires : tie.Need-move-key-requires
+move-key-requires c κs = search needs
+
+shared-slice-read-wide : tie.Need-shared-slice-read-wide
+shared-slice-read-wide c = omega (arith, c .before .before .before .before .before .before .before .before .pre .0 .0 .moves, c .before .before .before .before .before .before .before .before .pre .0 .1)
+
+wide-requires : tie.Need-wide-requires
+wide-requires c κs = search needs
+
+reaches-requires : tie.Need-reaches-requires
+reaches-requires c κs = (c .before .before .before .before .before .before .before .before .before .pre .0 .0 .moves, c .before .before .before .before .before .before .before .before .before .pre .0 .0 .in-order)
+
+returns : tie.Need-returns
+returns c =
+    let k = subst (λ w. Keyed w (c .before .before .before .before .before .before .before .before .before .before .args .q ∷ getD (c .before .before .before .before .before .before .before .before .before .before .args .fields .now) 1 0 ∷ []) (c .before .before .before .move-key .result)) (sym (c .before .before .before .before .before .if1 .taken)) (c .before .before .before .move-key .ensures) in
+    c .reaches .ensures (c .before .before .before .before .before .before .before .before .before .before .args .q ∷ getD (c .before .before .before .before .before .before .before .before .before .before .args .fields .now) 1 0 ∷ []) k ∙ record-move _ _ _ _ _ _ _ (c .before .before .before .before .before .if1 .taken) (c .before .before .before .before .before .before .before .before .before .before .pre .1 .0) (c .before .wide .ensures)
+
+return-met-requires : tie.Need-return-met-requires
+return-met-requires c κs =
+    let l = c .before .before .before .before .before .pre .0 .0 in
+    let x = c .if1 .left in
+    let e = c .before .before .before .before .before .pre .0 .1 in
+    ((return-lent l x, return-long l x (c .before .before .before .before .before .args .fields .now) e, c .before .before .before .before .before .pre .1 .1), (return-live l x (c .before .before .before .before .before .args .fields .now) e _ (c .before .before .before .before .before .pre .0 .2), c .before .before .before .before .before .pre .1 .0))
+
+returns-2 : tie.Need-returns-2
+returns-2 c = c .return-met .ensures ∙ record-return (c .before .before .before .before .before .before .pre .0 .0) (c .before .if1 .left) _ _ _ _
+
+pub record-matched-spec : {M : Type 1} → statement M
+record-matched-spec =
+    tie.close
+    (tie.spec
+    cast-move-key
+    shared-slice-read-move-key
+    move-key-requires
+    shared-slice-read-wide
+    wide-requires
+    reaches-requires
+    returns
+    return-met-requires
+    returns-2)

@@ -1,0 +1,90 @@
+-- `matching::record_met` meets its contract: the states before this one match the return. Assumes nothing.
+use Rattle.matching.specs.Matching.{recordMatched}
+use Rattle.format.specs.File.{records}
+use Rattle.format.specs.Maps.{classOf}
+use Rattle.matching.proofs.Matched.{by-class, record-apart, record-dead}
+use Rattle.lists.proofs.Upto.{Counting, counting, all-passed, all-failed, all-done}
+use Rattle.lists.specs.Lists.{all}
+use lib.ListN.{length}
+use borrow.Author.Tests.{not-true, not-false}
+use native.Mathlib.Omega.{arith}
+use Prim.Native.Nat.{_-_}
+use mathlib.Core.Logic.{⊎-elim}
+use mathlib.Core.Path.{sym, ap, _∙_}
+use borrow.Author.Needs.{needs}
+use Rattle.matching.proofs.record_met.Statement.{statement}
+use Rattle.matching.proofs.record_met.Tie as tie
+
+abbrev Inv-states : tie.InvT-states
+Inv-states section width words map fields class q₀ q = Counting (all (recordMatched width words (records width section) (length map) map fields)) (length map) q
+
+abbrev μ-states : tie.MeasureT-states
+μ-states section width words map fields class q₀ q = length map - q
+
+keeps-requires : tie.Need-keeps-requires Inv-states μ-states
+keeps-requires c κs = search needs
+
+returns : tie.Need-returns Inv-states μ-states
+returns c = let a = c .before .before .before .before .before .before in record-dead _ _ _ _ _ (a .pre .1) (sym (c .before .keeps .ensures) ∙ not-true _ (c .if1 .taken))
+
+shared-slice-read-wide : tie.Need-shared-slice-read-wide Inv-states μ-states
+shared-slice-read-wide c = let a = c .before .before .before .before .before .before .before in omega (arith, a .pre .0 .moves, a .pre .1)
+
+wide-requires : tie.Need-wide-requires Inv-states μ-states
+wide-requires c κs = search needs
+
+class-of-requires : tie.Need-class-of-requires Inv-states μ-states
+class-of-requires c κs = search needs
+
+states-holds : tie.Need-states-holds Inv-states μ-states
+states-holds c = counting _ _
+
+is-in-requires : tie.Need-is-in-requires Inv-states μ-states
+is-in-requires c κs = search needs
+
+-- the class that is sought is that of the record's first state
+record-matched-requires : tie.Need-record-matched-requires Inv-states μ-states
+record-matched-requires c κs =
+    let a = c .before .before .before .before .before .before .before .before .before .before .before .before .before in
+    let k = sym (c .before .before .before .before .before .before .before .before .keeps .ensures) ∙ not-false _ (c .before .before .before .before .before .before .before .if1 .left) in
+    let e = c .before .before .before .before .class-of .ensures ∙ ap (classOf (a .args .map .now)) (c .before .before .before .before .before .wide .ensures) in
+    ((a .pre .0, a .pre .1, k), (by-class _ _ _ e (c .before .is-in .ensures) (c .if2 .taken), omega (arith, a .pre .0 .few, c .before .before .states-test .taken)))
+
+returns-2 : tie.Need-returns-2 Inv-states μ-states
+returns-2 c = all-failed _ (c .before .before .before .before .before .states .inv) (c .before .before .before .before .states-test .taken) (sym (c .before .record-matched .ensures) ∙ not-true _ (c .if3 .taken))
+
+add-q : tie.Need-add-q Inv-states μ-states
+add-q c = search needs
+
+states-less : tie.Need-states-less Inv-states μ-states
+states-less c = search needs
+
+states-again : tie.Need-states-again Inv-states μ-states
+states-again c =
+    let i = c .before .before .before .states .inv in
+    let t = c .before .before .states-test .taken in
+    let e = c .before .before .before .before .class-of .ensures ∙ ap (classOf (c .before .before .before .before .before .before .before .before .before .before .before .before .before .args .map .now)) (c .before .before .before .before .before .wide .ensures) in
+    ⊎-elim (λ w. all-passed _ i t (sym (w .1 .ensures) ∙ not-false _ (w .2 .left))) (λ w. all-passed _ i t (record-apart _ _ _ _ _ _ _ (by-class _ _ _ e (c .before .is-in .ensures) (w .left)))) (c .if2 .came)
+
+returns-3 : tie.Need-returns-3 Inv-states μ-states
+returns-3 c = all-done _ (c .before .states .inv) (c .states-test .left)
+
+pub record-met-spec : {M : Type 1} → statement M
+record-met-spec =
+    tie.close
+    (tie.spec
+    Inv-states
+    μ-states
+    keeps-requires
+    returns
+    shared-slice-read-wide
+    wide-requires
+    class-of-requires
+    states-holds
+    is-in-requires
+    record-matched-requires
+    returns-2
+    add-q
+    states-less
+    states-again
+    returns-3)

@@ -1,0 +1,63 @@
+-- `matching::return_matched` meets its contract, test by test. Assumes nothing.
+use mathlib.Core.Path.{sym, _∙_}
+use mathlib.Core.List.{[], _∷_}
+use native.Mathlib.Omega.{arith}
+use lib.ListN.{getD}
+use borrow.Author.Tests.{not-true, not-false}
+use Rattle.matching.proofs.Matched.{by-class, stack-apart, not-under, return-by}
+use borrow.Author.Needs.{needs}
+use Rattle.matching.proofs.return_matched.Statement.{statement}
+use Rattle.matching.proofs.return_matched.Tie as tie
+
+is-in-requires : tie.Need-is-in-requires
+is-in-requires c κs = search needs
+
+returns : tie.Need-returns
+returns c = stack-apart _ _ _ _ _ _ _ _ _ (c .before .before .before .before .before .before .pre .1 .0) (c .before .before .before .before .before .before .pre .1 .1) (by-class _ _ _ (c .before .before .before .before .before .before .pre .0 .4) (c .before .is-in .ensures) (not-true _ (c .if1 .taken)))
+
+has-top-requires : tie.Need-has-top-requires
+has-top-requires c κs = search needs
+
+returns-2 : tie.Need-returns-2
+returns-2 c = not-under _ _ _ _ _ _ _ _ _ (c .before .before .before .before .before .before .before .before .pre .1 .0) (c .before .before .before .before .before .before .before .before .pre .1 .1) (by-class _ _ _ (c .before .before .before .before .before .before .before .before .pre .0 .4) (c .before .before .before .is-in .ensures) (not-false _ (c .before .before .if1 .left))) (sym (c .before .has-top .ensures) ∙ not-true _ (c .if2 .taken))
+
+cast-return-key : tie.Need-cast-return-key
+cast-return-key c = search needs
+
+shared-slice-read-return-key : tie.Need-shared-slice-read-return-key
+shared-slice-read-return-key c = search needs
+
+cast-return-key-2 : tie.Need-cast-return-key-2
+cast-return-key-2 c = search needs
+
+return-key-requires : tie.Need-return-key-requires
+return-key-requires c κs = search needs
+
+shared-slice-read-wide : tie.Need-shared-slice-read-wide
+shared-slice-read-wide c = search needs
+
+wide-requires : tie.Need-wide-requires
+wide-requires c κs = search needs
+
+reaches-requires : tie.Need-reaches-requires
+reaches-requires c κs = (omega arith, c .before .before .before .before .before .before .before .before .before .before .before .before .pre .0 .0)
+
+returns-3 : tie.Need-returns-3
+returns-3 c = c .reaches .ensures (c .before .before .before .before .before .before .before .before .before .before .before .before .before .args .q ∷ getD (c .before .before .before .before .before .before .before .before .before .before .before .before .before .args .fields .now) 1 0 ∷ c .before .before .before .before .before .before .before .before .before .before .before .before .before .args .u ∷ []) (c .before .before .before .return-key .ensures) ∙ return-by _ _ _ _ _ _ _ _ _ (c .before .before .before .before .before .before .before .before .before .before .before .before .before .pre .1 .0) (c .before .before .before .before .before .before .before .before .before .before .before .before .before .pre .1 .1) (by-class _ _ _ (c .before .before .before .before .before .before .before .before .before .before .before .before .before .pre .0 .4) (c .before .before .before .before .before .before .before .before .is-in .ensures) (not-false _ (c .before .before .before .before .before .before .before .if1 .left))) (sym (c .before .before .before .before .before .before .has-top .ensures) ∙ not-false _ (c .before .before .before .before .before .if2 .left)) (c .before .wide .ensures)
+
+pub return-matched-spec : {M : Type 1} → statement M
+return-matched-spec =
+    tie.close
+    (tie.spec
+    is-in-requires
+    returns
+    has-top-requires
+    returns-2
+    cast-return-key
+    shared-slice-read-return-key
+    cast-return-key-2
+    return-key-requires
+    shared-slice-read-wide
+    wide-requires
+    reaches-requires
+    returns-3)

@@ -1,0 +1,3 @@
+pub mod Text
+pub mod Program
+pub mod Lines

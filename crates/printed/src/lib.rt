@@ -1,0 +1,1 @@
+// What the program prints, line by line, and its laws. No code.

@@ -1,0 +1,25 @@
+-- `recordwise::returns::live_record` meets its contract. Assumes nothing.
+use borrow.Author.Tests.{not-true, not-false}
+use Rattle.recordwise.proofs.Returning.{dead, alive}
+use borrow.Author.Needs.{needs}
+use Rattle.recordwise.proofs.returns.live_record.Statement.{statement}
+use Rattle.recordwise.proofs.returns.live_record.Tie as tie
+
+is-live-requires : tie.Need-is-live-requires
+is-live-requires c κs = search needs
+
+returns : tie.Need-returns
+returns c = dead _ _ _ _ _ (c .before .is-live .ensures) (not-true _ (c .if1 .taken))
+
+return-record-requires : tie.Need-return-record-requires
+return-record-requires c κs = search needs
+
+same-length : tie.Need-same-length
+same-length c = search needs
+
+returns-2 : tie.Need-returns-2
+returns-2 c = alive _ _ _ _ _ (c .before .before .before .before .before .is-live .ensures) (not-false _ (c .before .before .before .before .if1 .left)) (c .before .before .return-record .ensures)
+
+pub live-record-spec : {M : Type 1} → statement M
+live-record-spec =
+    tie.close (tie.spec is-live-requires returns return-record-requires same-length returns-2)

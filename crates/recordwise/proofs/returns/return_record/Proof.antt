@@ -1,0 +1,65 @@
+-- `recordwise::returns::return_record` meets its contract: the states so far have their clauses. Assumes nothing.
+use Prim.Native.Nat.{_-_}
+use borrow.Author.Needs.{needs}
+use Rattle.lists.specs.Lists.{gather, upto}
+use Rattle.format.specs.File.{records}
+use Rattle.encoding.specs.Clauses.{topStates}
+use Rattle.emit.specs.Emit.{state}
+use Rattle.recordwise.specs.Sorted.{returnOf}
+use Rattle.emit.proofs.Stepping.{Over, over-all, over-on, over-done}
+use Rattle.recordwise.proofs.Returning.{of-word}
+use Rattle.recordwise.proofs.returns.return_record.Statement.{statement}
+use Rattle.recordwise.proofs.returns.return_record.Tie as tie
+
+abbrev Inv-states : tie.InvT-states
+Inv-states section tops x count list₀ at₀ q₀ list at q = Over (λ q. gather (λ u. returnOf (records 4 section) x q u) (topStates tops count q)) count (gather (λ q. gather (λ u. returnOf (records 4 section) x q u) (topStates tops count q)) (upto count)) (state at₀ list₀) q (state at list)
+
+abbrev μ-states : tie.MeasureT-states
+μ-states section tops x count list₀ at₀ q₀ list at q = count - q
+
+states-holds : tie.Need-states-holds Inv-states μ-states
+states-holds c = over-all _ _ _ (c .before .before .pre .2)
+
+wide-requires : tie.Need-wide-requires Inv-states μ-states
+wide-requires c κs = search needs
+
+mul-word : tie.Need-mul-word Inv-states μ-states
+mul-word c = search needs
+
+element-copy-out-word : tie.Need-element-copy-out-word Inv-states μ-states
+element-copy-out-word c = search needs
+
+return-tops-requires : tie.Need-return-tops-requires Inv-states μ-states
+return-tops-requires c κs = (c .before .before .before .before .before .before .before .pre .0, c .before .before .before .before .states .inv .coming .ordered)
+
+add-q : tie.Need-add-q Inv-states μ-states
+add-q c = search needs
+
+states-less : tie.Need-states-less Inv-states μ-states
+states-less c = search needs
+
+states-again : tie.Need-states-again Inv-states μ-states
+states-again c = over-on (c .before .before .before .before .before .before .before .states .inv) (c .before .before .before .before .before .before .states-test .taken) (of-word (λ u. returnOf (records 4 (c .before .before .before .before .before .before .before .before .before .before .args .section .now)) (c .before .before .before .before .before .before .before .before .before .before .args .x) (c .before .before .before .before .before .before .before .states .q) u) (c .before .before .before .before .before .before .before .before .before .before .args .tops .now) (c .before .before .before .before .before .before .before .before .before .before .args .count) (c .before .before .before .before .before .before .before .states .q) _ (c .before .before .before .before .before .wide .ensures) (c .before .before .return-tops .ensures))
+
+same-length : tie.Need-same-length Inv-states μ-states
+same-length c = c .before .states .inv .coming .long
+
+returns : tie.Need-returns Inv-states μ-states
+returns c = over-done (c .before .states .inv) (c .states-test .left)
+
+pub return-record-spec : {M : Type 1} → statement M
+return-record-spec =
+    tie.close
+    (tie.spec
+    Inv-states
+    μ-states
+    states-holds
+    wide-requires
+    mul-word
+    element-copy-out-word
+    return-tops-requires
+    add-q
+    states-less
+    states-again
+    same-length
+    returns)

@@ -1,0 +1,162 @@
+// The clauses of returns: group 5 of the list.
+ghost use mathlib.Core.Path.{_≡_};
+ghost use mathlib.Core.Bool.{_&&_};
+ghost use Prim.Native.Nat.{_≤_, _<_};
+ghost use lib.Dec.{eqb};
+ghost use Rattle.lists.specs.Lists.{gather, keep, upto};
+ghost use Rattle.lists.specs.Bits.{hasBit, has};
+ghost use Rattle.format.specs.File.{records};
+ghost use Rattle.encoding.specs.Clauses.{topStates};
+ghost use Rattle.emit.specs.Emit.{state, Ordered, emit};
+ghost use Rattle.recordwise.specs.Sorted.{Sorted, returnOf, liveRecord, returnClausesBy};
+use emit::Tally;
+use emit::matched;
+use emit::no_literals;
+use emit::with_premise;
+use table::return_key;
+use table::starting;
+use words::later_states;
+use words::next_state;
+
+// A record (p, r, s, p').
+pub struct Return {
+    pub from: u8,
+    pub symbol: u8,
+    pub under: u8,
+    pub to: u8,
+}
+
+fn wide(x: u8) -> usize
+    ensures { λ r. ⌜ r ≡ x ⌝ }
+{
+    x as usize
+}
+
+// q = p with u = s
+fn same_place(x: Return, q: u8, u: u8) -> bool
+    ensures { λ r. ⌜ r ≡ (eqb q (x .from) && eqb u (x .under)) ⌝ }
+{
+    if q != x.from {
+        return false;
+    }
+    u == x.under
+}
+
+// The clause of a return, a state q and a top u of q.
+fn return_clause(section: &[u8], x: Return, q: u8, u: u8, tally: Tally, list: &mut [u16]) -> Tally
+    requires { ⌜ Sorted 4 (now section) × Ordered tally ⌝ }
+    ensures { λ r. ⌜ state r (now (list .exit)) ≡ emit (returnOf (records 4 (now (section .entry))) x q u) (state tally (now (list .entry))) ⌝ }
+{
+    if same_place(x, q, u) {
+        return tally;
+    }
+    let found = starting(section, 4, return_key(q, x.symbol, u));
+    let premises = with_premise(with_premise(no_literals(), x.from, q), x.under, u);
+    matched(found, 4, x.to, premises, tally, list)
+}
+
+// "each state u in tops(q) ascending": the trailing zeros give the next top.
+fn return_tops(
+    section: &[u8],
+    x: Return,
+    q: u8,
+    word: u64,
+    count: u8,
+    tally: Tally,
+    list: &mut [u16],
+) -> Tally
+    requires { ⌜ Sorted 4 (now section) × Ordered tally ⌝ }
+    ensures { λ r. ⌜ state r (now (list .exit)) ≡ emit (gather (λ u. returnOf (records 4 (now (section .entry))) x q u) (keep (hasBit word) (upto count))) (state tally (now (list .entry))) ⌝ }
+{
+    let mut at = tally;
+    let mut rest = word;
+    'tops: while rest != 0 {
+        let u = next_state(rest);
+        if u >= count as u32 {
+            return at;
+        }
+        at = return_clause(section, x, q, u as u8, at, list);
+        rest = later_states(rest);
+    }
+    at
+}
+
+// "each q ascending"
+fn return_record(
+    section: &[u8],
+    tops: &[u64; 40],
+    x: Return,
+    count: u8,
+    tally: Tally,
+    list: &mut [u16],
+) -> Tally
+    requires { ⌜ Sorted 4 (now section) × (count ≤ 40) × Ordered tally ⌝ }
+    ensures { λ r. ⌜
+        state r (now (list .exit))
+        ≡ emit (gather (λ q. gather (λ u. returnOf (records 4 (now (section .entry))) x q u) (topStates (now (tops .entry)) count q)) (upto count))
+        (state tally (now (list .entry))) ⌝ }
+{
+    let mut at = tally;
+    let mut q: u8 = 0;
+    'states: while q < count {
+        let word = tops[wide(q)];
+        at = return_tops(section, x, q, word, count, at, list);
+        q += 1;
+    }
+    at
+}
+
+// "A return record is live when its stack state is in tops of its state".
+fn is_live(tops: &[u64; 40], x: Return) -> bool
+    requires { ⌜ (x .from < 40) × (x .under < 64) ⌝ }
+    ensures { λ r. ⌜ r ≡ has (now (tops .entry)) (x .from) (x .under) ⌝ }
+{
+    (tops[wide(x.from)] >> wide(x.under)) % 2 == 1
+}
+
+// A live return has clauses, a dead one none.
+fn live_record(
+    section: &[u8],
+    tops: &[u64; 40],
+    x: Return,
+    count: u8,
+    tally: Tally,
+    list: &mut [u16],
+) -> Tally
+    requires { ⌜ Sorted 4 (now section) × (x .from < 40) × (x .under < 64) × (count ≤ 40) × Ordered tally ⌝ }
+    ensures { λ r. ⌜ state r (now (list .exit)) ≡ emit (liveRecord (records 4 (now (section .entry))) (now (tops .entry)) count x) (state tally (now (list .entry))) ⌝ }
+{
+    if !is_live(tops, x) {
+        return tally;
+    }
+    return_record(section, tops, x, count, tally, list)
+}
+
+// 5. "For each live return (p, r, s, p') in order". No further once the list is too short.
+pub fn live_returns(
+    section: &[u8],
+    tops: &[u64; 40],
+    count: u8,
+    tally: Tally,
+    list: &mut [u16],
+) -> Tally
+    requires { ⌜ Sorted 4 (now section) × (count ≤ 40) × Ordered tally ⌝ }
+    ensures { λ r. ⌜ state r (now (list .exit)) ≡ emit (returnClausesBy (now (tops .entry)) (records 4 (now (section .entry))) count) (state tally (now (list .entry))) ⌝ }
+{
+    let mut so_far = tally;
+    let mut at: usize = 0;
+    'records: while 4 <= section.len() - at {
+        if list.len() < so_far.words {
+            return so_far;
+        }
+        let x = Return {
+            from: section[at],
+            symbol: section[at + 1],
+            under: section[at + 2],
+            to: section[at + 3],
+        };
+        so_far = live_record(section, tops, x, count, so_far, list);
+        at += 4;
+    }
+    so_far
+}

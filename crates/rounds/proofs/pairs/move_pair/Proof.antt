@@ -1,0 +1,45 @@
+-- `rounds::pairs::move_pair` meets its contract. Assumes nothing.
+use mathlib.Core.Path.{sym, _∙_, subst}
+use Rattle.rounds.specs.declared.pairs.Kind.{Kind}
+use Rattle.rounds.specs.Rows.{Turns, stepKind}
+use Rattle.rounds.proofs.Passing.{internal-turns, call-turns, call-none}
+use borrow.Author.Needs.{needs}
+use Rattle.rounds.proofs.pairs.move_pair.Statement.{statement}
+use Rattle.rounds.proofs.pairs.move_pair.Tie as tie
+
+enum-told : tie.Need-enum-told
+enum-told c = search needs
+
+join-requires : tie.Need-join-requires
+join-requires c κs = search needs
+
+enum-told-2 : tie.Need-enum-told-2
+enum-told-2 c = search needs
+
+any-requires : tie.Need-any-requires
+any-requires c κs = search needs
+
+put-requires : tie.Need-put-requires
+put-requires c κs = search needs
+
+returns : tie.Need-returns
+returns c = λ k n lu lv. subst (λ (d : Kind). Turns k n (c .before .before .before .before .args .rows .now) (c .join .last .0) (stepKind d (c .before .before .before .before .args .u) (c .before .before .before .before .args .v))) (sym (c .before .before .enum-told .given .1)) (internal-turns (c .before .before .before .before .args .u) (c .before .before .before .before .args .v) (c .join .ensures) k n lu lv)
+
+returns-2 : tie.Need-returns-2
+returns-2 c = λ k n lu lv. subst (λ (d : Kind). Turns k n (c .before .before .before .before .before .before .before .args .rows .now) (c .put .last .0) (stepKind d (c .before .before .before .before .before .before .before .args .u) (c .before .before .before .before .before .before .before .args .v))) (sym (c .before .before .before .before .before .enum-told2 .given .1)) (call-turns (c .before .before .before .before .before .before .before .args .u) (c .before .before .before .before .before .before .before .args .v) (λ F h. sym (c .before .before .if1 .taken) ∙ c .before .before .before .any .ensures F h) (c .put .ensures) k n lu lv)
+
+returns-3 : tie.Need-returns-3
+returns-3 c = λ k n lu lv. subst (λ (d : Kind). Turns k n (c .before .before .before .before .before .args .rows .now) (c .before .before .before .before .before .args .rows .now) (stepKind d (c .before .before .before .before .before .args .u) (c .before .before .before .before .before .args .v))) (sym (c .before .before .before .enum-told2 .given .1)) (call-none (c .before .before .before .before .before .args .u) (c .before .before .before .before .before .args .v) (λ F h. sym (c .if1 .left) ∙ c .before .any .ensures F h) k n)
+
+pub move-pair-spec : {M : Type 1} → statement M
+move-pair-spec =
+    tie.close
+    (tie.spec
+    enum-told
+    join-requires
+    enum-told-2
+    any-requires
+    put-requires
+    returns
+    returns-2
+    returns-3)

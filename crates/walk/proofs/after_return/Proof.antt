@@ -1,0 +1,32 @@
+-- `walk::after_return` meets its contract. Assumes nothing.
+use Prim.Native.Nat.{_+_, _*_}
+use native.Mathlib.Omega.{arith}
+use borrow.Author.Needs.{needs}
+use Rattle.walk.proofs.after_return.Statement.{statement}
+use Rattle.walk.proofs.after_return.Tie as tie
+
+mul-wide : tie.Need-mul-wide
+mul-wide c = search needs
+
+add-wide : tie.Need-add-wide
+add-wide c = search needs
+
+mul-wide-2 : tie.Need-mul-wide-2
+mul-wide-2 c = search needs
+
+add-wide-2 : tie.Need-add-wide-2
+add-wide-2 c = search needs
+
+element-copy-out-wide : tie.Need-element-copy-out-wide
+element-copy-out-wide c = search needs
+
+wide-requires : tie.Need-wide-requires
+wide-requires c κs = search needs
+
+returns : tie.Need-returns
+returns c = (c .wide .ensures, omega (arith, c .wide .ensures, c .before .before .pre .0 .within ((c .before .before .args .b * 32 + c .before .before .args .a) * 25 + c .before .before .args .c)))
+
+pub after-return-spec : {M : Type 1} → statement M
+after-return-spec =
+    tie.close
+    (tie.spec mul-wide add-wide mul-wide-2 add-wide-2 element-copy-out-wide wide-requires returns)

@@ -1,0 +1,55 @@
+-- `walk::inner_link` meets its contract. The invariant: the rows hold links only. Assumes nothing.
+use Prim.Native.Nat.{_+_, _-_}
+use borrow.Author.Needs.{needs}
+use Rattle.walk.proofs.Quickly.{Linking, linking, linking-on}
+use Rattle.walk.proofs.inner_link.Statement.{statement}
+use Rattle.walk.proofs.inner_link.Tie as tie
+
+abbrev Inv-seconds : tie.InvT-seconds
+Inv-seconds p a q moves n links₀ b₀ links b = Linking p a q n moves links₀ links b
+
+abbrev μ-seconds : tie.MeasureT-seconds
+μ-seconds p a q moves n links₀ b₀ links b = n + 1 - b
+
+seconds-holds : tie.Need-seconds-holds Inv-seconds μ-seconds
+seconds-holds c = linking _ _ _ _ _ _
+
+pair-requires : tie.Need-pair-requires Inv-seconds μ-seconds
+pair-requires c κs = search needs
+
+after-move-requires : tie.Need-after-move-requires Inv-seconds μ-seconds
+after-move-requires c κs = search needs
+
+pair-requires-2 : tie.Need-pair-requires-2 Inv-seconds μ-seconds
+pair-requires-2 c κs = search needs
+
+put-requires : tie.Need-put-requires Inv-seconds μ-seconds
+put-requires c κs = search needs
+
+add-b : tie.Need-add-b Inv-seconds μ-seconds
+add-b c = search needs
+
+seconds-less : tie.Need-seconds-less Inv-seconds μ-seconds
+seconds-less c = search needs
+
+seconds-again : tie.Need-seconds-again Inv-seconds μ-seconds
+seconds-again c = linking-on (c .before .before .before .before .before .before .seconds .inv) (c .before .before .before .before .before .seconds-test .taken) (c .before .before .before .after-move .ensures .0) (c .before .before .before .before .pair .ensures .0) (c .before .before .pair2 .ensures .0) (c .before .before .before .before .before .before .before .pre .1) (c .put .ensures)
+
+returns : tie.Need-returns Inv-seconds μ-seconds
+returns c = c .before .seconds .inv .kept
+
+pub inner-link-spec : {M : Type 1} → statement M
+inner-link-spec =
+    tie.close
+    (tie.spec
+    Inv-seconds
+    μ-seconds
+    seconds-holds
+    pair-requires
+    after-move-requires
+    pair-requires-2
+    put-requires
+    add-b
+    seconds-less
+    seconds-again
+    returns)

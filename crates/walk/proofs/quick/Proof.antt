@@ -1,0 +1,19 @@
+-- `walk::quick` meets its contract: from no links to all internals, then looks. Assumes nothing.
+use borrow.Author.Needs.{needs}
+use Rattle.walk.proofs.Quickly.{no-links}
+use Rattle.walk.proofs.quick.Statement.{statement}
+use Rattle.walk.proofs.quick.Tie as tie
+
+inner-links-requires : tie.Need-inner-links-requires
+inner-links-requires c κs = search needs
+
+looks-requires : tie.Need-looks-requires
+looks-requires c κs = search needs
+
+returns : tie.Need-returns
+returns c =
+    let p = c .before .before .before .before .before .before .before .before .pre in
+    λ s t i d e x. c .looks .ensures s t d e record { rows = x; links = c .before .before .before .inner-links .ensures s t _ i (no-links (i .counts) (p .0 .few) (p .0 .pushes-go .few)) } .rows
+
+pub quick-spec : {M : Type 1} → statement M
+quick-spec = tie.close (tie.spec inner-links-requires looks-requires returns)

@@ -1,0 +1,449 @@
+// Most tops of pairs, before the rounds: a row that changed is marked and looked at again. What is found is a top; that none is missing the rounds
+// confirm, so nothing is asked of the marks, of the tops noted as done and of the places.
+ghost use mathlib.Core.Path.{_≡_};
+ghost use mathlib.Core.Option.{some};
+ghost use Prim.Native.Nat.{_+_, _*_, _<_, _≤_};
+ghost use lib.ListN.{getD};
+ghost use Rattle.format.specs.File.{Table};
+ghost use Rattle.fitting.specs.Fit.{pairCount};
+ghost use Rattle.rounds.specs.Rows.{Named, Nexts};
+ghost use Rattle.walk.specs.Quick.{coveredIn, PairTop, Follows, Partly, Links, LinkOn, AddsTops, Place, Places, Fed, PushesOn, PopsOver, PopsOn, LooksOn, LinksOn, AllLinks, AnyMarked};
+use rounds::any;
+use rounds::held;
+use rounds::join;
+use rounds::put;
+use rounds::wide;
+
+// Row v has every bit of row u.
+fn covers(rows: &[u64; 6000], u: usize, v: usize) -> bool
+    requires { ⌜ (u < 600) × (v < 600) ⌝ }
+    ensures { λ r. ⌜ r ≡ coveredIn 10 u v (now (rows .entry)) ⌝ }
+{
+    let mut k: usize = 10;
+    'words: while 0 < k {
+        k -= 1;
+        let i = v * 10 + k;
+        if (rows[i] | rows[u * 10 + k]) != rows[i] {
+            return false;
+        }
+    }
+    true
+}
+
+// Row v gains the bits of row u; it is marked if it changed.
+fn flow(u: usize, v: usize, rows: &mut [u64; 6000], marks: &mut [u8; 600])
+    requires { ⌜ (u < 600) × (v < 600) ⌝ }
+    ensures { λ _. ⌜ ((s t : Table) → u < pairCount s t → v < pairCount s t → Follows s t u v → Partly s t (now (rows .entry)) → Partly s t (now (rows .exit))) ⌝ }
+{
+    if covers(rows, u, v) {
+        return;
+    }
+    join(rows, u, v);
+    marks[v] = 1;
+}
+
+// Row v gains the pair x; it is marked if it changed.
+fn gain(v: usize, x: usize, rows: &mut [u64; 6000], marks: &mut [u8; 600])
+    requires { ⌜ (v < 600) × (x < 600) ⌝ }
+    ensures { λ _. ⌜ ((s t : Table) → v < pairCount s t → x < pairCount s t → PairTop s t v (some x) → Partly s t (now (rows .entry)) → Partly s t (now (rows .exit))) ⌝ }
+{
+    if held(rows, v, x) {
+        return;
+    }
+    put(rows, v, x);
+    marks[v] = 1;
+}
+
+// The link from y to v, and what flows along it at once.
+fn link(y: usize, v: usize, rows: &mut [u64; 6000], links: &mut [u64; 6000], marks: &mut [u8; 600])
+    requires { ⌜ (y < 600) × (v < 600) ⌝ }
+    ensures { λ _. ⌜ LinkOn y v (now (rows .entry)) (now (links .entry)) (now (rows .exit)) (now (links .exit)) ⌝ }
+{
+    if held(links, y, v) {
+        return;
+    }
+    put(links, y, v);
+    flow(y, v, rows, marks);
+}
+
+// The number of a pair.
+fn pair(p: usize, b: usize, n: usize) -> usize
+    requires { ⌜ (p < 24) × (b ≤ n) × (n ≤ 24) ⌝ }
+    ensures { λ r. ⌜ (r ≡ p * (n + 1) + b) × (r < 600) ⌝ }
+{
+    p * (n + 1) + b
+}
+
+// Where the second table goes from b by a move.
+fn after_move(next: &[u8; 800], b: usize, a: usize, n: usize) -> usize
+    requires { ⌜ Nexts n (now next) × (b ≤ n) × (a < 32) ⌝ }
+    ensures { λ r. ⌜ (r ≡ getD (now (next .entry)) (b * 32 + a) 0) × (r ≤ n) ⌝ }
+{
+    wide(next[b * 32 + a])
+}
+
+// Where it goes from b by a return over c.
+fn after_return(next: &[u8; 20000], b: usize, a: usize, c: usize, n: usize) -> usize
+    requires { ⌜ Nexts n (now next) × (b ≤ n) × (a < 32) × (c ≤ n) ⌝ }
+    ensures { λ r. ⌜ (r ≡ getD (now (next .entry)) ((b * 32 + a) * 25 + c) 0) × (r ≤ n) ⌝ }
+{
+    wide(next[(b * 32 + a) * 25 + c])
+}
+
+// The place of the first record of each state, or some other place where a state has none.
+pub fn firsts(section: &[u8], width: usize) -> [usize; 24]
+    requires { ⌜ (3 ≤ width) × (width ≤ 4) ⌝ }
+    ensures { λ r. ⌜ Places width (now (section .entry)) r ⌝ }
+{
+    let mut places = [0usize; 24];
+    let mut last: usize = 24;
+    let mut at: usize = 0;
+    'records: while width <= section.len() - at {
+        let p = wide(section[at]);
+        if p == last {
+            at += width;
+            continue 'records;
+        }
+        if p < 24 {
+            places[p] = at;
+        }
+        last = p;
+        at += width;
+    }
+    places
+}
+
+// By the calls of the state p from a place on: the pair of p and b is a top of where it goes.
+fn push_all(
+    from: usize,
+    p: usize,
+    b: usize,
+    calls: &[u8],
+    pushes: &[u8; 800],
+    n: usize,
+    rows: &mut [u64; 6000],
+    marks: &mut [u8; 600],
+)
+    requires { ⌜ Place 3 (now calls) from × Named 3 24 (now calls) × Nexts n (now pushes) × (p < 24) × (b ≤ n) ⌝ }
+    ensures { λ _. ⌜ PushesOn p b n (now (calls .entry)) (now (pushes .entry)) (now (rows .entry)) (now (rows .exit)) ⌝ }
+{
+    let u = pair(p, b, n);
+    let mut at = from;
+    'records: while 3 <= calls.len() - at {
+        if wide(calls[at]) != p {
+            return;
+        }
+        let a = wide(calls[at + 1]);
+        let q = wide(calls[at + 2]);
+        let v = pair(q, after_move(pushes, b, a, n), n);
+        gain(v, u, rows, marks);
+        at += 3;
+    }
+}
+
+// By the returns of the state p from a place on: where the pair of p and b goes when it pops y is linked with y.
+fn pop_over(
+    from: usize,
+    p: usize,
+    b: usize,
+    y: usize,
+    returns: &[u8],
+    pops: &[u8; 20000],
+    n: usize,
+    rows: &mut [u64; 6000],
+    links: &mut [u64; 6000],
+    marks: &mut [u8; 600],
+)
+    requires { ⌜ Place 4 (now returns) from × Named 4 24 (now returns) × Nexts n (now pops) × (p < 24) × (b ≤ n) × (y < 600) ⌝ }
+    ensures { λ _. ⌜ PopsOver p b y n (now (returns .entry)) (now (pops .entry)) (now (rows .entry)) (now (links .entry)) (now (rows .exit)) (now (links .exit)) ⌝ }
+{
+    let width = n + 1;
+    let under = y / width;
+    let c = y % width;
+    let mut at = from;
+    'records: while 4 <= returns.len() - at {
+        if wide(returns[at]) != p {
+            return;
+        }
+        if wide(returns[at + 2]) != under {
+            at += 4;
+            continue 'records;
+        }
+        let a = wide(returns[at + 1]);
+        let q = wide(returns[at + 3]);
+        let v = pair(q, after_return(pops, b, a, c, n), n);
+        link(y, v, rows, links, marks);
+        at += 4;
+    }
+}
+
+// Over each pair on top of the pair of p and b that was not yet popped; a word without one is left at once.
+fn pop_all(
+    from: usize,
+    p: usize,
+    b: usize,
+    returns: &[u8],
+    pops: &[u8; 20000],
+    k: usize,
+    n: usize,
+    rows: &mut [u64; 6000],
+    links: &mut [u64; 6000],
+    popped: &mut [u64; 6000],
+    marks: &mut [u8; 600],
+)
+    requires { ⌜ Place 4 (now returns) from × Named 4 24 (now returns) × Nexts n (now pops) × (p < 24) × (b ≤ n) × (k ≤ 24) ⌝ }
+    ensures { λ _. ⌜ PopsOn p b k n (now (returns .entry)) (now (pops .entry)) (now (rows .entry)) (now (links .entry)) (now (rows .exit)) (now (links .exit)) ⌝ }
+{
+    let u = pair(p, b, n);
+    let pairs = k * (n + 1);
+    let mut y: usize = 0;
+    'tops: while y < pairs {
+        let i = u * 10 + y / 64;
+        if rows[i] == popped[i] {
+            y = (y / 64 + 1) * 64;
+            continue 'tops;
+        }
+        if !held(rows, u, y) {
+            y += 1;
+            continue 'tops;
+        }
+        if held(popped, u, y) {
+            y += 1;
+            continue 'tops;
+        }
+        put(popped, u, y);
+        pop_over(from, p, b, y, returns, pops, n, rows, links, marks);
+        y += 1;
+    }
+}
+
+// Along the links of the pair u; a word without one is left at once.
+fn spread(
+    u: usize,
+    pairs: usize,
+    rows: &mut [u64; 6000],
+    links: &[u64; 6000],
+    marks: &mut [u8; 600],
+)
+    requires { ⌜ (u < 600) × (pairs ≤ 600) ⌝ }
+    ensures { λ _. ⌜ ((s t : Table) → pairs ≡ pairCount s t → u < pairs → Links s t (now (links .entry)) → Partly s t (now (rows .entry)) → Partly s t (now (rows .exit))) ⌝ }
+{
+    let mut v: usize = 0;
+    'links: while v < pairs {
+        if links[u * 10 + v / 64] == 0 {
+            v = (v / 64 + 1) * 64;
+            continue 'links;
+        }
+        if !held(links, u, v) {
+            v += 1;
+            continue 'links;
+        }
+        flow(u, v, rows, marks);
+        v += 1;
+    }
+}
+
+// One look at the pair of p and b: what it pushes, what it pops, and along its links.
+fn look(
+    p: usize,
+    b: usize,
+    calls: &[u8],
+    returns: &[u8],
+    pushes: &[u8; 800],
+    pops: &[u8; 20000],
+    pushing: usize,
+    popping: usize,
+    k: usize,
+    n: usize,
+    rows: &mut [u64; 6000],
+    links: &mut [u64; 6000],
+    popped: &mut [u64; 6000],
+    marks: &mut [u8; 600],
+)
+    requires { ⌜ Fed (now calls) (now returns) (now pushes) (now pops) k n × Place 3 (now calls) pushing × Place 4 (now returns) popping × (p < k) × (b ≤ n) ⌝ }
+    ensures { λ _. ⌜
+        LooksOn (now (calls .entry)) (now (returns .entry)) (now (pushes .entry)) (now (pops .entry)) k n
+        (now (rows .entry)) (now (links .entry)) (now (rows .exit)) (now (links .exit)) ⌝ }
+{
+    let u = pair(p, b, n);
+    if !any(rows, u) {
+        return;
+    }
+    push_all(pushing, p, b, calls, pushes, n, rows, marks);
+    pop_all(
+        popping,
+        p,
+        b,
+        returns,
+        pops,
+        k,
+        n,
+        rows,
+        links,
+        popped,
+        marks,
+    );
+    spread(u, k * (n + 1), rows, links, marks);
+}
+
+// One look at every pair that is marked.
+fn pass(
+    calls: &[u8],
+    returns: &[u8],
+    pushes: &[u8; 800],
+    pops: &[u8; 20000],
+    pushing: &[usize; 24],
+    popping: &[usize; 24],
+    k: usize,
+    n: usize,
+    rows: &mut [u64; 6000],
+    links: &mut [u64; 6000],
+    popped: &mut [u64; 6000],
+    marks: &mut [u8; 600],
+)
+    requires { ⌜ Fed (now calls) (now returns) (now pushes) (now pops) k n × Places 3 (now calls) (now pushing) × Places 4 (now returns) (now popping) ⌝ }
+    ensures { λ _. ⌜
+        LooksOn (now (calls .entry)) (now (returns .entry)) (now (pushes .entry)) (now (pops .entry)) k n
+        (now (rows .entry)) (now (links .entry)) (now (rows .exit)) (now (links .exit)) ⌝ }
+{
+    let width = n + 1;
+    let pairs = k * width;
+    let mut u: usize = 0;
+    'pairs: while u < pairs {
+        if marks[u] == 0 {
+            u += 1;
+            continue 'pairs;
+        }
+        marks[u] = 0;
+        let p = u / width;
+        let at = pushing[p];
+        let from = popping[p];
+        look(
+            p,
+            u % width,
+            calls,
+            returns,
+            pushes,
+            pops,
+            at,
+            from,
+            k,
+            n,
+            rows,
+            links,
+            popped,
+            marks,
+        );
+        u += 1;
+    }
+}
+
+// One of the first pairs is marked.
+fn any_marked(marks: &[u8; 600], pairs: usize) -> bool
+    requires { ⌜ pairs ≤ 600 ⌝ }
+    ensures { λ r. ⌜ AnyMarked (now (marks .entry)) pairs r ⌝ }
+{
+    let mut u: usize = 0;
+    'pairs: while u < pairs {
+        if marks[u] != 0 {
+            return true;
+        }
+        u += 1;
+    }
+    false
+}
+
+// An internal of the first table, with every state of the second, is a link.
+fn inner_link(p: usize, a: usize, q: usize, moves: &[u8; 800], n: usize, links: &mut [u64; 6000])
+    requires { ⌜ (p < 24) × (a < 32) × (q < 24) × Nexts n (now moves) ⌝ }
+    ensures { λ _. ⌜ LinksOn p a q n (now (moves .entry)) (now (links .entry)) (now (links .exit)) ⌝ }
+{
+    let mut b: usize = 0;
+    'seconds: while b <= n {
+        let u = pair(p, b, n);
+        let v = pair(q, after_move(moves, b, a, n), n);
+        put(links, u, v);
+        b += 1;
+    }
+}
+
+// All of them.
+fn inner_links(internals: &[u8], moves: &[u8; 800], n: usize, links: &mut [u64; 6000])
+    requires { ⌜ Named 3 24 (now internals) × Nexts n (now moves) ⌝ }
+    ensures { λ _. ⌜ AllLinks n (now (internals .entry)) (now (moves .entry)) (now (links .entry)) (now (links .exit)) ⌝ }
+{
+    let mut at: usize = 0;
+    'records: while 3 <= internals.len() - at {
+        let p = wide(internals[at]);
+        let a = wide(internals[at + 1]);
+        let q = wide(internals[at + 2]);
+        inner_link(p, a, q, moves, n, links);
+        at += 3;
+    }
+}
+
+// Looks until no pair is marked, so many passes at most.
+fn looks(
+    calls: &[u8],
+    returns: &[u8],
+    pushes: &[u8; 800],
+    pops: &[u8; 20000],
+    k: usize,
+    n: usize,
+    rows: &mut [u64; 6000],
+    links: &mut [u64; 6000],
+)
+    requires { ⌜ Fed (now calls) (now returns) (now pushes) (now pops) k n ⌝ }
+    ensures { λ _. ⌜
+        LooksOn (now (calls .entry)) (now (returns .entry)) (now (pushes .entry)) (now (pops .entry)) k n
+        (now (rows .entry)) (now (links .entry)) (now (rows .exit)) (now (links .exit)) ⌝ }
+{
+    let pushing = firsts(calls, 3);
+    let popping = firsts(returns, 4);
+    let pairs = k * (n + 1);
+    let mut popped = [0u64; 6000];
+    let mut marks = [1u8; 600];
+    let mut left: usize = 360601;
+    'passes: while 0 < left {
+        if !any_marked(&marks, pairs) {
+            return;
+        }
+        pass(
+            calls,
+            returns,
+            pushes,
+            pops,
+            &pushing,
+            &popping,
+            k,
+            n,
+            rows,
+            links,
+            &mut popped,
+            &mut marks,
+        );
+        left -= 1;
+    }
+}
+
+// Tops of pairs that the rows do not yet hold: all of them, as the rounds confirm.
+pub fn quick(
+    internals: &[u8],
+    calls: &[u8],
+    returns: &[u8],
+    moves: &[u8; 800],
+    pushes: &[u8; 800],
+    pops: &[u8; 20000],
+    k: usize,
+    n: usize,
+    rows: &mut [u64; 6000],
+)
+    requires { ⌜ Fed (now calls) (now returns) (now pushes) (now pops) k n × Named 3 24 (now internals) × Nexts n (now moves) ⌝ }
+    ensures { λ _. ⌜
+        AddsTops (now (internals .entry)) (now (calls .entry)) (now (returns .entry)) (now (moves .entry)) (now (pushes .entry)) (now (pops .entry)) k n
+        (now (rows .entry)) (now (rows .exit)) ⌝ }
+{
+    let mut links = [0u64; 6000];
+    inner_links(internals, moves, n, &mut links);
+    looks(calls, returns, pushes, pops, k, n, rows, &mut links);
+}
