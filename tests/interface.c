@@ -114,6 +114,21 @@ static void try_table(struct work *w, const char *path, size_t *most) {
     }
 }
 
+/* The search over a list of which all is left behind its first pass, 32,766 words of clauses of two: it takes the most room. */
+static void try_long_list(struct work *w, size_t *most) {
+    w->states = STATES;
+    w->words = 0;
+    for (size_t i = 0; w->words + 3 <= 32768; i++) {
+        w->list[w->words++] = 2;
+        w->list[w->words++] = (uint16_t)(2 * (i % 779));
+        w->list[w->words++] = (uint16_t)(2 * (i % 779 + 1) + i % 2);
+    }
+    size_t bytes = stack_of(do_search_within, w);
+    if (*most < bytes) *most = bytes;
+    expect(w->number == 0, "finds no assignment", "search of a long list");
+    expect(bytes <= BASILVAULT_STACK, "takes more stack than the header says", "search of a long list");
+}
+
 /* Null pointers, and a `values` one short: 0 is returned and nothing stored. */
 static void try_edges(void) {
     static const uint8_t least[13] = {3, 1, 0, 1, 0, 0, 0, 0, 0, 0, 0, 1, 0};
@@ -140,6 +155,7 @@ int main(int count, char **paths) {
     size_t idle = stack_of(do_nothing, works[0]);
     for (int i = 1; i < count; i++) try_table(works[0], paths[i], &most);
     try_edges();
+    try_long_list(works[THREADS - 1], &most);
     /* the last table, by several threads at once: each as by itself */
     do_reduce_within(works[0]);
     for (size_t i = 1; i < THREADS; i++) {

@@ -20,6 +20,7 @@ ghost use Rattle.fitting.specs.Fit.{fitOf};
 ghost use Rattle.seasons.specs.Seasons.{seasonOf};
 ghost use Rattle.capi.specs.Answers.{readOut, topsOut, clausesOut, searchOut, checkOut, quotientOut, reduceOut, usesOut, chooseOut, scriptOut, recordsOut, fitOut, seasonOut};
 use choices::Which;
+use format::Reading;
 use limits::Limits;
 
 // Reads a table. Five values: the starts of symbols, states, internals, calls and returns.
