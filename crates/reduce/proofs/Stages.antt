@@ -40,10 +40,10 @@ use Rattle.encoding.specs.declared.Listed.{Listed}
 use Rattle.encoding.specs.declared.Listed.the-variants.{List as Words, Refused as NotListed}
 use Rattle.encoding.proofs.Short.{short-formed, short-tried}
 use Rattle.clauses.specs.Whole.{listedBy}
-use Rattle.search.specs.Turns.{noneSet, Fresh, EndsWith}
+use Rattle.turns.specs.Turns.{noneSet, Fresh, EndsWith}
 use Rattle.rows.specs.Conclusions.{withTriangles}
-use Rattle.search.specs.declared.engine.Ending.{Ending}
-use Rattle.search.specs.declared.engine.Ending.the-variants.{Found, Absent, Spent}
+use Rattle.turns.specs.declared.Ending.{Ending}
+use Rattle.turns.specs.declared.Ending.the-variants.{Found, Absent, Spent}
 use Rattle.search.proofs.Answering.{prefix-is, prefix-values}
 use Rattle.quotients.specs.Quotient.{quotientNumber, QuotientDone, quotientOf}
 use Rattle.quotients.specs.declared.Written.{Written}

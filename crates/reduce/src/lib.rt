@@ -17,8 +17,8 @@ use joining::map_of;
 use limits::Limits;
 use quotients::Written;
 use reductions::Reduction;
-use search::Ending;
 use table::Section;
+use turns::Ending;
 
 // The end of a search as its guesses, and whether none exists or the budget is spent.
 struct Made {
@@ -70,7 +70,7 @@ fn deliver_held(
         (λ L list. deliver L (now (table .entry)) list (now (map .entry)) (now (out .entry)) (mapOf (now (values .entry)) n) guesses ceiling spent) ⌝ }
 {
     let classes = map_of(values, n);
-    let joined = search::not_false(values);
+    let joined = trial::not_false(values);
     let found = classes.map;
     let count = n as usize;
     let written = quotient::quotient_known(table, starts, tops, &found[..count], out);

@@ -6,20 +6,17 @@ ghost use Rattle.limits.specs.Limits.{standard, limitsFit};
 ghost use Rattle.pairs.specs.Pairs.{pairs};
 ghost use Rattle.solutions.specs.Answers.{Searched, searchAt, searchOf, SearchSays};
 ghost use Rattle.solutions.specs.Demands.{SearchSound};
-ghost use Rattle.search.specs.Turns.{noneSet};
+ghost use Rattle.turns.specs.Turns.{noneSet};
 use fits::list_fits;
 use limits::Limits;
 use limits::limits_fit;
 use solutions::Solution;
+use turns::Ending;
 
 mod engine;
-mod fits;
-mod trial;
 
 pub use engine::End;
-pub use engine::Ending;
 pub use engine::solve;
-pub use trial::not_false;
 
 // Room for the values of 780 variables, none of which is set.
 pub fn none_set() -> [u8; 780]

@@ -3,7 +3,7 @@ use borrow.Author.Needs.{needs}
 use Rattle.cnf.specs.Clauses.{clausesIn}
 use Rattle.pairs.specs.Triangles.{triangles}
 use Rattle.rows.proofs.Working.{formed-part}
-use Rattle.propagate.proofs.Attending.{to-cs}
+use Rattle.passes.proofs.Attending.{to-cs}
 use Rattle.occurrences.proofs.Preparing.{listed, prepared}
 use Rattle.search.proofs.engine.turns_indexed.Statement.{statement}
 use Rattle.search.proofs.engine.turns_indexed.Tie as tie

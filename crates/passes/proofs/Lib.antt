@@ -1,0 +1,3 @@
+pub mod Attending
+pub mod Passing
+pub mod Settling

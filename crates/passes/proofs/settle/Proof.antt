@@ -1,0 +1,81 @@
+-- `passes::settle` meets its contract. The loop's invariant: what was set so far are unit steps, and group 2 waits for the queue only; each pass
+-- but the last sets a variable. Assumes nothing.
+use Prim.Native.Nat.{_-_}
+use lib.ListN.{length}
+use Rattle.cnf.specs.Clauses.{clausesIn}
+use Rattle.pairs.specs.Triangles.{triangles}
+use Rattle.rows.specs.Rows.{Rows}
+use Rattle.passes.proofs.Settling as laws
+use Rattle.passes.proofs.settle.Statement.{statement}
+use Rattle.passes.proofs.settle.Tie as tie
+
+abbrev Inv-passes : tie.InvT-passes
+Inv-passes list n table values₀ trail₀ joined₀ apart₀ from start at₀ count₀ values trail joined apart at count =
+    laws.Settling (clausesIn list) (triangles n) values₀ trail₀ start values trail at count × Rows n values joined apart
+
+abbrev μ-passes : tie.MeasureT-passes
+μ-passes list n table values₀ trail₀ joined₀ apart₀ from start at₀ count₀ values trail joined apart at count =
+    length values - count
+
+passes-holds : tie.Need-passes-holds Inv-passes μ-passes
+passes-holds c = (laws.settling _ _ (c .before .before .before .before .pre .1 .0 .0) (c .before .before .before .before .pre .1 .0 .1), c .before .before .before .before .pre .1 .1 .1)
+
+drain-requires : tie.Need-drain-requires Inv-passes μ-passes
+drain-requires c κs = ((laws.drain-ready (c .before .before .before .before .passes .inv .0), c .before .before .before .before .passes .inv .1), (c .before .before .before .before .before .before .before .before .before .pre .1 .1 .0, c .before .before .before .before .passes .inv .0 .queue))
+
+same-length : tie.Need-same-length Inv-passes μ-passes
+same-length c = laws.drained-values (c .before .before .before .before .before .before .before .before .before .before .passes .inv .0) (c .before .before .before .before .before .drain .ensures .0)
+
+same-length-2 : tie.Need-same-length-2 Inv-passes μ-passes
+same-length-2 c = laws.drained-trail (c .before .before .before .before .before .before .before .before .before .before .passes .inv .0) (c .before .before .before .before .before .drain .ensures .0)
+
+returns : tie.Need-returns Inv-passes μ-passes
+returns c = (laws.drain-broken (c .before .before .before .before .before .before .before .before .before .before .passes .inv .0) (c .before .before .before .before .before .drain .ensures .0) (c .if1 .taken), c .before .before .before .before .before .drain .ensures .1)
+
+pass-requires : tie.Need-pass-requires Inv-passes μ-passes
+pass-requires c κs = (c .before .before .before .before .before .before .before .before .before .before .before .before .before .before .before .before .before .before .before .pre .0, (laws.pass-ready (c .before .before .before .before .before .before .before .before .before .before .before .before .before .before .passes .inv .0) (c .before .before .before .before .before .before .before .before .before .drain .ensures .0), (c .before .before .before .before .before .before .before .before .before .before .before .before .before .before .before .before .before .before .before .pre .1 .1 .0, c .before .before .before .before .before .before .before .before .before .drain .ensures .1)))
+
+same-length-3 : tie.Need-same-length-3 Inv-passes μ-passes
+same-length-3 c = laws.settle-values (c .before .before .before .before .before .before .before .before .before .before .before .before .before .before .before .before .before .before .before .before .passes .inv .0) (c .before .before .before .before .before .before .before .before .before .before .before .before .before .before .before .drain .ensures .0) (c .before .before .before .before .before .before .before .before .before .before .if1 .left) (c .before .before .before .before .before .pass .ensures .0)
+
+same-length-4 : tie.Need-same-length-4 Inv-passes μ-passes
+same-length-4 c = laws.settle-trail (c .before .before .before .before .before .before .before .before .before .before .before .before .before .before .before .before .before .before .before .before .passes .inv .0) (c .before .before .before .before .before .before .before .before .before .before .before .before .before .before .before .drain .ensures .0) (c .before .before .before .before .before .before .before .before .before .before .if1 .left) (c .before .before .before .before .before .pass .ensures .0)
+
+returns-2 : tie.Need-returns-2 Inv-passes μ-passes
+returns-2 c = (laws.settle-broken (c .before .before .before .before .before .before .before .before .before .before .before .before .before .before .before .before .before .before .before .before .passes .inv .0) (c .before .before .before .before .before .before .before .before .before .before .before .before .before .before .before .drain .ensures .0) (c .before .before .before .before .before .before .before .before .before .before .if1 .left) (c .before .before .before .before .before .pass .ensures .0) (c .if2 .taken), c .before .before .before .before .before .pass .ensures .1)
+
+same-length-5 : tie.Need-same-length-5 Inv-passes μ-passes
+same-length-5 c = laws.settle-values (c .before .before .before .before .before .before .before .before .before .before .before .before .before .before .before .before .before .before .before .before .before .before .passes .inv .0) (c .before .before .before .before .before .before .before .before .before .before .before .before .before .before .before .before .before .drain .ensures .0) (c .before .before .before .before .before .before .before .before .before .before .before .before .if1 .left) (c .before .before .before .before .before .before .before .pass .ensures .0)
+
+same-length-6 : tie.Need-same-length-6 Inv-passes μ-passes
+same-length-6 c = laws.settle-trail (c .before .before .before .before .before .before .before .before .before .before .before .before .before .before .before .before .before .before .before .before .before .before .passes .inv .0) (c .before .before .before .before .before .before .before .before .before .before .before .before .before .before .before .before .before .drain .ensures .0) (c .before .before .before .before .before .before .before .before .before .before .before .before .if1 .left) (c .before .before .before .before .before .before .before .pass .ensures .0)
+
+returns-3 : tie.Need-returns-3 Inv-passes μ-passes
+returns-3 c = (laws.settle-rest (c .before .before .before .before .before .before .before .before .before .before .before .before .before .before .before .before .before .before .before .before .before .before .passes .inv .0) (c .before .before .before .before .before .before .before .before .before .before .before .before .before .before .before .before .before .drain .ensures .0) (c .before .before .before .before .before .before .before .before .before .before .before .before .if1 .left) (c .before .before .before .before .before .before .before .pass .ensures .0) (c .before .before .if2 .left) (c .if3 .taken), c .before .before .before .before .before .before .before .pass .ensures .1)
+
+passes-less : tie.Need-passes-less Inv-passes μ-passes
+passes-less c = laws.settle-less (c .before .before .before .before .before .before .before .before .before .before .before .before .before .before .before .before .before .before .before .before .before .before .passes .inv .0) (c .before .before .before .before .before .before .before .before .before .before .before .before .before .before .before .before .before .drain .ensures .0) (c .before .before .before .before .before .before .before .before .before .before .before .before .if1 .left) (c .before .before .before .before .before .before .before .pass .ensures .0) (c .if3 .left)
+
+passes-again : tie.Need-passes-again Inv-passes μ-passes
+passes-again c = (laws.settle-more (c .before .before .before .before .before .before .before .before .before .before .before .before .before .before .before .before .before .before .before .before .before .before .passes .inv .0) (c .before .before .before .before .before .before .before .before .before .before .before .before .before .before .before .before .before .drain .ensures .0) (c .before .before .before .before .before .before .before .before .before .before .before .before .if1 .left) (c .before .before .before .before .before .before .before .pass .ensures .0) (c .before .before .if2 .left), c .before .before .before .before .before .before .before .pass .ensures .1)
+
+pub settle-spec : {M : Type 1} → statement M
+settle-spec =
+    tie.close
+    (tie.spec
+    Inv-passes
+    μ-passes
+    passes-holds
+    drain-requires
+    same-length
+    same-length-2
+    returns
+    pass-requires
+    same-length-3
+    same-length-4
+    returns-2
+    same-length-5
+    same-length-6
+    returns-3
+    passes-less
+    passes-again)

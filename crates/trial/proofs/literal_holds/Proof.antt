@@ -1,0 +1,21 @@
+-- `trial::literal_holds` meets its contract. Assumes nothing.
+use borrow.Author.Needs.{needs}
+use native.Mathlib.Omega.{arith}
+use Rattle.trial.proofs.Trying as laws
+use Rattle.trial.proofs.literal_holds.Statement.{statement}
+use Rattle.trial.proofs.literal_holds.Tie as tie
+
+wide-requires : tie.Need-wide-requires
+wide-requires c κs = search needs
+
+shared-slice-read-if1 : tie.Need-shared-slice-read-if1
+shared-slice-read-if1 c = search needs
+
+returns : tie.Need-returns
+returns c = laws.literal-true (c .before .before .before .before .args .values .now) (c .before .before .before .before .args .l) (c .before .before .wide .ensures) (omega (arith, c .before .before .before .before .pre, c .before .before .wide .ensures)) (c .if1 .taken)
+
+returns-2 : tie.Need-returns-2
+returns-2 c = laws.literal-other (c .before .before .before .before .args .values .now) (c .before .before .before .before .args .l) (c .before .before .wide .ensures) (omega (arith, c .before .before .before .before .pre, c .before .before .wide .ensures)) (c .if1 .left)
+
+pub literal-holds-spec : {M : Type 1} → statement M
+literal-holds-spec = tie.close (tie.spec wide-requires shared-slice-read-if1 returns returns-2)

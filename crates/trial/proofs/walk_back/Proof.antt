@@ -1,0 +1,84 @@
+-- `trial::walk_back` meets its contract. The loop's invariant: from here the walk back finds what it finds from its start. Assumes nothing.
+use borrow.Author.Needs.{needs}
+use native.Mathlib.Omega.{arith}
+use mathlib.Core.Path.{sym, _∙_}
+use Prim.Native.Nat.{_-_}
+use Rattle.cnf.specs.Clauses.{clausesIn}
+use Rattle.rows.specs.Rows.{Rows}
+use Rattle.trial.proofs.Retracing as laws
+use Rattle.trial.proofs.walk_back.Statement.{statement}
+use Rattle.trial.proofs.walk_back.Tie as tie
+
+abbrev Inv-guesses : tie.InvT-guesses
+Inv-guesses list n table values₀ trail joined₀ apart₀ marks guesses start depth₀ count₀ values joined apart depth count =
+    laws.Retracing (clausesIn list) marks values₀ trail guesses start values depth count × Rows n values joined apart
+
+abbrev μ-guesses : tie.MeasureT-guesses
+μ-guesses list n table values₀ trail joined₀ apart₀ marks guesses start depth₀ count₀ values joined apart depth count = depth
+
+guesses-holds : tie.Need-guesses-holds Inv-guesses μ-guesses
+guesses-holds c = (laws.retracing (c .before .before .before .before .pre .1 .1), c .before .before .before .before .pre .1 .0 .1)
+
+trial-holds-requires : tie.Need-trial-holds-requires Inv-guesses μ-guesses
+trial-holds-requires c κs = (c .before .before .before .before .before .before .pre .0 .0, rw (c .before .guesses .inv .0 .size) (c .before .before .before .before .before .before .pre .0 .1))
+
+hold-requires : tie.Need-hold-requires Inv-guesses μ-guesses
+hold-requires c κs = search needs
+
+same-length : tie.Need-same-length Inv-guesses μ-guesses
+same-length c = c .before .before .hold .kept .0 ∙ c .before .before .before .before .before .before .before .guesses .inv .0 .size
+
+returns : tie.Need-returns Inv-guesses μ-guesses
+returns c = laws.retrace-holds (c .before .before .before .before .before .before .before .guesses .inv .0) (sym (c .before .before .before .before .before .trial-holds .ensures) ∙ c .before .before .before .before .if1 .taken) (c .before .before .hold .ensures)
+
+hold-requires-2 : tie.Need-hold-requires-2 Inv-guesses μ-guesses
+hold-requires-2 c κs = search needs
+
+same-length-2 : tie.Need-same-length-2 Inv-guesses μ-guesses
+same-length-2 c = c .before .before .hold2 .kept .0 ∙ c .before .before .before .before .before .before .before .before .guesses .inv .0 .size
+
+returns-2 : tie.Need-returns-2 Inv-guesses μ-guesses
+returns-2 c = laws.retrace-none (c .before .before .before .before .before .before .before .before .guesses .inv .0) (sym (c .before .before .before .before .before .before .trial-holds .ensures) ∙ c .before .before .before .before .before .if1 .left) (c .before .before .before .before .if2 .taken) (c .before .before .hold2 .ensures)
+
+sub-depth : tie.Need-sub-depth Inv-guesses μ-guesses
+sub-depth c = search needs
+
+mul-wide : tie.Need-mul-wide Inv-guesses μ-guesses
+mul-wide c = omega (arith, c .before .before .before .before .guesses .inv .0 .able .few)
+
+element-copy-out-wide : tie.Need-element-copy-out-wide Inv-guesses μ-guesses
+element-copy-out-wide c = omega (arith, c .before .before .before .before .guesses .inv .0 .able .few, c .if2 .left)
+
+wide-requires : tie.Need-wide-requires Inv-guesses μ-guesses
+wide-requires c κs = search needs
+
+unwind-requires : tie.Need-unwind-requires Inv-guesses μ-guesses
+unwind-requires c κs = (c .before .before .before .before .before .before .before .before .before .before .before .before .before .before .pre .1 .0 .0, laws.can-retrace (c .before .before .before .before .before .before .before .before .before .guesses .inv .0) (sym (c .before .before .before .before .before .before .before .trial-holds .ensures) ∙ c .before .before .before .before .before .before .if1 .left) (c .before .before .before .before .before .before .before .before .before .guesses .depth - 1) (omega (arith, c .before .before .before .before .before .if2 .left)) (c .before .before .before .wide .ensures), c .before .before .before .before .before .before .before .before .before .guesses .inv .1)
+
+guesses-less : tie.Need-guesses-less Inv-guesses μ-guesses
+guesses-less c = search needs
+
+guesses-again : tie.Need-guesses-again Inv-guesses μ-guesses
+guesses-again c = (laws.retrace-on (c .before .before .before .before .before .before .before .before .before .before .before .before .guesses .inv .0) (sym (c .before .before .before .before .before .before .before .before .before .before .trial-holds .ensures) ∙ c .before .before .before .before .before .before .before .before .before .if1 .left) (c .before .before .before .before .before .before .before .before .before .before .before .before .guesses .depth - 1) (omega (arith, c .before .before .before .before .before .before .before .before .if2 .left)) (c .before .before .before .before .before .before .wide .ensures) (c .before .before .unwind .ensures .values), c .before .before .unwind .ensures .rows)
+
+pub walk-back-spec : {M : Type 1} → statement M
+walk-back-spec =
+    tie.close
+    (tie.spec
+    Inv-guesses
+    μ-guesses
+    guesses-holds
+    trial-holds-requires
+    hold-requires
+    same-length
+    returns
+    hold-requires-2
+    same-length-2
+    returns-2
+    sub-depth
+    mul-wide
+    element-copy-out-wide
+    wide-requires
+    unwind-requires
+    guesses-less
+    guesses-again)

@@ -1,0 +1,166 @@
+-- `turns::turns` meets its contract. The loop's invariant: whatever end the turns lead to from here, with the trial held, they lead to from the start. The measure is
+-- twice the guesses left and the guesses that stand. Assumes nothing.
+use borrow.Author.Needs.{needs}
+use Prim.Native.Nat.{_+_, _-_, _*_}
+use native.Mathlib.Omega.{arith}
+use mathlib.Core.Path.{_≡_, refl, sym, _∙_}
+use lib.ListN.{length}
+use Rattle.cnf.specs.Clauses.{clausesIn}
+use Rattle.cnf.specs.Trials.{notFalse}
+use Rattle.rows.specs.Conclusions.{withTriangles}
+use Rattle.rows.specs.Rows.{Rows}
+use Rattle.occurrences.specs.Occurrences.{Prepared}
+use Rattle.turns.proofs.Ends as laws
+use Rattle.turns.proofs.turns.Statement.{statement}
+use Rattle.turns.proofs.turns.Tie as tie
+
+abbrev Inv-turns : tie.InvT-turns
+Inv-turns list n table firsts clauses hints₀ values₀ trail₀ joined₀ apart₀ budget start marks₀ at₀ count₀ depth₀ made₀ low₀ hints values trail joined apart marks at count depth made low =
+    laws.Turning (withTriangles list n) (length values₀) budget (notFalse values₀) values trail marks at count depth made low × Rows n values joined apart × Prepared list firsts clauses hints × (length hints ≡ length hints₀)
+
+abbrev μ-turns : tie.MeasureT-turns
+μ-turns list n table firsts clauses hints₀ values₀ trail₀ joined₀ apart₀ budget start marks₀ at₀ count₀ depth₀ made₀ low₀ hints values trail joined apart marks at count depth made low =
+    2 * (budget - made) + depth
+
+places-requires : tie.Need-places-requires Inv-turns μ-turns
+places-requires c κs = search needs
+
+turns-holds : tie.Need-turns-holds Inv-turns μ-turns
+turns-holds c = (laws.turning _ _ (c .before .before .before .before .before .before .before .pre .1 .0) (c .places .ensures), c .before .before .before .before .before .before .before .pre .1 .1 .1, c .before .before .before .before .before .before .before .pre .0, refl)
+
+close-requires : tie.Need-close-requires Inv-turns μ-turns
+close-requires c κs = let i = c .before .before .before .before .before .turns .inv .0 in (c .before .before .before .before .before .turns .inv .2, (i .ready, ((i .queue, omega (arith, i .size, i .most)), (c .before .before .before .before .before .before .before .before .before .before .before .before .before .pre .1 .1 .0, c .before .before .before .before .before .turns .inv .1))))
+
+same-length : tie.Need-same-length Inv-turns μ-turns
+same-length c = search (needs, c .before .before .before .before .before .before .before .before .before .before .before .before .before .before .turns .inv .3)
+
+same-length-2 : tie.Need-same-length-2 Inv-turns μ-turns
+same-length-2 c = laws.after-size (c .before .before .before .before .before .before .before .before .before .before .before .before .before .before .turns .inv .0) (c .before .before .before .before .before .before .before .before .close .ensures .0 .0)
+
+same-length-3 : tie.Need-same-length-3 Inv-turns μ-turns
+same-length-3 c = laws.after-long (c .before .before .before .before .before .before .before .before .before .before .before .before .before .before .turns .inv .0) (c .before .before .before .before .before .before .before .before .close .ensures .0 .0) ∙ sym (c .before .before .before .before .before .before .before .before .before .before .before .before .before .before .before .before .before .before .before .before .before .before .pre .1 .0 .long)
+
+returns : tie.Need-returns Inv-turns μ-turns
+returns c = laws.turn-absent (c .before .before .before .before .before .before .before .before .before .before .before .before .before .before .turns .inv .0) (c .before .before .before .before .before .before .before .before .close .ensures .0 .0) (c .before .if1 .taken) (c .if2 .taken)
+
+sub-depth : tie.Need-sub-depth Inv-turns μ-turns
+sub-depth c = search needs
+
+mul-wide : tie.Need-mul-wide Inv-turns μ-turns
+mul-wide c =
+    let i = c .before .before .before .before .before .before .before .before .before .before .before .before .before .before .turns .inv .0 in
+    let s = c .before .before .before .before .before .before .before .before .close .ensures .0 .0 in
+    omega (arith, laws.after-depth i s, laws.after-count i s, i .most)
+
+array-read-wide : tie.Need-array-read-wide Inv-turns μ-turns
+array-read-wide c =
+    let i = c .before .before .before .before .before .before .before .before .before .before .before .before .before .before .turns .inv .0 in
+    let s = c .before .before .before .before .before .before .before .before .close .ensures .0 .0 in
+    omega (arith, c .if2 .left, laws.after-depth i s, laws.after-count i s, i .most)
+
+wide-requires : tie.Need-wide-requires Inv-turns μ-turns
+wide-requires c κs = search needs
+
+undo-requires : tie.Need-undo-requires Inv-turns μ-turns
+undo-requires c κs = (c .before .before .before .before .before .before .before .before .before .before .before .before .before .before .before .before .before .before .before .before .before .before .before .before .before .before .before .pre .1 .1 .0, laws.can-undo (c .before .before .before .before .before .before .before .before .before .before .before .before .before .before .before .before .before .before .before .turns .inv .0) (c .before .before .before .before .before .before .before .before .before .before .before .before .before .close .ensures .0 .0) (c .before .before .before .before .before .before .if1 .taken) (c .before .before .before .before .before .before .before .before .before .before .before .before .before .before .before .before .before .before .before .turns .depth - 1) (omega (arith, c .before .before .before .before .before .if2 .left)) (c .before .before .before .before .wide .ensures), c .before .before .before .before .before .before .before .before .before .before .before .before .before .close .ensures .0 .1)
+
+add-low : tie.Need-add-low Inv-turns μ-turns
+add-low c =
+    let i = c .before .before .before .before .before .before .before .before .before .before .before .before .before .before .before .before .before .before .before .before .before .before .turns .inv .0 in
+    omega (arith, laws.inside i (c .before .before .before .before .before .before .before .before .before .before .before .before .before .before .before .before .close .ensures .0 .0) (c .before .before .before .before .before .before .before .before .before .if1 .taken) (c .before .before .before .before .before .before .before .before .before .before .before .before .before .before .before .before .before .before .before .before .before .before .turns .depth - 1) (omega (arith, c .before .before .before .before .before .before .before .before .if2 .left)) (c .before .before .before .before .before .before .before .wide .ensures) (c .before .before .undo .ensures .0), i .most)
+
+add-count : tie.Need-add-count Inv-turns μ-turns
+add-count c =
+    let i = c .before .before .before .before .before .before .before .before .before .before .before .before .before .before .before .before .before .before .before .before .before .before .turns .inv .0 in
+    let s = c .before .before .before .before .before .before .before .before .before .before .before .before .before .before .before .before .close .ensures .0 .0 in
+    omega (arith, laws.place i s (c .before .before .before .before .before .before .before .before .before .if1 .taken) (c .before .before .before .before .before .before .before .before .before .before .before .before .before .before .before .before .before .before .before .before .before .before .turns .depth - 1) (omega (arith, c .before .before .before .before .before .before .before .before .if2 .left)) (c .before .before .before .before .before .before .before .wide .ensures), laws.after-count i s, i .most)
+
+turns-less : tie.Need-turns-less Inv-turns μ-turns
+turns-less c = search needs
+
+turns-again : tie.Need-turns-again Inv-turns μ-turns
+turns-again c = (laws.turn-undo (c .before .before .before .before .before .before .before .before .before .before .before .before .before .before .before .before .before .before .before .before .before .before .turns .inv .0) (c .before .before .before .before .before .before .before .before .before .before .before .before .before .before .before .before .close .ensures .0 .0) (c .before .before .before .before .before .before .before .before .before .if1 .taken) (c .before .before .before .before .before .before .before .before .before .before .before .before .before .before .before .before .before .before .before .before .before .before .turns .depth - 1) (omega (arith, c .before .before .before .before .before .before .before .before .if2 .left)) (c .before .before .before .before .before .before .before .wide .ensures) (c .before .before .undo .ensures .0), c .before .before .undo .ensures .1, c .before .before .before .before .before .before .before .before .before .before .before .before .before .before .before .before .close .ensures .1, search (needs, c .before .before .before .before .before .before .before .before .before .before .before .before .before .before .before .before .before .before .before .before .before .before .turns .inv .3))
+
+next-unset-requires : tie.Need-next-unset-requires Inv-turns μ-turns
+next-unset-requires c κs = omega (arith, c .before .before .before .before .before .before .before .before .before .before .before .before .before .before .turns .inv .0 .low-in, laws.after-size (c .before .before .before .before .before .before .before .before .before .before .before .before .before .before .turns .inv .0) (c .before .before .before .before .before .before .before .before .close .ensures .0 .0))
+
+same-length-4 : tie.Need-same-length-4 Inv-turns μ-turns
+same-length-4 c = search (needs, c .before .before .before .before .before .before .before .before .before .before .before .before .before .before .before .before .turns .inv .3)
+
+same-length-5 : tie.Need-same-length-5 Inv-turns μ-turns
+same-length-5 c = laws.after-size (c .before .before .before .before .before .before .before .before .before .before .before .before .before .before .before .before .turns .inv .0) (c .before .before .before .before .before .before .before .before .before .before .close .ensures .0 .0)
+
+same-length-6 : tie.Need-same-length-6 Inv-turns μ-turns
+same-length-6 c = laws.after-long (c .before .before .before .before .before .before .before .before .before .before .before .before .before .before .before .before .turns .inv .0) (c .before .before .before .before .before .before .before .before .before .before .close .ensures .0 .0) ∙ sym (c .before .before .before .before .before .before .before .before .before .before .before .before .before .before .before .before .before .before .before .before .before .before .before .before .pre .1 .0 .long)
+
+returns-2 : tie.Need-returns-2 Inv-turns μ-turns
+returns-2 c = laws.turn-solved (c .before .before .before .before .before .before .before .before .before .before .before .before .before .before .before .before .turns .inv .0) (c .before .before .before .before .before .before .before .before .before .before .close .ensures .0 .0) (c .before .before .before .if1 .left) (c .before .next-unset .ensures) (c .if3 .taken)
+
+walk-back-requires : tie.Need-walk-back-requires Inv-turns μ-turns
+walk-back-requires c κs =
+    let i = c .before .before .before .before .before .before .before .before .before .before .before .before .before .before .before .before .before .before .before .before .before .before .turns .inv .0 in
+    let e = c .before .before .before .before .before .before .before .before .before .before .before .before .before .before .before .before .close .ensures .0 in
+    ((c .before .before .before .before .before .before .before .before .before .before .before .before .before .before .before .before .before .before .before .before .before .before .before .before .before .before .before .before .before .before .pre .0 .all-there, rw (laws.after-size i (e .0)) (laws.list-formed (c .before .before .before .before .before .before .before .before .before .before .before .before .before .before .before .before .before .before .before .before .before .before .before .before .before .before .before .before .before .before .args .list .now) (c .before .before .before .before .before .before .before .before .before .before .before .before .before .before .before .before .before .before .before .before .before .before .before .before .before .before .before .before .before .before .args .n) (c .before .before .before .before .before .before .before .before .before .before .before .before .before .before .before .before .before .before .before .before .before .before .before .before .before .before .before .before .before .before .pre .1 .0 .formed))), ((c .before .before .before .before .before .before .before .before .before .before .before .before .before .before .before .before .before .before .before .before .before .before .before .before .before .before .before .before .before .before .pre .1 .1 .0, e .1), laws.can-retrace i (e .0) (c .before .before .before .before .before .before .before .before .before .if1 .left) (c .before .before .before .before .before .before .before .next-unset .ensures) (c .before .before .before .before .before .before .if3 .left)))
+
+same-length-7 : tie.Need-same-length-7 Inv-turns μ-turns
+same-length-7 c = search (needs, c .before .before .before .before .before .before .before .before .before .before .before .before .before .before .before .before .before .before .before .before .before .before .before .before .before .turns .inv .3)
+
+same-length-8 : tie.Need-same-length-8 Inv-turns μ-turns
+same-length-8 c = c .before .before .walk-back .kept .1 .1 .1 .0 ∙ laws.after-size (c .before .before .before .before .before .before .before .before .before .before .before .before .before .before .before .before .before .before .before .before .before .before .before .before .before .turns .inv .0) (c .before .before .before .before .before .before .before .before .before .before .before .before .before .before .before .before .before .before .before .close .ensures .0 .0)
+
+same-length-9 : tie.Need-same-length-9 Inv-turns μ-turns
+same-length-9 c = laws.after-long (c .before .before .before .before .before .before .before .before .before .before .before .before .before .before .before .before .before .before .before .before .before .before .before .before .before .turns .inv .0) (c .before .before .before .before .before .before .before .before .before .before .before .before .before .before .before .before .before .before .before .close .ensures .0 .0) ∙ sym (c .before .before .before .before .before .before .before .before .before .before .before .before .before .before .before .before .before .before .before .before .before .before .before .before .before .before .before .before .before .before .before .before .before .pre .1 .0 .long)
+
+returns-3 : tie.Need-returns-3 Inv-turns μ-turns
+returns-3 c =
+    laws.turn-spent (c .before .before .before .before .before .before .before .before .before .before .before .before .before .before .before .before .before .before .before .before .before .before .before .before .before .turns .inv .0) (c .before .before .before .before .before .before .before .before .before .before .before .before .before .before .before .before .before .before .before .close .ensures .0 .0) (c .before .before .before .before .before .before .before .before .before .before .before .before .if1 .left) (c .before .before .before .before .before .before .before .before .before .before .next-unset .ensures) (c .before .before .before .before .before .before .before .before .before .if3 .left) (clausesIn (c .before .before .before .before .before .before .before .before .before .before .before .before .before .before .before .before .before .before .before .before .before .before .before .before .before .before .before .before .before .before .before .before .before .args .list .now))
+    (laws.short-trial (c .before .before .before .before .before .before .before .before .before .before .before .before .before .before .before .before .before .before .before .before .before .before .before .before .before .before .before .before .before .before .before .before .before .args .list .now) (c .before .before .before .before .before .before .before .before .before .before .before .before .before .before .before .before .before .before .before .before .before .before .before .before .before .before .before .before .before .before .before .before .before .args .n) (c .before .before .before .before .before .before .before .before .before .before .before .before .before .before .before .before .before .before .before .before .before .before .before .before .before .before .before .before .before .before .before .before .before .pre .1 .0 .formed)) (c .before .before .before .before .before .before .before .before .if4 .taken) (c .before .before .walk-back .ensures)
+
+cast-marks : tie.Need-cast-marks Inv-turns μ-turns
+cast-marks c =
+    let i = c .before .before .before .before .before .before .before .before .before .before .before .before .before .before .before .before .before .turns .inv .0 in
+    omega (arith, laws.room-left i (c .before .before .before .before .before .before .before .before .before .before .before .close .ensures .0 .0) (c .before .before .before .before .if1 .left) (c .before .before .next-unset .ensures) (c .before .if3 .left), i .most)
+
+mul-marks : tie.Need-mul-marks Inv-turns μ-turns
+mul-marks c =
+    let i = c .before .before .before .before .before .before .before .before .before .before .before .before .before .before .before .before .before .turns .inv .0 in
+    let s = c .before .before .before .before .before .before .before .before .before .before .before .close .ensures .0 .0 in
+    omega (arith, laws.after-depth i s, laws.room-left i s (c .before .before .before .before .if1 .left) (c .before .before .next-unset .ensures) (c .before .if3 .left), i .most)
+
+array-write-marks : tie.Need-array-write-marks Inv-turns μ-turns
+array-write-marks c =
+    let i = c .before .before .before .before .before .before .before .before .before .before .before .before .before .before .before .before .before .turns .inv .0 in
+    let s = c .before .before .before .before .before .before .before .before .before .before .before .close .ensures .0 .0 in
+    omega (arith, laws.after-depth i s, laws.room-left i s (c .before .before .before .before .if1 .left) (c .before .before .next-unset .ensures) (c .before .if3 .left), i .most)
+
+add-depth : tie.Need-add-depth Inv-turns μ-turns
+add-depth c =
+    let i = c .before .before .before .before .before .before .before .before .before .before .before .before .before .before .before .before .before .turns .inv .0 in
+    let s = c .before .before .before .before .before .before .before .before .before .before .before .close .ensures .0 .0 in
+    omega (arith, laws.after-depth i s, laws.room-left i s (c .before .before .before .before .if1 .left) (c .before .before .next-unset .ensures) (c .before .if3 .left), i .most)
+
+add-made : tie.Need-add-made Inv-turns μ-turns
+add-made c = search (needs, c .before .before .before .before .before .before .before .before .before .before .before .before .before .before .before .before .before .turns .inv .0 .few, c .if4 .left, c .before .before .before .before .before .before .before .before .before .before .before .before .before .before .before .before .before .before .before .before .before .before .before .before .before .fits .budget)
+
+mul-force : tie.Need-mul-force Inv-turns μ-turns
+mul-force c = search needs
+
+cast-force : tie.Need-cast-force Inv-turns μ-turns
+cast-force c = search needs
+
+force-requires : tie.Need-force-requires Inv-turns μ-turns
+force-requires c κs = (c .before .before .before .before .before .before .before .before .before .before .before .before .before .before .before .before .before .before .before .before .before .before .before .before .before .before .before .before .before .pre .1 .1 .0, laws.can-guess (c .before .before .before .before .before .before .before .before .before .before .before .before .before .before .before .before .before .before .before .before .before .turns .inv .0) (c .before .before .before .before .before .before .before .before .before .before .before .before .before .before .before .close .ensures .0 .0) (c .before .before .before .before .before .before .before .before .if1 .left) (c .before .before .before .before .before .before .next-unset .ensures) (c .before .before .before .before .before .if3 .left) refl (c .before .before .before .before .before .before .before .before .before .before .before .before .before .before .before .close .ensures .0 .1))
+
+add-low-2 : tie.Need-add-low-2 Inv-turns μ-turns
+add-low-2 c = search needs
+
+turns-less-2 : tie.Need-turns-less-2 Inv-turns μ-turns
+turns-less-2 c = search needs
+
+turns-again-2 : tie.Need-turns-again-2 Inv-turns μ-turns
+turns-again-2 c =
+    let f = c .before .before .before .before .force .ensures in
+    (laws.turn-guess (c .before .before .before .before .before .before .before .before .before .before .before .before .before .before .before .before .before .before .before .before .before .before .before .before .before .before .turns .inv .0) (c .before .before .before .before .before .before .before .before .before .before .before .before .before .before .before .before .before .before .before .before .close .ensures .0 .0) (c .before .before .before .before .before .before .before .before .before .before .before .before .before .if1 .left) (c .before .before .before .before .before .before .before .before .before .before .before .next-unset .ensures) (c .before .before .before .before .before .before .before .before .before .before .if3 .left) (c .before .before .before .before .before .before .before .before .before .if4 .left) refl f, f .assigned .rows, c .before .before .before .before .before .before .before .before .before .before .before .before .before .before .before .before .before .before .before .before .close .ensures .1, search (needs, c .before .before .before .before .before .before .before .before .before .before .before .before .before .before .before .before .before .before .before .before .before .before .before .before .before .before .turns .inv .3))
+
+pub turns-spec : {M : Type 1} → statement M
+turns-spec = tie.close (tie.spec Inv-turns μ-turns places-requires turns-holds close-requires same-length same-length-2 same-length-3 returns sub-depth mul-wide array-read-wide wide-requires undo-requires add-low add-count turns-less turns-again next-unset-requires same-length-4 same-length-5 same-length-6 returns-2 walk-back-requires same-length-7 same-length-8 same-length-9 returns-3 cast-marks mul-marks array-write-marks add-depth add-made mul-force cast-force force-requires add-low-2 turns-less-2 turns-again-2)
