@@ -93,7 +93,7 @@ module _ (v : List ℕ) where
 -- ---- the literals of a clause
 
 -- in the clause from `first` to `end`, before the literal at `at`: `unset` literals passed were unset, and `last` was the last of them
-pub record Within (ws v : List ℕ) (first end at unset last : ℕ) : Type 0 where
+pub record SeenSoFar (ws v : List ℕ) (first end at unset last : ℕ) : Type 0 where
   pub started : first ≤ at
   pub inside : at ≤ end
   pub ends : end ≤ length ws
@@ -101,10 +101,10 @@ pub record Within (ws v : List ℕ) (first end at unset last : ℕ) : Type 0 whe
   pub below : Over (slice at end ws) (length v)
   pub meets : seen v (slice first end ws) ≡ seenFrom v (oneOf unset last) (slice at end ws)
 
-pub within : (ws v : List ℕ) (first end : ℕ) → first ≤ end → end ≤ length ws → Over (slice first end ws) (length v) → Within ws v first end first 0 0
+pub within : (ws v : List ℕ) (first end : ℕ) → first ≤ end → end ≤ length ws → Over (slice first end ws) (length v) → SeenSoFar ws v first end first 0 0
 within ws v first end h k o = record { started = omega arith; inside = h; ends = k; few = omega arith; below = o; meets = from-start v (slice first end ws) }
 
-module _ {ws v : List ℕ} {first end at unset last : ℕ} (w : Within ws v first end at unset last) where
+module _ {ws v : List ℕ} {first end at unset last : ℕ} (w : SeenSoFar ws v first end at unset last) where
   -- all literals are passed
   all-passed : at ≡ end → seen v (slice first end ws) ≡ byUnset (oneOf unset last)
   all-passed e = w .meets ∙ rw (e, slice-empty) (from-end v (oneOf unset last))
@@ -134,7 +134,7 @@ module _ {ws v : List ℕ} {first end at unset last : ℕ} (w : Within ws v firs
     pub sees-second : unset ≡ 1 → isUnset v (getD ws at 0) ≡ true → quiet ≡ seen v (slice first end ws)
     sees-second u e = sym (w .meets ∙ rw (cons-at, u, from-second v last (getD ws at 0) (slice (at + 1) end ws) e))
 
-    pub step-unset : (unset ≡ 1 → ⊥) → isUnset v (getD ws at 0) ≡ true → Within ws v first end (at + 1) 1 (getD ws at 0)
+    pub step-unset : (unset ≡ 1 → ⊥) → isUnset v (getD ws at 0) ≡ true → SeenSoFar ws v first end (at + 1) 1 (getD ws at 0)
     step-unset u e =
         let none : unset ≡ 0 = omega (arith, w .few) in
         record {
@@ -146,7 +146,7 @@ module _ {ws v : List ℕ} {first end at unset last : ℕ} (w : Within ws v firs
           meets = w .meets ∙ rw (cons-at, none, from-unset v (getD ws at 0) (slice (at + 1) end ws) e);
         }
 
-    pub step-wrong : isRight v (getD ws at 0) ≡ false → isUnset v (getD ws at 0) ≡ false → Within ws v first end (at + 1) unset last
+    pub step-wrong : isRight v (getD ws at 0) ≡ false → isUnset v (getD ws at 0) ≡ false → SeenSoFar ws v first end (at + 1) unset last
     step-wrong r u =
         record {
           started = omega (arith, w .started);
@@ -158,7 +158,7 @@ module _ {ws v : List ℕ} {first end at unset last : ℕ} (w : Within ws v firs
         }
 
 -- where none was unset, it does not matter which was the last
-pub last-any : {ws v : List ℕ} {first end at last : ℕ} (other : ℕ) → Within ws v first end at 0 last → Within ws v first end at 0 other
+pub last-any : {ws v : List ℕ} {first end at last : ℕ} (other : ℕ) → SeenSoFar ws v first end at 0 last → SeenSoFar ws v first end at 0 other
 last-any other w = record { started = w .started; inside = w .inside; ends = w .ends; few = w .few; below = w .below; meets = w .meets }
 
 -- all words are one clause
@@ -166,7 +166,7 @@ module _ (c v : List ℕ) where
   pub holds-at : (i : ℕ) → i < length c → isRight v (getD c i 0) ≡ true → any (isRight v) c ≡ true
   holds-at i h e = any-of (isRight v) c (getD c i 0) (getD-mem c i 0 h) e
 
-  pub within-all : Over c (length v) → Within c v 0 (length c) 0 0 0
+  pub within-all : Over c (length v) → SeenSoFar c v 0 (length c) 0 0 0
   within-all h = within c v 0 (length c) (omega arith) (omega arith) (rw (take-length c) h)
 
   pub seen-all : {s : Seen} → s ≡ seen v (slice 0 (length c) c) → s ≡ seen v c

@@ -11,7 +11,7 @@ use lib.Dec.{leb}
 use Rattle.lists.proofs.Refusals.{passes, fails, no-test, stage-passes, stage-fails, refuses, not-refused}
 use Rattle.cnf.specs.Clauses.{wordsOf}
 use Rattle.limits.specs.declared.Limits.{Limits}
-use Rattle.format.specs.File.{trailer, start, tableOf, records}
+use Rattle.format.specs.File.{trailer, start, tableOf, records, ofStates}
 use Rattle.format.specs.Reading.{Readable, startsOf}
 use Rattle.format.specs.declared.Starts.{Starts}
 use Rattle.format.proofs.Passed.{Tested, formed-tested}
@@ -29,31 +29,30 @@ use Rattle.maps.proofs.Checking.{examined-number}
 use Rattle.encoding.specs.declared.Listed.the-variants.{Refused}
 use Rattle.encoding.specs.Clauses.{lookClauses, transitivity, moveClauses, returnClauses, clauseList, shortList, clauseWords, clausesNumber, ClausesDone, clausesOf}
 use Rattle.emit.specs.Emit.{State, emit}
-use Rattle.statewise.specs.Alone.{statesOnly}
 use Rattle.recordwise.specs.Sorted.{returnClausesBy}
 use Rattle.clauses.specs.Whole.{Ready, listFor, closureFor, listBy, listedBy}
 use Rattle.emit.proofs.Emitting.{emit-append}
 
 -- ---- group 2, where the list is to be whole
 
-pub closure-left : {whole : Bool} (states : List ℕ) (s : State) → whole ≡ false → s ≡ emit (closureFor whole (statesOnly states)) s
+pub closure-left : {whole : Bool} (states : List ℕ) (s : State) → whole ≡ false → s ≡ emit (closureFor whole (ofStates states)) s
 unfolding emit
 closure-left states s e = rw e refl
 
-pub closure-there : {whole : Bool} (states : List ℕ) (s : State) {s′ : State} → whole ≡ true → s′ ≡ emit (transitivity (statesOnly states)) s → s′ ≡ emit (closureFor whole (statesOnly states)) s
+pub closure-there : {whole : Bool} (states : List ℕ) (s : State) {s′ : State} → whole ≡ true → s′ ≡ emit (transitivity (ofStates states)) s → s′ ≡ emit (closureFor whole (ofStates states)) s
 closure-there states s e h = rw e h
 
 -- ---- the groups in their order
 
 pub groups : (whole : Bool) (states internals calls returns tops : List ℕ) (s : State) {s1 s2 s3 s4 s5 : State}
-    → s1 ≡ emit (lookClauses (statesOnly states)) s → s2 ≡ emit (closureFor whole (statesOnly states)) s1
+    → s1 ≡ emit (lookClauses (ofStates states)) s → s2 ≡ emit (closureFor whole (ofStates states)) s1
     → s3 ≡ emit (moveClauses (records 3 internals) (length states)) s2 → s4 ≡ emit (moveClauses (records 3 calls) (length states)) s3
     → s5 ≡ emit (returnClausesBy tops (records 4 returns) (length states)) s4
     → s5 ≡ emit (listBy whole states internals calls returns tops) s
 unfolding listBy
 groups whole states internals calls returns tops s e1 e2 e3 e4 e5 =
-    let look = lookClauses (statesOnly states) in
-    let close = closureFor whole (statesOnly states) in
+    let look = lookClauses (ofStates states) in
+    let close = closureFor whole (ofStates states) in
     let in-moves = moveClauses (records 3 internals) (length states) in
     let call-moves = moveClauses (records 3 calls) (length states) in
     let pops = returnClausesBy tops (records 4 returns) (length states) in

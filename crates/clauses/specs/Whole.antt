@@ -6,10 +6,9 @@ use lib.ListN.{length}
 use lib.Dec.{leb}
 use Rattle.lists.specs.Lists.{over}
 use Rattle.limits.specs.Limits.{stateMost}
-use Rattle.format.specs.File.{Table, records}
+use Rattle.format.specs.File.{Table, records, ofStates}
 use Rattle.cnf.specs.Clauses.{wordsOf}
 use Rattle.encoding.specs.declared.Listed.the-variants.{List as Words, Refused}
-use Rattle.statewise.specs.Alone.{statesOnly}
 use Rattle.recordwise.specs.Sorted.{Sorted, returnClausesBy}
 use Rattle.encoding.specs.Clauses.{lookClauses, transitivity, moveClauses, ClausesDone, clauseList, shortList}
 
@@ -33,8 +32,8 @@ closureFor false t = []
 -- the list of a table's four sections under its tops
 unfoldable pub listBy : Bool → List ℕ → List ℕ → List ℕ → List ℕ → List ℕ → List (List ℕ)
 listBy whole states internals calls returns tops =
-    lookClauses (statesOnly states)
-    ++ closureFor whole (statesOnly states)
+    lookClauses (ofStates states)
+    ++ closureFor whole (ofStates states)
     ++ moveClauses (records 3 internals) (length states)
     ++ moveClauses (records 3 calls) (length states)
     ++ returnClausesBy tops (records 4 returns) (length states)

@@ -3,12 +3,11 @@ ghost use mathlib.Core.Path.{_≡_};
 ghost use Prim.Native.Nat.{_≤_};
 ghost use lib.ListN.{length};
 ghost use Rattle.limits.specs.Limits.{standard, stateMost};
-ghost use Rattle.format.specs.File.{tableOf};
+ghost use Rattle.format.specs.File.{tableOf, ofStates};
 ghost use Rattle.maps.specs.Sections.{Known};
 ghost use Rattle.encoding.specs.Clauses.{clausesOf, ClausesSays};
 ghost use Rattle.encoding.specs.Demands.{ListSound};
 ghost use Rattle.emit.specs.Emit.{state, Ordered, emit};
-ghost use Rattle.statewise.specs.Alone.{statesOnly};
 ghost use Rattle.clauses.specs.Whole.{closureFor, Ready, listFor, listBy, listedBy};
 use emit::Tally;
 use encoding::Listed;
@@ -23,7 +22,7 @@ use table::Section;
 // Group 2, where the list is to be whole.
 fn closure(whole: bool, states: &[u8], tally: Tally, list: &mut [u16]) -> Tally
     requires { ⌜ (length (now states) ≤ stateMost) × Ordered tally ⌝ }
-    ensures { λ r. ⌜ state r (now (list .exit)) ≡ emit (closureFor whole (statesOnly (now (states .entry)))) (state tally (now (list .entry))) ⌝ }
+    ensures { λ r. ⌜ state r (now (list .exit)) ≡ emit (closureFor whole (ofStates (now (states .entry)))) (state tally (now (list .entry))) ⌝ }
 {
     if whole {
         return transitive(states, tally, list);

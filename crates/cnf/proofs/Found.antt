@@ -90,20 +90,20 @@ scan-found v (c ∷ cs) = both-found v c cs (seen v c) (scan v cs) (seen-means v
 -- ---- the lowest unset variable
 
 -- nothing is unset, or x is and nothing before it; v's first variable has number i
-abbrev pub Lowest : List ℕ → ℕ → Option ℕ → Type 0
-Lowest v i none = (j : ℕ) → j < length v → valueOf v j ≢ 2
-Lowest v i (some x) = (j : ℕ) × (x ≡ i + j) × (j < length v) × (valueOf v j ≡ 2) × ((h : ℕ) → h < j → valueOf v h ≢ 2)
+abbrev pub LowestUnset : List ℕ → ℕ → Option ℕ → Type 0
+LowestUnset v i none = (j : ℕ) → j < length v → valueOf v j ≢ 2
+LowestUnset v i (some x) = (j : ℕ) × (x ≡ i + j) × (j < length v) × (valueOf v j ≡ 2) × ((h : ℕ) → h < j → valueOf v h ≢ 2)
 
-pub lowest-is : (v : List ℕ) (i : ℕ) → Lowest v i (lowestUnset v i)
+pub lowest-is : (v : List ℕ) (i : ℕ) → LowestUnset v i (lowestUnset v i)
 unfolding lowestUnset
 lowest-is [] i = λ j h. absurd (omega arith)
 lowest-is (x ∷ xs) i = go (eqb x 2) refl (lowest-is xs (suc i))
   where
-    further : (o : Option ℕ) → x ≢ 2 → Lowest xs (suc i) o → Lowest (x ∷ xs) i o
+    further : (o : Option ℕ) → x ≢ 2 → LowestUnset xs (suc i) o → LowestUnset (x ∷ xs) i o
     further none p r = λ j. elim j [ zero ↦ λ h. p | suc j ↦ λ h. r j (omega arith) ]
     further (some y) p r = (suc (r .0), omega arith, omega arith, r .3, λ j. elim j [ zero ↦ λ h. p | suc j ↦ λ h. r .4 j (omega arith) ])
 
-    go : (t : Bool) → eqb x 2 ≡ t → Lowest xs (suc i) (lowestUnset xs (suc i)) → Lowest (x ∷ xs) i (elim t [ true ↦ some i | false ↦ lowestUnset xs (suc i) ])
+    go : (t : Bool) → eqb x 2 ≡ t → LowestUnset xs (suc i) (lowestUnset xs (suc i)) → LowestUnset (x ∷ xs) i (elim t [ true ↦ some i | false ↦ lowestUnset xs (suc i) ])
     go true p r = (0, omega arith, omega arith, eqb-true _ _ p, λ h l. absurd (omega arith))
     go false p r = further (lowestUnset xs (suc i)) (eqb-false _ _ p) r
 

@@ -13,7 +13,7 @@ use borrow.Author.Tests.{eqb-true, eqb-false}
 use Rattle.cnf.specs.Clauses.{valueOf}
 use Rattle.cnf.specs.Search.{Seen, broken, forcing, quiet, scan, lowestUnset, State, Next, goes, ends, Outcome, solved, none-exists, spent, unfinished, Guess, undo, decide, act, step, run}
 use Rattle.cnf.specs.Closing.{Found}
-use Rattle.cnf.proofs.Found.{scan-found, Lowest, lowest-is}
+use Rattle.cnf.proofs.Found.{scan-found, LowestUnset, lowest-is}
 
 abbrev pub stateOf : List ℕ → List Guess → ℕ → State
 stateOf v gs k = record { values = v; guesses = gs; made = k }
@@ -31,7 +31,7 @@ pub data StepsTo (cs : List (List ℕ)) (b : ℕ) : State → Next → Type 0 wh
   adds-guess : {v : List ℕ} {gs : List Guess} {k : ℕ} (x : ℕ) → Found v cs quiet → x < length v → valueOf v x ≡ 2 → k ≢ b → StepsTo cs b (stateOf v gs k) (goes (stateOf (set v x 1) (guessOf v x ∷ gs) (k + 1)))
 
 module _ (cs : List (List ℕ)) (b : ℕ) where
-  decide-steps : (v : List ℕ) (gs : List Guess) (k : ℕ) → Found v cs quiet → (o : Option ℕ) → Lowest v 0 o → StepsTo cs b (stateOf v gs k) (decide b (stateOf v gs k) o)
+  decide-steps : (v : List ℕ) (gs : List Guess) (k : ℕ) → Found v cs quiet → (o : Option ℕ) → LowestUnset v 0 o → StepsTo cs b (stateOf v gs k) (decide b (stateOf v gs k) o)
   unfolding decide
   decide-steps v gs k q none h = solves q h
   decide-steps v gs k q (some x) h = go (eqb k b) refl

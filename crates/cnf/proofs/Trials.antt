@@ -20,7 +20,7 @@ use Rattle.cnf.specs.Search.{isRight, isUnset, byUnset, seen, both, scan
 use Rattle.cnf.specs.Trials.{onlyTrue, satisfied, trueCount, notFalse, Trials, better, ceilingBy, ceilingOf, rested, tried, Tried, runTried, untried, searchTried}
 use Rattle.cnf.specs.Closing.{Formed, Values, _⊑_, Settled, holds, waits, AtRest, Closed, breaks, rests, Closes}
 use Rattle.cnf.proofs.Values.{⊑-trans, set-more, set-below, none-below}
-use Rattle.cnf.proofs.Found.{right-is, right-of, unset-is, Lowest, lowest-is}
+use Rattle.cnf.proofs.Found.{right-is, right-of, unset-is, LowestUnset, lowest-is}
 use Rattle.cnf.proofs.Steps.{stateOf, guessOf, StepsTo, fails, undoes, forces, solves, spends, adds-guess, After, run-keeps}
 use Rattle.cnf.proofs.Horn.{RightSoon, is-right, is-unset, quiet-safe}
 use Rattle.cnf.proofs.Closure.{closes-alike, members-rest, turnTo, atStart}
@@ -463,7 +463,7 @@ module _ (cs : List (List ℕ)) (n b : ℕ) (formed : Formed cs n) where
       zw : Values n w
       zw = record { long = c .long ∙ z .long; small = c .small }
 
-      decided : (o : Option ℕ) → Lowest w 0 o → After (λ s. Holds cs n (s .values) (s .guesses) (rested cs w t .held)) (λ o. HeldSolved (endOf o (rested cs w t))) (decide b (stateOf w gs k) o)
+      decided : (o : Option ℕ) → LowestUnset w 0 o → After (λ s. Holds cs n (s .values) (s .guesses) (rested cs w t .held)) (λ o. HeldSolved (endOf o (rested cs w t))) (decide b (stateOf w gs k) o)
       decided none l = unfold decide in unfold rested in λ v j e. let q : w ≡ v = cc in rest-held w gs (t .held) (holds-closed h c) zw (c .at-rest) l ∙ q
       decided (some x) l = unfold decide in go (eqb k b)
         where

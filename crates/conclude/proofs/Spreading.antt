@@ -12,7 +12,7 @@ use lib.Seq.{getD-set-same}
 use lib.Count.{trailingZeros}
 use Rattle.lists.specs.Bits.{Bit}
 use Rattle.lists.proofs.Bits.{no-bit}
-use Rattle.lists.proofs.Lowest.{Lowest, trailing-lowest, bit-le, clear-own, clear-other}
+use Rattle.lists.proofs.Lowest.{LowestBit, trailing-lowest, bit-le, clear-own, clear-other}
 use Rattle.lists.proofs.Members.{getD-any}
 use Rattle.cnf.specs.Clauses.{valueOf}
 use Rattle.cnf.specs.Search.{forcing}
@@ -75,7 +75,7 @@ low-state {rest = rest} {r = r} h j some e = h .each r (j .part r (subst (Bit re
 module _ {n : ℕ} {v t : List ℕ} {start q todo x : ℕ} {w s : List ℕ} {count : ℕ} {joined apart : List ℕ} {rest r rest′ m : ℕ} (g : Met n v t start q todo x w s count joined apart rest r rest′ m) where
   open Met g using (ready as i, spreads as h, spreading-on as j)
 
-  lowest : Lowest rest r
+  lowest : LowestBit rest r
   lowest = rw (g .is-lowest) (trailing-lowest 64 rest (j .small) (g .some) .1)
 
   left-over : rest′ ≡ rest - 2 ^ r

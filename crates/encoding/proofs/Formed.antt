@@ -22,7 +22,7 @@ use Rattle.pairs.proofs.Pairs.{variable-below, variable-injective}
 use Rattle.pairs.proofs.Triangles.{past-mem}
 use Rattle.format.specs.File.{Table}
 use Rattle.format.specs.Reading.{WellFormed}
-use Rattle.format.specs.Language.{count, byteOf, look, targets, OneTarget}
+use Rattle.format.specs.Language.{count, byteOf, agreedOn, targets, OneTarget}
 use Rattle.format.proofs.Facts.{Fit, internals-fit, calls-fit, returns-fit, targets-mem}
 use Rattle.reach.specs.Tops.{topWords, live, liveReturns}
 use Rattle.encoding.specs.Clauses.{opposite, once, tidy, premise, matching, lookClauses, transitivity, moveClause, moveClauses, returnClause, topStates, returnClauses, clauseList}
@@ -39,8 +39,8 @@ same-variable l k e = go (ℕ-discrete k l)
 -- ---- a clause's variables
 
 -- every variable below n
-abbrev pub Below : ℕ → List ℕ → Type 0
-Below n ls = (l : ℕ) → List·Memᴰ l ls → l / 2 < n
+abbrev pub VariablesBelow : ℕ → List ℕ → Type 0
+VariablesBelow n ls = (l : ℕ) → List·Memᴰ l ls → l / 2 < n
 
 distinct-cons : (x : ℕ) (xs : List ℕ) → (List·Memᴰ x xs → ⊥) → distinct xs ≡ true → distinct (x ∷ xs) ≡ true
 unfolding distinct
@@ -81,7 +81,7 @@ once-distinct before (x ∷ ls) h = go (mem x before) (once-distinct before ls r
     go true f g = f
     go false f g = distinct-cons (x / 2) (map (λ l. l / 2) (once (x ∷ before) ls)) fresh g
 
-tidy-fits : (n : ℕ) (ls : List ℕ) → Below n ls → (c : List ℕ) → List·Memᴰ c (tidy ls) → clauseFits n c ≡ true
+tidy-fits : (n : ℕ) (ls : List ℕ) → VariablesBelow n ls → (c : List ℕ) → List·Memᴰ c (tidy ls) → clauseFits n c ≡ true
 unfolding tidy
 tidy-fits n ls h c m = go (any (λ l. mem (opposite l) ls) ls) refl m
   where
@@ -143,7 +143,7 @@ module _ (t : Table) where
   pub data Kind (c : List ℕ) : Type 0 where
     look-apart : (p q : ℕ) → p < q → q < count t → c ≡ apart p q ∷ [] → Kind c
     of-three : (x y z : ℕ) → x < pairs (count t) → y < pairs (count t) → z < pairs (count t) → x ≢ y → y ≢ z → x ≢ z → c ≡ (2 * x + 1) ∷ (2 * y + 1) ∷ (2 * z) ∷ [] → Kind c
-    of-match : (premises : List ℕ) (p' : ℕ) (qs : List ℕ) → Below (pairs (count t)) premises → ((l : ℕ) → List·Memᴰ l premises → isPositive l ≡ false) → p' < count t
+    of-match : (premises : List ℕ) (p' : ℕ) (qs : List ℕ) → VariablesBelow (pairs (count t)) premises → ((l : ℕ) → List·Memᴰ l premises → isPositive l ≡ false) → p' < count t
         → ((q : ℕ) → List·Memᴰ q qs → (q < count t) × (p' ≢ q)) → (OneTarget t → (q s : ℕ) → List·Memᴰ q qs → List·Memᴰ s qs → q ≡ s)
         → List·Memᴰ c (tidy (premises ++ map (together p') qs)) → Kind c
 
@@ -158,7 +158,7 @@ module _ (t : Table) where
   look-kinds c m =
       let a = gather-mem _ (upto (count t)) c m in
       let b = gather-mem _ (upto (a .0)) c (a .2) in
-      go (a .0) (b .0) (upto-mem (count t) (a .0) (a .1)) (upto-mem (a .0) (b .0) (b .1)) (eqb (look (byteOf t (b .0))) (look (byteOf t (a .0)))) (b .2)
+      go (a .0) (b .0) (upto-mem (count t) (a .0) (a .1)) (upto-mem (a .0) (b .0) (b .1)) (eqb (agreedOn (byteOf t (b .0))) (agreedOn (byteOf t (a .0)))) (b .2)
     where
       go : (q p : ℕ) → q < count t → p < q → (x : Bool) → List·Memᴰ c (elim x [ true ↦ [] | false ↦ (apart p q ∷ []) ∷ [] ]) → Kind c
       go q p h l true k = absurd (not-nil k)
@@ -185,7 +185,7 @@ module _ (t : Table) where
       let ls = past-mem (count t) (b .0) (d .0) (d .1) in
       triangle-kinds (a .0) (b .0) (d .0) (lq .0) (ls .0) (ls .1) c (d .2)
 
-  premise-below : (p q : ℕ) → p < count t → q < count t → Below (pairs (count t)) (premise p q)
+  premise-below : (p q : ℕ) → p < count t → q < count t → VariablesBelow (pairs (count t)) (premise p q)
   unfolding premise
   premise-below p q a b l m = go (eqb p q) refl m
     where
@@ -203,7 +203,7 @@ module _ (t : Table) where
 
   -- the records of a key in a section
   matching-kinds : (rs : List (List ℕ)) (key premises : List ℕ) (p' : ℕ) → ((r : List ℕ) → List·Memᴰ r rs → length r ≡ suc (length key)) → ((q : ℕ) → List·Memᴰ (key ++ (q ∷ [])) rs → q < count t)
-      → (OneTarget t → (q s : ℕ) → List·Memᴰ (key ++ (q ∷ [])) rs → List·Memᴰ (key ++ (s ∷ [])) rs → q ≡ s) → Below (pairs (count t)) premises → ((l : ℕ) → List·Memᴰ l premises → isPositive l ≡ false) → p' < count t
+      → (OneTarget t → (q s : ℕ) → List·Memᴰ (key ++ (q ∷ [])) rs → List·Memᴰ (key ++ (s ∷ [])) rs → q ≡ s) → VariablesBelow (pairs (count t)) premises → ((l : ℕ) → List·Memᴰ l premises → isPositive l ≡ false) → p' < count t
       → (c : List ℕ) → List·Memᴰ c (matching premises p' (targets rs key)) → Kind c
   unfolding matching
   matching-kinds rs key premises p' wide below one h neg l c m = go (mem p' (targets rs key)) refl m
@@ -277,7 +277,7 @@ module _ (t : Table) where
 
   -- ---- what each kind is
 
-  three-below : (n x y z : ℕ) → x < n → y < n → z < n → Below n ((2 * x + 1) ∷ (2 * y + 1) ∷ (2 * z) ∷ [])
+  three-below : (n x y z : ℕ) → x < n → y < n → z < n → VariablesBelow n ((2 * x + 1) ∷ (2 * y + 1) ∷ (2 * z) ∷ [])
   three-below n x y z a b c l (List·Memᴰ·head e) = omega arith
   three-below n x y z a b c l (List·Memᴰ·tail (List·Memᴰ·head e)) = omega arith
   three-below n x y z a b c l (List·Memᴰ·tail (List·Memᴰ·tail (List·Memᴰ·head e))) = omega arith

@@ -19,7 +19,7 @@ use Rattle.pairs.specs.Triangles.{together, apart, past, triangle, triangles}
 use Rattle.pairs.proofs.Pairs.{variable-sym, in-order}
 use Rattle.pairs.proofs.Triangles.{past-mem, past-of}
 use Rattle.format.specs.File.{Table}
-use Rattle.format.specs.Language.{count, byteOf, look, targets}
+use Rattle.format.specs.Language.{count, byteOf, agreedOn, targets}
 use Rattle.format.proofs.Facts.{Fit, three-bytes, four-bytes, targets-mem, mem-targets}
 use Rattle.reach.specs.Tops.{topWords, live, liveReturns}
 use Rattle.encoding.specs.Clauses.{premise, matching, lookClauses, transitivity, moveClause, moveClauses, returnClause, topStates, returnClauses}
@@ -61,13 +61,13 @@ module _ (t : Table) (v : List ℕ) (full : Assignment (pairs (count t)) v) wher
   -- ---- 1: joined states look alike
 
   abbrev pub LooksAgree : Type 0
-  LooksAgree = (p q : ℕ) → Related (count t) v p q → look (byteOf t p) ≡ look (byteOf t q)
+  LooksAgree = (p q : ℕ) → Related (count t) v p q → agreedOn (byteOf t p) ≡ agreedOn (byteOf t q)
 
-  looks-lower : Satisfied v (lookClauses t) → (p q : ℕ) → p < q → Related (count t) v p q → look (byteOf t p) ≡ look (byteOf t q)
+  looks-lower : Satisfied v (lookClauses t) → (p q : ℕ) → p < q → Related (count t) v p q → agreedOn (byteOf t p) ≡ agreedOn (byteOf t q)
   unfolding lookClauses
-  looks-lower h p q l r = go (eqb (look (byteOf t p)) (look (byteOf t q))) refl (satisfied-at v _ (upto q) (satisfied-at v _ (upto (count t)) h q (upto-of (count t) q (r .right))) p (upto-of q p l))
+  looks-lower h p q l r = go (eqb (agreedOn (byteOf t p)) (agreedOn (byteOf t q))) refl (satisfied-at v _ (upto q) (satisfied-at v _ (upto (count t)) h q (upto-of (count t) q (r .right))) p (upto-of q p l))
     where
-      go : (b : Bool) → eqb (look (byteOf t p)) (look (byteOf t q)) ≡ b → Satisfied v (elim b [ true ↦ [] | false ↦ (apart p q ∷ []) ∷ [] ]) → look (byteOf t p) ≡ look (byteOf t q)
+      go : (b : Bool) → eqb (agreedOn (byteOf t p)) (agreedOn (byteOf t q)) ≡ b → Satisfied v (elim b [ true ↦ [] | false ↦ (apart p q ∷ []) ∷ [] ]) → agreedOn (byteOf t p) ≡ agreedOn (byteOf t q)
       go true e s = eqb-true _ _ e
       go false e s =
           let k = s (apart p q ∷ []) (List·Memᴰ·head refl) in
@@ -76,17 +76,17 @@ module _ (t : Table) (v : List ℕ) (full : Assignment (pairs (count t)) v) wher
   pub looks-of : Satisfied v (lookClauses t) → LooksAgree
   looks-of h p q r = go (ℕ-discrete p q)
     where
-      go : Dec (p ≡ q) → look (byteOf t p) ≡ look (byteOf t q)
-      go (yes e) = ap (λ x. look (byteOf t x)) e
-      go (no d) = in-order (λ p q. Related (count t) v p q → look (byteOf t p) ≡ look (byteOf t q)) (λ p q f k. sym (f (related-sym (count t) v k))) (looks-lower h) p q d r
+      go : Dec (p ≡ q) → agreedOn (byteOf t p) ≡ agreedOn (byteOf t q)
+      go (yes e) = ap (λ x. agreedOn (byteOf t x)) e
+      go (no d) = in-order (λ p q. Related (count t) v p q → agreedOn (byteOf t p) ≡ agreedOn (byteOf t q)) (λ p q f k. sym (f (related-sym (count t) v k))) (looks-lower h) p q d r
 
   pub looks-satisfied : LooksAgree → Satisfied v (lookClauses t)
   unfolding lookClauses
   looks-satisfied h =
-      satisfied-each v _ (upto (count t)) (λ q mq. satisfied-each v _ (upto q) (λ p mp. satisfied-unless v (eqb (look (byteOf t p)) (look (byteOf t q))) ((apart p q ∷ []) ∷ [])
+      satisfied-each v _ (upto (count t)) (λ q mq. satisfied-each v _ (upto q) (λ p mp. satisfied-unless v (eqb (agreedOn (byteOf t p)) (agreedOn (byteOf t q))) ((apart p q ∷ []) ∷ [])
       (λ e. one p q (upto-mem q p mp) (upto-mem (count t) q mq) (eqb-false _ _ e))))
     where
-      one : (p q : ℕ) → p < q → q < count t → look (byteOf t p) ≢ look (byteOf t q) → Satisfied v ((apart p q ∷ []) ∷ [])
+      one : (p q : ℕ) → p < q → q < count t → agreedOn (byteOf t p) ≢ agreedOn (byteOf t q) → Satisfied v ((apart p q ∷ []) ∷ [])
       one p q l k d c m = subst (λ (x : List ℕ). HasRight v x) (sym (eq-of-singleton m)) (pick (related-dec (count t) v full (omega arith) k))
         where
           pick : Related (count t) v p q ⊎ ((p ≢ q) × (valueOf v (variableOf p q) ≡ 0)) → HasRight v (apart p q ∷ [])

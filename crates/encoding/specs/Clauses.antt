@@ -11,7 +11,7 @@ use Rattle.limits.specs.declared.Limits.{Limits}
 use Rattle.pairs.specs.Triangles.{together, apart, triangles}
 use Rattle.format.specs.File.{Table, tableOf}
 use Rattle.format.specs.Reading.{readNumber}
-use Rattle.format.specs.Language.{count, byteOf, look, targets}
+use Rattle.format.specs.Language.{count, byteOf, agreedOn, targets}
 use Rattle.reach.specs.Tops.{topWords, liveReturns}
 use Rattle.encoding.specs.declared.Listed.{Listed}
 use Rattle.encoding.specs.declared.Listed.the-variants.{List as Words, Refused}
@@ -31,7 +31,7 @@ tidy ls = elim (any (λ l. mem (opposite l) ls) ls) [ true ↦ [] | false ↦ on
 
 -- 1. 'By ascending variable: "false" where exactly one state is accepting.' Request (v): or where their marks differ
 unfoldable pub lookClauses : Table → List (List ℕ)
-lookClauses t = gather (λ q. gather (λ p. elim (eqb (look (byteOf t p)) (look (byteOf t q))) [ true ↦ [] | false ↦ (apart p q ∷ []) ∷ [] ]) (upto q)) (upto (count t))
+lookClauses t = gather (λ q. gather (λ p. elim (eqb (agreedOn (byteOf t p)) (agreedOn (byteOf t q))) [ true ↦ [] | false ↦ (apart p q ∷ []) ∷ [] ]) (upto q)) (upto (count t))
 
 -- 2. "For p < q < s ascending by p, then q, then s"
 unfoldable pub transitivity : Table → List (List ℕ)

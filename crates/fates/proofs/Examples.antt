@@ -10,7 +10,7 @@ use Rattle.limits.specs.Limits.{standard, limitsFit}
 use Rattle.format.specs.Limits.{longest}
 use Rattle.format.specs.File.{Table, word16, trailer, distance, version, start, records, tableOf, bytes16, fromReturns, fromCalls, fromInternals, fromStates, fromSymbols, trailerOf, bytesOf}
 use Rattle.format.specs.Reading.{lengthFits, versionFits, distancesFit, countsFit, stateByteMost, bytesFit, isInitial, startFits, recordFits, recordsFit, before, ascendFrom, ascend, orderFits, tableTests, readNumber}
-use Rattle.format.specs.Language.{look, targets}
+use Rattle.format.specs.Language.{agreedOn, targets}
 use Rattle.format.specs.Maps.{joins, numberedFrom, numbered}
 use Rattle.reach.specs.Tops.{add, byInternals, byCalls, live, byReturns, round, rounds, startWords, topWordsAt}
 use Rattle.relations.specs.Check.{looksAgree, moveMatched, movesMatched, returnMatched, returnsMatched, mapTests, checkNumber}
@@ -53,5 +53,5 @@ pub told :
     ∷ (0 ∷ 2 ∷ 1 ∷ 1 ∷ 0 ∷ 0 ∷ 1 ∷ 7 ∷ 7 ∷ 7 ∷ 7 ∷ 7 ∷ [])
     ∷ (20 ∷ [])
     ∷ []
-unfolding answers going any all keep gather upto same parts flat over firstFailed has hasBit limitsFit longest word16 trailer distance version start records tableOf bytes16 fromReturns fromCalls fromInternals fromStates fromSymbols trailerOf bytesOf lengthFits versionFits distancesFit countsFit stateByteMost bytesFit isInitial startFits recordFits recordsFit before ascendFrom ascend orderFits tableTests readNumber look targets joins numberedFrom numbered add byInternals byCalls live byReturns round rounds startWords topWordsAt looksAgree moveMatched movesMatched returnMatched returnsMatched mapTests checkNumber image taken fate fatesBehind fatesOf recordCount having countsOf recordsNumber recordsOf recordedNumber recordedValues
+unfolding answers going any all keep gather upto same parts flat over firstFailed has hasBit limitsFit longest word16 trailer distance version start records tableOf bytes16 fromReturns fromCalls fromInternals fromStates fromSymbols trailerOf bytesOf lengthFits versionFits distancesFit countsFit stateByteMost bytesFit isInitial startFits recordFits recordsFit before ascendFrom ascend orderFits tableTests readNumber agreedOn targets joins numberedFrom numbered add byInternals byCalls live byReturns round rounds startWords topWordsAt looksAgree moveMatched movesMatched returnMatched returnsMatched mapTests checkNumber image taken fate fatesBehind fatesOf recordCount having countsOf recordsNumber recordsOf recordedNumber recordedValues
 told = refl

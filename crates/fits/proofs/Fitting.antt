@@ -13,7 +13,7 @@ use lib.Dec.{eqb, leb, ltb}
 use borrow.Author.Tests.{eq-eqb, ne-eqb, le-leb, lt-leb}
 use Rattle.lists.specs.Lists.{any, all, mem}
 use Rattle.lists.proofs.Members.{and-true, and-of, or-left, not-so, getD-mem, one-on}
-use Rattle.fits.specs.Marks.{Below}
+use Rattle.fits.specs.Marks.{MarksBelow}
 use Rattle.cnf.specs.Clauses.{clausesIn, whole, distinct, clauseFits}
 use Rattle.cnf.proofs.Words.{clauses-nil, clauses-cons, whole-nil, whole-cons, fits-below, fits-distinct, fits-of}
 
@@ -25,7 +25,7 @@ variablesOf = map (λ l. l / 2)
 
 -- from the last literal down to the one at i
 pub record Marked (ls marks : List ℕ) (mark i : ℕ) : Type 0 where
-  pub below : Below marks (mark + 1)
+  pub below : MarksBelow marks (mark + 1)
   pub met : (x : ℕ) → x < 780 → eqb (getD marks x 0) mark ≡ mem x (variablesOf (drop i ls))
 
 -- none is left behind the last one
@@ -33,17 +33,17 @@ none-on : (ls : List ℕ) → drop (length ls) ls ≡ []
 none-on [] = refl
 none-on (l ∷ ls) = none-on ls
 
-pub marked : (ls : List ℕ) {marks : List ℕ} {mark : ℕ} → Below marks mark → Marked ls marks mark (length ls)
+pub marked : (ls : List ℕ) {marks : List ℕ} {mark : ℕ} → MarksBelow marks mark → Marked ls marks mark (length ls)
 unfolding mem any
 marked ls {marks} {mark} b = record {
   below = record { long = b .long; lower = λ x h. omega (arith, b .lower x h) };
   met = λ x h. rw (none-on ls) (ne-eqb (getD marks x 0) mark (λ e. omega (arith, b .lower x h, e)));
 }
 
-pub none-marked : Below (replicate 780 0) 1
+pub none-marked : MarksBelow (replicate 780 0) 1
 none-marked = record { long = refl; lower = λ x h. omega (arith, getD-replicate {A = ℕ} 780 x 0 0 h) }
 
-pub lower-still : {marks : List ℕ} {a b : ℕ} → Below marks a → a ≤ b → Below marks b
+pub lower-still : {marks : List ℕ} {a b : ℕ} → MarksBelow marks a → a ≤ b → MarksBelow marks b
 lower-still p h = record { long = p .long; lower = λ x k. omega (arith, p .lower x k) }
 
 -- the variables from a literal on

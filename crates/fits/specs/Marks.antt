@@ -5,6 +5,6 @@ use Prim.Native.Nat.{ℕ, _<_}
 use lib.ListN.{length, getD}
 
 -- every variable has a mark, and it is lower than this one
-pub record Below (marks : List ℕ) (mark : ℕ) : Type 0 where
+pub record MarksBelow (marks : List ℕ) (mark : ℕ) : Type 0 where
   pub long : length marks ≡ 780
   pub lower : (x : ℕ) → x < 780 → getD marks x 0 < mark

@@ -5,12 +5,12 @@ ghost use Prim.Native.Nat.{_+_, _≤_};
 ghost use lib.ListN.{length};
 ghost use Rattle.lists.specs.Lists.{all};
 ghost use Rattle.cnf.specs.Clauses.{clausesIn, whole, clauseFits};
-ghost use Rattle.fits.specs.Marks.{Below};
+ghost use Rattle.fits.specs.Marks.{MarksBelow};
 use rows::wide;
 
 // A mark for each variable, none in use.
 fn no_marks() -> [usize; 780]
-    ensures { λ r. ⌜ Below r 1 ⌝ }
+    ensures { λ r. ⌜ MarksBelow r 1 ⌝ }
 {
     [0usize; 780]
 }
@@ -66,8 +66,8 @@ fn three_fit(literals: &[u16], variables: usize) -> bool
 // Whether each variable is below the count and stands once: those met in this clause have its mark, all others a lower one. Most clauses are short, and
 // need no marks.
 fn clause_fits(literals: &[u16], variables: usize, marks: &mut [usize; 780], mark: usize) -> bool
-    requires { ⌜ (variables ≤ 780) × Below (now marks) mark ⌝ }
-    ensures { λ r. ⌜ (r ≡ clauseFits variables (now (literals .entry))) × Below (now (marks .exit)) (mark + 1) ⌝ }
+    requires { ⌜ (variables ≤ 780) × MarksBelow (now marks) mark ⌝ }
+    ensures { λ r. ⌜ (r ≡ clauseFits variables (now (literals .entry))) × MarksBelow (now (marks .exit)) (mark + 1) ⌝ }
 {
     if literals.len() == 3 {
         return three_fit(literals, variables);

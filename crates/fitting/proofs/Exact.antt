@@ -30,7 +30,7 @@ use Rattle.fitting.specs.Fit.{firstOf, secondOf, pairCount, pairTable, e
 use Rattle.fitting.specs.Demands.{WithoutChoice, Apart, YesExactly, NoApart}
 use Rattle.fitting.specs.declared.Fitting.{Fitting}
 use Rattle.fitting.specs.declared.Fitting.the-variants.{Yes, No, Refused}
-use Rattle.fitting.proofs.Pairing.{Within, Visibly, Paired, reached, within-exact}
+use Rattle.fitting.proofs.Pairing.{WordsWithin, Visibly, Paired, reached, within-exact}
 use Rattle.fitting.proofs.Tables.{pairs-bounded, sink-dead, pairs-accepting, pairs-paired}
 use Rattle.fitting.proofs.Choices.{choice-exact, deterministic}
 
@@ -80,7 +80,7 @@ module _ {L : Limits} {s t : Table} (ws : WellFormed L s) (wt : WellFormed L t) 
   abbrev AllSafe : Type 0
   AllSafe = (u : ℕ) → Tops (automaton pairs) u none → automaton s .accepting (firstOf n u) → automaton t .accepting (secondOf n u)
 
-  pub within-safe : Within (automaton s) (automaton t) ↔ AllSafe
+  pub within-safe : WordsWithin (automaton s) (automaton t) ↔ AllSafe
   within-safe = within-exact paired (visibly ws (t .symbols) symbols) (visibly wt (t .symbols) refl) (deterministic single) (sink-dead s t (bounded ws) (bounded wt))
 
   -- bottom among the tops that are worked out
@@ -125,11 +125,11 @@ module _ {L : Limits} {s t : Table} (ws : WellFormed L s) (wt : WellFormed L t) 
             let x = any-false (λ u. isAccepting (byteOf pairs u) && has f u bottom) (upto (count pairs)) e u (upto-of (count pairs) u (i .0)) in
             absurd (true≢false (sym (and-of (i .1) (exact u .1 h)) ∙ x))
 
-  pub fits-within : fits s t ≡ true → Within (automaton s) (automaton t)
+  pub fits-within : fits s t ≡ true → WordsWithin (automaton s) (automaton t)
   unfolding fits
   fits-within e = go (ends (pairCount s t) pairs (topWordsAt (pairCount s t) pairs)) refl e
     where
-      go : (x : Bool) → ends (pairCount s t) pairs (topWordsAt (pairCount s t) pairs) ≡ x → not x ≡ true → Within (automaton s) (automaton t)
+      go : (x : Bool) → ends (pairCount s t) pairs (topWordsAt (pairCount s t) pairs) ≡ x → not x ≡ true → WordsWithin (automaton s) (automaton t)
       go true f g = absurd (true≢false (sym g))
       go false f g = within-safe .1 (safe (pairCount s t) (topWordsAt (pairCount s t) pairs) bottom-found f)
 
@@ -141,7 +141,7 @@ module _ {L : Limits} {s t : Table} (ws : WellFormed L s) (wt : WellFormed L t) 
       go true f g = between (pairCount s t) (topWordsAt (pairCount s t) pairs) bottom-found f
       go false f g = absurd (true≢false g)
 
-  pub within-fits : Within (automaton s) (automaton t) → fits s t ≡ true
+  pub within-fits : WordsWithin (automaton s) (automaton t) → fits s t ≡ true
   within-fits h = go (fits s t) refl
     where
       go : (x : Bool) → fits s t ≡ x → x ≡ true

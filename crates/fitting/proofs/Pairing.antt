@@ -13,8 +13,8 @@ use Rattle.vpa.proofs.Simulation.{Simulation, steps-last, sim-steps}
 -- ---- what is asked
 
 -- every word of A is one of B
-abbrev pub Within : {S T : Type 0} → Automaton S → Automaton T → Type 0
-Within A B = (w : List ℕ) → Accepts A w → Accepts B w
+abbrev pub WordsWithin : {S T : Type 0} → Automaton S → Automaton T → Type 0
+WordsWithin A B = (w : List ℕ) → Accepts A w → Accepts B w
 
 -- each symbol is of one kind: 0 internal, 1 call, 2 return
 pub record Visibly {S : Type 0} (kind : ℕ → ℕ) (A : Automaton S) : Type 0 where
@@ -197,10 +197,10 @@ module _ {S T U : Type 0} {A : Automaton S} {B : Automaton T} {C : Automaton U} 
             subst (B .accepting) (ap (λ c. c .state) (track r (b .run) e)) (b .finally .accepting)
 
     module _ (dead : Dead B sink) where
-      safe : Within A B → Safe
+      safe : WordsWithin A B → Safe
       safe within u h k = let r = reached u h k in r .2 (within (r .0) (r .1))
 
-      fits : Safe → Within A B
+      fits : Safe → WordsWithin A B
       fits safe = go
         where
           go : (w : List ℕ) → Accepts A w → Accepts B w
@@ -212,5 +212,5 @@ module _ {S T U : Type 0} {A : Automaton S} {B : Automaton T} {C : Automaton U} 
               let l = safe (r .0 .state) record { stack = r .0 .stack; topmost = ap top z; reachable = run-reachable C (start (i .1)) (r .1) } (subst (A .accepting) (sym (k .states)) (h .finally .accepting)) in
               record { first = second (i .0); last = right (r .0); initially = paired .initially (i .1) .1; run = right-run dead (r .1) l; finally = record { accepting = l; empty = ap (map second) z } }
 
-      pub within-exact : Within A B ↔ Safe
+      pub within-exact : WordsWithin A B ↔ Safe
       within-exact = (safe, fits)

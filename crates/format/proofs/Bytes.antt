@@ -20,7 +20,7 @@ use Rattle.format.specs.Limits.{longest}
 use Rattle.format.specs.File.{Table, word16, trailer, distance, version, start, records, tableOf, bytes16, fromReturns, fromCalls, fromInternals, fromStates, fromSymbols, trailerOf, bytesOf}
 use Rattle.format.specs.Reading.{versionFits, recordFits, tableTests, Readable, WellFormed}
 use Rattle.format.proofs.Versions.{version-small, byte-most}
-use Rattle.format.proofs.Passed.{Passed, read-passed, passed-read, Wide, Tested, tests-passed, formed-wide, formed-tested, formed-of}
+use Rattle.format.proofs.Passed.{ReadPasses, read-passed, passed-read, Wide, Tested, tests-passed, formed-wide, formed-tested, formed-of}
 
 -- every element is a byte
 abbrev pub Bytes : List ℕ → Type 0
@@ -125,7 +125,7 @@ module _ (b : List ℕ) where
   unfolding start
   length-from k l = length-slice (trailer b - distance b k) (trailer b) b inside ∙ omega arith
 
-module _ (L : Limits) (b : List ℕ) (p : Passed L b) where
+module _ (L : Limits) (b : List ℕ) (p : ReadPasses L b) where
   join : (j k : ℕ) → distance b k ≤ distance b j → slice (start b j) (start b k) b ++ slice (start b k) (trailer b) b ≡ slice (start b j) (trailer b) b
   unfolding start
   join j k h = slice-join (trailer b - distance b j) (trailer b - distance b k) (trailer b) b (omega arith) (omega arith)
@@ -309,7 +309,7 @@ module _ (L : Limits) (t : Table) (f : WellFormed L t) where
       let returns = ap (records 4) returns-again ∙ records-flat 4 (t .returns) (omega arith) (formed-wide f .returns) in
       λ i. record { version = dated i; symbols = symbols-again i; states = states-again i; internals = internals i; calls = calls i; returns = returns i }
 
-  pub passed-bytes : Passed L (bytesOf t)
+  pub passed-bytes : ReadPasses L (bytesOf t)
   unfolding longest
   passed-bytes = record {
     limits = f .limits;

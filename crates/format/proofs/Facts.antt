@@ -17,7 +17,7 @@ use Rattle.limits.specs.Limits.{stateMost}
 use Rattle.limits.proofs.Within.{limits-within}
 use Rattle.format.specs.File.{Table}
 use Rattle.format.specs.Reading.{stateByteMost, recordFits, WellFormed}
-use Rattle.format.specs.Language.{count, byteOf, markOf, look, targets, automaton}
+use Rattle.format.specs.Language.{count, byteOf, markOf, agreedOn, targets, automaton}
 use Rattle.format.proofs.Versions.{other-most, byte-most}
 use Rattle.format.proofs.Passed.{formed-wide, formed-tested}
 
@@ -90,16 +90,16 @@ module _ {L : Limits} {t : Table} (wf : WellFormed L t) where
 -- ---- what joined states must agree on: whether they accept, and their mark
 
 module _ (t : Table) (p q : ℕ) where
-  pub look-accepting : look (byteOf t p) ≡ look (byteOf t q) → automaton t .accepting p → automaton t .accepting q
-  unfolding look
+  pub look-accepting : agreedOn (byteOf t p) ≡ agreedOn (byteOf t q) → automaton t .accepting p → automaton t .accepting q
+  unfolding agreedOn
   look-accepting e h = omega arith
 
-  pub look-mark : {k : ℕ} → q < count t → look (byteOf t p) ≡ look (byteOf t q) → automaton t .mark p k → automaton t .mark q k
-  unfolding look markOf
+  pub look-mark : {k : ℕ} → q < count t → agreedOn (byteOf t p) ≡ agreedOn (byteOf t q) → automaton t .mark p k → automaton t .mark q k
+  unfolding agreedOn markOf
   look-mark h e (l, m) = (h, omega arith)
 
-  pub agreed-look : p < count t → automaton t .accepting p ↔ automaton t .accepting q → ((k : ℕ) → automaton t .mark p k → automaton t .mark q k) → look (byteOf t p) ≡ look (byteOf t q)
-  unfolding look markOf
+  pub agreed-look : p < count t → automaton t .accepting p ↔ automaton t .accepting q → ((k : ℕ) → automaton t .mark p k → automaton t .mark q k) → agreedOn (byteOf t p) ≡ agreedOn (byteOf t q)
+  unfolding agreedOn markOf
   agreed-look l e m = go (ℕ-discrete (byteOf t p / 2 % 2) 1) (ℕ-discrete (byteOf t q / 2 % 2) 1) (m _ (l, refl) .1)
     where
       go : Dec (byteOf t p / 2 % 2 ≡ 1) → Dec (byteOf t q / 2 % 2 ≡ 1) → byteOf t q / 4 ≡ byteOf t p / 4 → byteOf t p / 2 ≡ byteOf t q / 2

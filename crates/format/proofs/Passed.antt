@@ -62,7 +62,7 @@ framed-distances b f =
     (eq-eqb _ _ (f .fours-4))
 
 -- 39 and 1 to 8 do not apply
-pub record Passed (L : Limits) (b : List ℕ) : Type 0 where
+pub record ReadPasses (L : Limits) (b : List ℕ) : Type 0 where
   pub limits : limitsFit L ≡ true
   pub long : 12 ≤ length b
   pub short : length b ≤ longest L
@@ -70,7 +70,7 @@ pub record Passed (L : Limits) (b : List ℕ) : Type 0 where
   pub framed : Framed b
   pub fits : firstFailed (tableTests L (tableOf b)) ≡ 0
 
-pub read-passed : (L : Limits) (b : List ℕ) → Readable L b → Passed L b
+pub read-passed : (L : Limits) (b : List ℕ) → Readable L b → ReadPasses L b
 unfolding readNumber lengthFits
 read-passed L b e =
     let p0 = passed 39 _ _ (λ z. absurd (omega arith)) e in
@@ -87,7 +87,7 @@ read-passed L b e =
       fits = p3 .1;
     }
 
-pub passed-read : (L : Limits) (b : List ℕ) → Passed L b → Readable L b
+pub passed-read : (L : Limits) (b : List ℕ) → ReadPasses L b → Readable L b
 unfolding readNumber lengthFits
 passed-read L b p =
     passes 39 _ (p .limits)

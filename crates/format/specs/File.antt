@@ -14,6 +14,10 @@ pub record Table : Type 0 where
   pub calls : List (List ℕ)
   pub returns : List (List ℕ)
 
+-- a table of states alone: what those who look at nothing else are stated with
+abbrev pub ofStates : List ℕ → Table
+ofStates states = record { version = 0; symbols = []; states = states; internals = []; calls = []; returns = [] }
+
 -- "16-bit little-endian numbers"
 unfoldable pub word16 : List ℕ → ℕ → ℕ
 word16 b i = getD b i 0 + 256 * getD b (i + 1) 0

@@ -21,8 +21,8 @@ unfoldable pub markOf : ℕ → ℕ
 markOf byte = byte / 4
 
 -- what joined states must agree on, of a state's byte: accepting plus 2 times the mark, and not initial
-unfoldable pub look : ℕ → ℕ
-look byte = byte / 2
+unfoldable pub agreedOn : ℕ → ℕ
+agreedOn byte = byte / 2
 
 -- the targets of the records that start with the key (q, a) or (q, r, u), in file order
 unfoldable pub targets : List (List ℕ) → List ℕ → List ℕ

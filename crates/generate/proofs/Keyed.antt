@@ -15,7 +15,7 @@ use Rattle.format.proofs.Bytes.{Bytes}
 use Rattle.table.specs.Keys.{key}
 use Rattle.quotients.specs.Quotient.{QuotientDone}
 use Rattle.quotients.specs.declared.Written.the-variants.{Refused}
-use Rattle.writing.specs.Keys.{keysOf, lastBytes, Holds}
+use Rattle.writing.specs.Keys.{keysOf, recordOf, Holds}
 use Rattle.writing.specs.Tables.{keyedTable, writtenFor}
 use Rattle.writing.proofs.Keys.{Same, keys-back}
 use Rattle.loads.specs.Loads.{Load, symbolBytes, stateBytes, possible, present, possibleInternals, possibleCalls, possibleReturns, seedCalls, seedReturns, described, describedBytes, recordsFew}
@@ -37,7 +37,7 @@ record-bytes h z p zero = omega (arith, p .state-below)
 record-bytes h z p (suc zero) = omega (arith, p .symbol-below)
 record-bytes {n = n} h z p (suc (suc i)) = states-bytes n h (p .others) (p .states .below) i
 
-pub present-back : (w n from k d s : ℕ) → w ≤ 4 → 2 ≤ w → n ≤ 40 → from + k ≤ 64 → map (lastBytes w) (keysOf (present d s (possible w n from k))) ≡ present d s (possible w n from k)
+pub present-back : (w n from k d s : ℕ) → w ≤ 4 → 2 ≤ w → n ≤ 40 → from + k ≤ 64 → map (recordOf w) (keysOf (present d s (possible w n from k))) ≡ present d s (possible w n from k)
 present-back w n from k d s l m h z = keys-back w l (present d s (possible w n from k)) (λ r i. go r (possible-of w n from k r (present-mem d s (possible w n from k) r i)))
   where
     go : (r : List ℕ) → Possible w n from k r → Same w r
@@ -125,9 +125,9 @@ module _ (g : Load) (out : List ℕ) where
               version = 1;
               symbols = symbolBytes (g .internals) (g .calls) (add-assoc (g .internals) (g .calls) (g .returns) j);
               states = stateBytes (g .states);
-              internals = (ap (map (lastBytes 3)) (i .same) ∙ present-back 3 (g .states) 0 (g .internals) (g .density) (g .seed) (omega arith) (omega arith) (z .states-few) (omega (arith, z .symbols-few))) j;
-              calls = (ap (map (lastBytes 3)) (c .same) ∙ present-back 3 (g .states) (g .internals) (g .calls) (g .density) (seedCalls g) (omega arith) (omega arith) (z .states-few) (omega (arith, z .symbols-few))) j;
-              returns = (ap (map (lastBytes 4)) (r .same) ∙ present-back 4 (g .states) (g .internals + g .calls) (g .returns) (g .density) (seedReturns g) (omega arith) (omega arith) (z .states-few) (omega (arith, z .symbols-few))) j;
+              internals = (ap (map (recordOf 3)) (i .same) ∙ present-back 3 (g .states) 0 (g .internals) (g .density) (g .seed) (omega arith) (omega arith) (z .states-few) (omega (arith, z .symbols-few))) j;
+              calls = (ap (map (recordOf 3)) (c .same) ∙ present-back 3 (g .states) (g .internals) (g .calls) (g .density) (seedCalls g) (omega arith) (omega arith) (z .states-few) (omega (arith, z .symbols-few))) j;
+              returns = (ap (map (recordOf 4)) (r .same) ∙ present-back 4 (g .states) (g .internals + g .calls) (g .returns) (g .density) (seedReturns g) (omega arith) (omega arith) (z .states-few) (omega (arith, z .symbols-few))) j;
             })
 
             pub few-drawn : {done : QuotientDone} → done ≡ writtenFor (bytesOf (keyedTable 1 (symbolBytes (g .internals) (g .calls) (g .internals + g .calls + g .returns)) (stateBytes (g .states)) (take (r1 .count) k1) (take (r2 .count) k2) (take (r3 .count) k3))) out → done ≡ drawnFor g out

@@ -17,17 +17,17 @@ use Rattle.pairs.specs.Pairs.{pairs, variableOf, pairOf}
 use Rattle.pairs.specs.Entries.{pairIn, PairTable}
 use Rattle.pairs.proofs.Pairs.{variable-lt, variable-pair, pair-variable, pair-ordered, pair-below}
 use Rattle.pairs.proofs.Entries.{pair-found}
-use Rattle.joining.specs.Lowest.{Lowest, LowestJoined}
+use Rattle.joining.specs.Lowest.{LowestPartner, LowestJoined}
 
 -- ---- variable by variable
 
 -- at first each state is its own
-own : (v : List ℕ) (q : ℕ) → Lowest v 0 q q
+own : (v : List ℕ) (q : ℕ) → LowestPartner v 0 q q
 own v q = record { within = omega arith; earlier = λ n. absurd (n refl); joined = λ n. absurd (n refl); least = λ p l h. absurd (omega arith) }
 
 pub all-own : (v : List ℕ) → LowestJoined v 0 (upto stateMost)
 unfolding upto
-all-own v = record { long = refl; each = λ q h. subst (λ (l : ℕ). Lowest v 0 q l) (sym (getD-upto stateMost q 0 h)) (own v q) }
+all-own v = record { long = refl; each = λ q h. subst (λ (l : ℕ). LowestPartner v 0 q l) (sym (getD-upto stateMost q 0 h)) (own v q) }
 
 -- a later pair of one state
 later : (p l q x : ℕ) → p < l → l ≤ q → variableOf p q < suc x → (variableOf p q < x) ⊎ (variableOf p q ≡ x)
@@ -38,7 +38,7 @@ later p l q x a b h = go (decLt (variableOf p q) x)
     go (no k) = inr (omega arith)
 
 -- the variable x says nothing new of q
-unchanged : (v : List ℕ) (x q l : ℕ) → ((p : ℕ) → p < l → variableOf p q ≡ x → valueOf v x ≢ 1) → Lowest v x q l → Lowest v (suc x) q l
+unchanged : (v : List ℕ) (x q l : ℕ) → ((p : ℕ) → p < l → variableOf p q ≡ x → valueOf v x ≢ 1) → LowestPartner v x q l → LowestPartner v (suc x) q l
 unchanged v x q l new h = record {
   within = h .within;
   earlier = λ n. omega (arith, h .earlier n);
@@ -55,14 +55,14 @@ module _ {v : List ℕ} {x : ℕ} {low : List ℕ} (h : LowestJoined v x low) wh
   pub passed-false : valueOf v x ≢ 1 → LowestJoined v (suc x) low
   passed-false n = record { long = h .long; each = λ q l. unchanged v x q (getD low q 0) (λ p a e. n) (h .each q l) }
 
-  other-state : (q : ℕ) → q < stateMost → q ≢ pairOf x .high → Lowest v (suc x) q (getD low q 0)
+  other-state : (q : ℕ) → q < stateMost → q ≢ pairOf x .high → LowestPartner v (suc x) q (getD low q 0)
   other-state q l d = unchanged v x q (getD low q 0) (λ p a e f. d (sym (pair-variable p q (omega (arith, h .each q l .within)) .1) ∙ ap (λ (y : ℕ). pairOf y .high) e)) (h .each q l)
 
   -- a true variable of a state that has a lower one
   pub passed-later : getD low (pairOf x .high) 0 ≢ pairOf x .high → LowestJoined v (suc x) low
   passed-later n = record { long = h .long; each = λ q l. go q l (ℕ-discrete q (pairOf x .high)) }
     where
-      go : (q : ℕ) → q < stateMost → Dec (q ≡ pairOf x .high) → Lowest v (suc x) q (getD low q 0)
+      go : (q : ℕ) → q < stateMost → Dec (q ≡ pairOf x .high) → LowestPartner v (suc x) q (getD low q 0)
       go q l (no d) = other-state q l d
       go q l (yes e) =
           let n' : getD low q 0 ≢ q = λ z. n (ap (λ (y : ℕ). getD low y 0) (sym e) ∙ z ∙ e) in
@@ -73,7 +73,7 @@ module _ {v : List ℕ} {x : ℕ} {low : List ℕ} (h : LowestJoined v x low) wh
   pub lower : pairOf x .high < stateMost → getD low (pairOf x .high) 0 ≡ pairOf x .high → valueOf v x ≡ 1 → LowestJoined v (suc x) (set low (pairOf x .high) (pairOf x .low))
   lower b own is = record { long = length-set low _ _ ∙ h .long; each = λ q l. go q l (ℕ-discrete q (pairOf x .high)) }
     where
-      first : Lowest v (suc x) (pairOf x .high) (pairOf x .low)
+      first : LowestPartner v (suc x) (pairOf x .high) (pairOf x .low)
       first = record {
         within = omega (arith, pair-ordered x);
         earlier = λ n. omega (arith, variable-pair x);
@@ -81,11 +81,11 @@ module _ {v : List ℕ} {x : ℕ} {low : List ℕ} (h : LowestJoined v x low) wh
         least = λ p a c. h .each (pairOf x .high) b .least p (omega (arith, own, pair-ordered x)) (omega (arith, variable-pair x, variable-lt p (pairOf x .high) (omega (arith, pair-ordered x)), variable-lt (pairOf x .low) (pairOf x .high) (pair-ordered x)));
       }
 
-      go : (q : ℕ) → q < stateMost → Dec (q ≡ pairOf x .high) → Lowest v (suc x) q (getD (set low (pairOf x .high) (pairOf x .low)) q 0)
-      go q l (no d) = subst (λ (y : ℕ). Lowest v (suc x) q y) (sym (getD-set-other low (pairOf x .high) q (pairOf x .low) 0 d)) (other-state q l d)
+      go : (q : ℕ) → q < stateMost → Dec (q ≡ pairOf x .high) → LowestPartner v (suc x) q (getD (set low (pairOf x .high) (pairOf x .low)) q 0)
+      go q l (no d) = subst (λ (y : ℕ). LowestPartner v (suc x) q y) (sym (getD-set-other low (pairOf x .high) q (pairOf x .low) 0 d)) (other-state q l d)
       go q l (yes e) =
-          subst (λ (y : ℕ). Lowest v (suc x) y (getD (set low (pairOf x .high) (pairOf x .low)) y 0)) (sym e)
-          (subst (λ (y : ℕ). Lowest v (suc x) (pairOf x .high) y) (sym (getD-set-same low (pairOf x .high) (pairOf x .low) 0 (omega (arith, h .long)))) first)
+          subst (λ (y : ℕ). LowestPartner v (suc x) y (getD (set low (pairOf x .high) (pairOf x .low)) y 0)) (sym e)
+          (subst (λ (y : ℕ). LowestPartner v (suc x) (pairOf x .high) y) (sym (getD-set-same low (pairOf x .high) (pairOf x .low) 0 (omega (arith, h .long)))) first)
 
 -- ---- as the code has it
 

@@ -19,7 +19,7 @@ use Rattle.format.specs.Maps.{classes}
 use Rattle.relations.proofs.Numbered.{class-below}
 use Rattle.limits.specs.Limits.{stateMost}
 use Rattle.encoding.specs.Maps.{joinedBy, nextClass, mapOf}
-use Rattle.joining.specs.Lowest.{Lowest, LowestJoined, MapOf}
+use Rattle.joining.specs.Lowest.{LowestPartner, LowestJoined, MapOf}
 
 -- ---- the first state that passes a test
 
@@ -68,7 +68,7 @@ unfolding mapOf classes
 none-numbered v n = record { inside = omega arith; long = refl; so-far = refl; count = refl; few = omega arith }
 
 module _ {v : List ℕ} {n next q : ℕ} {low map : List ℕ} (fits : n ≤ stateMost) (lowest : LowestJoined v (pairs n) low) (h : Numbered v n map next q) (l : q < n) where
-  at-q : Lowest v (pairs n) q (getD low q 0)
+  at-q : LowestPartner v (pairs n) q (getD low q 0)
   at-q = lowest .each q (omega arith)
 
   pub low-small : getD low q 0 ≤ q

@@ -12,7 +12,7 @@ use Rattle.encoding.specs.Maps.{mapOf}
 use Rattle.joining.specs.declared.Classes.{Classes}
 
 -- l is the lowest state joined to q by a variable below x, or q itself
-pub record Lowest (v : List ℕ) (x q l : ℕ) : Type 0 where
+pub record LowestPartner (v : List ℕ) (x q l : ℕ) : Type 0 where
   pub within : l ≤ q
   pub earlier : l ≢ q → variableOf l q < x
   pub joined : l ≢ q → valueOf v (variableOf l q) ≡ 1
@@ -21,7 +21,7 @@ pub record Lowest (v : List ℕ) (x q l : ℕ) : Type 0 where
 -- the same of every state
 pub record LowestJoined (v : List ℕ) (x : ℕ) (low : List ℕ) : Type 0 where
   pub long : length low ≡ stateMost
-  pub each : (q : ℕ) → q < stateMost → Lowest v x q (getD low q 0)
+  pub each : (q : ℕ) → q < stateMost → LowestPartner v x q (getD low q 0)
 
 -- "The map of an assignment", and its class count
 pub record MapOf (v : List ℕ) (n : ℕ) (r : Classes) : Type 0 where

@@ -18,22 +18,22 @@ use Rattle.lists.proofs.Counts.{keep-append}
 use Rattle.lists.proofs.Words.{bit-zero, bit-suc}
 
 -- x is the lowest bit of w
-pub record Lowest (w x : ℕ) : Type 0 where
+pub record LowestBit (w x : ℕ) : Type 0 where
   pub own : Bit w x
   pub least : (y : ℕ) → Bit w y → x ≤ y
 
 -- the trailing zeros of a word that is not 0 count up to its lowest bit
-pub trailing-lowest : (k w : ℕ) → w < 2 ^ k → w ≢ 0 → (trailingZeros k w < k) × Lowest w (trailingZeros k w)
+pub trailing-lowest : (k w : ℕ) → w < 2 ^ k → w ≢ 0 → (trailingZeros k w < k) × LowestBit w (trailingZeros k w)
 unfolding trailingZeros
 trailing-lowest zero w l n = absurd (n (omega arith))
 trailing-lowest (suc k) w l n = go (w % 2) refl (trailing-lowest k (w / 2) (omega (arith, pow-succ' 2 k)))
   where
-    go : (d : ℕ) → w % 2 ≡ d → (w / 2 ≢ 0 → (trailingZeros k (w / 2) < k) × Lowest (w / 2) (trailingZeros k (w / 2))) → (under d (trailingZeros k (w / 2)) < suc k) × Lowest w (under d (trailingZeros k (w / 2)))
+    go : (d : ℕ) → w % 2 ≡ d → (w / 2 ≢ 0 → (trailingZeros k (w / 2) < k) × LowestBit (w / 2) (trailingZeros k (w / 2))) → (under d (trailingZeros k (w / 2)) < suc k) × LowestBit w (under d (trailingZeros k (w / 2)))
     go zero e r =
         let h = r (λ z. n (omega arith)) in
         (omega arith, record { own = bit-suc w _ ∙ h .1 .own; least = λ y b. up y b (h .1) })
       where
-        up : (y : ℕ) → Bit w y → Lowest (w / 2) (trailingZeros k (w / 2)) → suc (trailingZeros k (w / 2)) ≤ y
+        up : (y : ℕ) → Bit w y → LowestBit (w / 2) (trailingZeros k (w / 2)) → suc (trailingZeros k (w / 2)) ≤ y
         up zero b s = absurd (omega (arith, bit-zero w))
         up (suc y) b s = let g = s .least y (sym (bit-suc w y) ∙ b) in omega arith
     go (suc d) e r = (omega arith, record { own = bit-zero w ∙ omega arith; least = λ y b. omega arith })
@@ -89,7 +89,7 @@ keep-none zero w h = refl
 keep-none (suc n) w h = lasts w n ∙ (λ i. keep-none n w (λ x l. h x (omega arith)) i ++ without w n (h n (omega arith)) i)
 
 -- the lowest first, then those of the word without it
-pub keep-lowest : (n w x : ℕ) → Lowest w x → x < n → keep (hasBit w) (upto n) ≡ x ∷ keep (hasBit (w - 2 ^ x)) (upto n)
+pub keep-lowest : (n w x : ℕ) → LowestBit w x → x < n → keep (hasBit w) (upto n) ≡ x ∷ keep (hasBit (w - 2 ^ x)) (upto n)
 keep-lowest zero w x s l = absurd (omega arith)
 keep-lowest (suc n) w x s l = go (ℕ-discrete x n) (keep-lowest n w x s)
   where

@@ -10,7 +10,7 @@ use borrow.Author.Tests.{eq-eqb, ne-eqb}
 use Rattle.lists.specs.Lists.{firstFailed}
 use Rattle.lists.proofs.Refusals.{passes, fails, no-test, stage-fails, by-number}
 use Rattle.limits.specs.declared.Limits.{Limits}
-use Rattle.format.specs.File.{records, tableOf}
+use Rattle.format.specs.File.{records, tableOf, ofStates}
 use Rattle.format.specs.Reading.{readNumber, Readable, ascend}
 use Rattle.format.specs.Maps.{numbered}
 use Rattle.format.specs.declared.Starts.{Starts}
@@ -24,7 +24,7 @@ use Rattle.tops.specs.declared.Examined.{Examined}
 use Rattle.tops.specs.Sections.{examinedOf}
 use Rattle.relations.specs.Check.{looksAgree, movesMatched, returnsMatched, mapTests, checkNumber}
 use Rattle.maps.specs.Sections.{Known, Parted, partTests}
-use Rattle.matching.specs.Matching.{ofStates, recordMatched, recordsMatched, Lent}
+use Rattle.matching.specs.Matching.{recordMatched, recordsMatched, Lent}
 
 -- ---- 15 to 20, over the parts of a table
 

@@ -6,13 +6,13 @@ use Prim.Native.Nat.{ℕ}
 use lib.ListN.{length}
 use lib.Dec.{eqb}
 use Rattle.limits.specs.declared.Limits.{Limits}
-use Rattle.format.specs.File.{records, tableOf}
+use Rattle.format.specs.File.{records, tableOf, ofStates}
 use Rattle.format.specs.Reading.{Readable}
 use Rattle.format.specs.Maps.{numbered}
 use Rattle.format.specs.declared.Starts.{Starts}
 use Rattle.table.specs.Sections.{ReadAs}
 use Rattle.reach.specs.Tops.{topWords}
-use Rattle.matching.specs.Matching.{ofStates, recordsMatched, Lent}
+use Rattle.matching.specs.Matching.{recordsMatched, Lent}
 use Rattle.relations.specs.Check.{looksAgree}
 
 -- P at all limits that the bytes are readable at

@@ -22,7 +22,7 @@ use Rattle.quotients.specs.Quotient.{image}
 use Rattle.fates.specs.Fates.{taken, fate, sectionFates}
 use Rattle.fates.proofs.Counts.{length-fates}
 use Rattle.fates.proofs.Sections.{fate-at}
-use Rattle.marks.specs.Marks.{placeOf, Placed, Stamped, dead, again, first, UpTo, recordAt, stateAt, recordsIn, Fitting, Ends, Passed}
+use Rattle.marks.specs.Marks.{placeOf, Placed, Stamped, dead, again, first, UpTo, recordAt, stateAt, recordsIn, Fitting, Ends, ClassMarked}
 use Rattle.marks.proofs.Places.{of-image, to-image}
 use Rattle.marks.proofs.Spans.{one-state}
 
@@ -92,7 +92,7 @@ module _ (w : ℕ) (s f m : List ℕ) where
   }
 
 module _ {w : ℕ} {s f m : List ℕ} {c stamp : ℕ} {room old new : List ℕ} {i : ℕ} (k : Fitting w s m) (g : Going w s f m c stamp room old new i) where
-  pub gone : recordsIn w s ≤ i → Passed w s f m c old new × UpTo stamp room
+  pub gone : recordsIn w s ≤ i → ClassMarked w s f m c old new × UpTo stamp room
   gone h = (record { long = g .long; done = λ j l. g .done j (omega arith); rest = λ j n. g .rest j (λ l. n (omega (arith, g .inside))) }, g .small)
 
   -- the records of a state of another class are left
@@ -248,7 +248,7 @@ module _ (w : ℕ) (s f m : List ℕ) where
   telling lowest room out u = record { inside = omega arith; long = refl; done = λ j h l. absurd (omega arith); rest = λ j n. refl; stamps = omega arith; small = u }
 
 module _ {w : ℕ} {s f m : List ℕ} {lowest : ℕ} {room old new : List ℕ} {c stamp : ℕ} (t : Telling w s f m lowest room old new c stamp) where
-  pub class-told : c < classes m → {room' new' : List ℕ} → Passed w s f m c new new' × UpTo (stamp + 1) room' → Telling w s f m lowest room' old new' (c + 1) (stamp + 1)
+  pub class-told : c < classes m → {room' new' : List ℕ} → ClassMarked w s f m c new new' × UpTo (stamp + 1) room' → Telling w s f m lowest room' old new' (c + 1) (stamp + 1)
   class-told b {room'} {new'} (p, u) = record {
     inside = omega arith;
     long = p .long ∙ t .long;

@@ -60,7 +60,7 @@ pub record Ends (w : ℕ) (s ends : List ℕ) : Type 0 where
   pub last : (p : ℕ) → 0 < getD ends p 0 → stateAt w s (getD ends p 0 - 1) ≡ p
 
 -- the marks of the records of class c are written, and nothing else
-pub record Passed (w : ℕ) (s f m : List ℕ) (c : ℕ) (old new : List ℕ) : Type 0 where
+pub record ClassMarked (w : ℕ) (s f m : List ℕ) (c : ℕ) (old new : List ℕ) : Type 0 where
   pub long : length new ≡ length old
   pub done : (j : ℕ) → j < recordsIn w s → classOf m (stateAt w s j) ≡ c → getD new j 0 ≡ getD (sectionFates (kept f) m (records w s)) j 0
   pub rest : (j : ℕ) → (j < recordsIn w s → classOf m (stateAt w s j) ≡ c → ⊥) → getD new j 0 ≡ getD old j 0

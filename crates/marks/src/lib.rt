@@ -10,7 +10,7 @@ ghost use Rattle.format.specs.File.{records};
 ghost use Rattle.format.specs.Maps.{classOf};
 ghost use Rattle.matching.specs.Matching.{kept};
 ghost use Rattle.fates.specs.Fates.{sectionFates, having};
-ghost use Rattle.marks.specs.Marks.{placeOf, Placed, Stamped, UpTo, recordsIn, Fitting, Ends, Passed};
+ghost use Rattle.marks.specs.Marks.{placeOf, Placed, Stamped, UpTo, recordsIn, Fitting, Ends, ClassMarked};
 use matching::keeps;
 use numbering::class_count;
 use numbering::class_of;
@@ -83,7 +83,7 @@ fn mark_class(
 )
     requires { ⌜ Fitting width (now section) (now map) × Ends width (now section) (now ends) × (recordsIn width (now section) ≤ length (now out)) ⌝ }
     requires { ⌜ (0 < stamp) × UpTo (stamp - 1) (now room) ⌝ }
-    ensures { λ _. ⌜ Passed width (now (section .entry)) (now (words .entry)) (now (map .entry)) class (now (out .entry)) (now (out .exit)) × UpTo stamp (now (room .exit)) ⌝ }
+    ensures { λ _. ⌜ ClassMarked width (now (section .entry)) (now (words .entry)) (now (map .entry)) class (now (out .entry)) (now (out .exit)) × UpTo stamp (now (room .exit)) ⌝ }
 {
     let n = section.len() / width;
     let mut i: usize = 0;

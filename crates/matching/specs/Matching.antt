@@ -8,18 +8,14 @@ use lib.Dec.{eqb, ltb}
 use Rattle.lists.specs.Lists.{all, upto}
 use Rattle.format.specs.File.{Table, records}
 use Rattle.format.specs.Reading.{ascend}
-use Rattle.format.specs.Language.{look}
+use Rattle.format.specs.Language.{agreedOn}
 use Rattle.format.specs.Maps.{joins}
 use Rattle.reach.specs.Tops.{live}
 use Rattle.relations.specs.Check.{moveMatched, returnMatched}
 
--- a table with these states
-abbrev pub ofStates : List ℕ → Table
-ofStates states = record { version = 0; symbols = []; states = states; internals = []; calls = []; returns = [] }
-
 -- (i) for one state: those joined to it agree with it
 abbrev pub agreesAt : List ℕ → List ℕ → ℕ → Bool
-agreesAt states m p = all (λ q. not (joins m p q) || eqb (look (getD states p 0)) (look (getD states q 0))) (upto (length states))
+agreesAt states m p = all (λ q. not (joins m p q) || eqb (agreedOn (getD states p 0)) (agreedOn (getD states q 0))) (upto (length states))
 
 -- a move, and a return where it is live under the top words
 unfoldable pub kept : List ℕ → List ℕ → Bool

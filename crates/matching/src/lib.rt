@@ -7,13 +7,13 @@ ghost use lib.ListN.{length, getD};
 ghost use lib.Dec.{eqb};
 ghost use Rattle.lists.specs.Lists.{any};
 ghost use Rattle.lists.specs.Bits.{has};
-ghost use Rattle.format.specs.File.{records};
+ghost use Rattle.format.specs.File.{records, ofStates};
 ghost use Rattle.format.specs.Reading.{ascend};
 ghost use Rattle.format.specs.Language.{targets};
 ghost use Rattle.format.specs.Maps.{classOf, joins};
 ghost use Rattle.table.specs.Keys.{Keyed};
 ghost use Rattle.relations.specs.Check.{looksAgree, returnMatched};
-ghost use Rattle.matching.specs.Matching.{ofStates, agreesAt, kept, returnMet, recordMatched, recordMet, recordsMatched, Lent};
+ghost use Rattle.matching.specs.Matching.{agreesAt, kept, returnMet, recordMatched, recordMet, recordsMatched, Lent};
 use numbering::class_of;
 use numbering::wide;
 

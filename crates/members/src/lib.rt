@@ -2,8 +2,8 @@
 ghost use mathlib.Core.Path.{_≡_};
 ghost use Prim.Native.Nat.{_+_, _*_, _<_, _≤_};
 ghost use lib.ListN.{length};
+ghost use Rattle.format.specs.File.{ofStates};
 ghost use Rattle.lists.specs.Lists.{over};
-ghost use Rattle.matching.specs.Matching.{ofStates};
 ghost use Rattle.quotients.specs.Quotient.{memberHas, bitOf, classMark, classByte};
 ghost use Rattle.members.specs.Classes.{flagged, classBytes};
 use numbering::class_of;

@@ -9,12 +9,12 @@ use lib.ListN.{length, getD, drop}
 use Rattle.cnf.specs.Clauses.{clausesIn, whole}
 use Rattle.cnf.specs.Search.{broken, forcing, quiet, seen}
 use Rattle.cnf.specs.Closing.{SettledOr}
-use Rattle.rows.specs.Trail.{Ready, Worked, Passed}
+use Rattle.rows.specs.Trail.{Ready, Worked, OnePass}
 use Rattle.rows.specs.Rows.{Forced}
 use Rattle.rows.proofs.Working.{worked-none, asked-quiet, asked-below, worked-broken, worked-store, store-keeps, store-own}
 use Rattle.asking.specs.Asked.{clauseAt}
 use Rattle.asking.proofs.Walking.{Before, before-first, before-next, end-inside, none-left, clause-in, clause-cases}
-use Rattle.asking.proofs.Asking.{Within, within}
+use Rattle.asking.proofs.Asking.{SeenSoFar, within}
 
 -- before the clause at `at`: v₀ and t₀ were the values and the trail where the pass began
 pub record Passing (ws v₀ t₀ : List ℕ) (start : ℕ) (v t : List ℕ) (count at : ℕ) : Type 0 where
@@ -28,7 +28,7 @@ module _ {ws v₀ t₀ : List ℕ} {start : ℕ} (ready : Ready (clausesIn ws) v
 
   module _ {v t : List ℕ} {count at : ℕ} (i : Passing ws v₀ t₀ start v t count at) where
     -- all clauses are passed
-    pub pass-end : length ws ≤ at → Passed (clausesIn ws) v₀ t₀ start v t false count
+    pub pass-end : length ws ≤ at → OnePass (clausesIn ws) v₀ t₀ start v t false count
     pass-end h = record { worked = i .worked; waiting = λ _ c m. go c (i .passed c m) }
       where
         go : (c : List ℕ) → List·Memᴰ c (clausesIn (drop at ws)) ⊎ SettledOr v (i .worked .grown .new) c → SettledOr v (i .worked .grown .new) c
@@ -37,10 +37,10 @@ module _ {ws v₀ t₀ : List ℕ} {start : ℕ} (ready : Ready (clausesIn ws) v
 
     module _ (h : at < length ws) where
       -- before the clause's first literal
-      pub pass-clause : Within ws v (at + 1) (at + 1 + getD ws at 0) (at + 1) 0 0
+      pub pass-clause : SeenSoFar ws v (at + 1) (at + 1 + getD ws at 0) (at + 1) 0 0
       pass-clause = within ws v (at + 1) (at + 1 + getD ws at 0) (omega arith) (end-inside (i .before) h) (asked-below ready (i .worked) (clause-in (i .before) h))
 
-      pub pass-broken : broken ≡ seen v (clauseAt ws at) → Passed (clausesIn ws) v₀ t₀ start v t true count
+      pub pass-broken : broken ≡ seen v (clauseAt ws at) → OnePass (clausesIn ws) v₀ t₀ start v t true count
       pass-broken e = record { worked = worked-broken ready (i .worked) (clause-in (i .before) h) e; waiting = λ b. absurd (true≢false b) }
 
       -- the clause is seen to

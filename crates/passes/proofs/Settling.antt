@@ -10,7 +10,7 @@ use lib.Seq.{slice, slice-empty, length-take-le}
 use Rattle.cnf.specs.Clauses.{valueOf}
 use Rattle.cnf.specs.Closing.{Settled, AtRest, Waiting}
 use Rattle.cnf.proofs.Queue.{waiting-more, rest-waiting, waiting-rest}
-use Rattle.rows.specs.Trail.{unsetting, Ready, Worked, Passed, Queue, Drained, Settles}
+use Rattle.rows.specs.Trail.{unsetting, Ready, Worked, OnePass, Queue, Drained, Settles}
 use Rattle.rows.proofs.Trails.{grown-same, grown-slice}
 use Rattle.rows.proofs.Working.{worked-none, worked-length, worked-on, worked-count, worked-trans, ready-part, worked-part, drained-broken, drained-settles}
 use Rattle.passes.proofs.Attending.{to-ds, to-cs}
@@ -61,7 +61,7 @@ module _ {cs ds : List (List ℕ)} {v₀ t₀ v t : List ℕ} {start at count : 
     pass-ready = ready-part cs (cs ++ ds) (to-cs cs ds) (worked-on (i .ready) drained)
 
     -- and those of cs are passed
-    module _ (quiet : isBroken ≡ false) {u r : List ℕ} {more : ℕ} {isBroken′ : Bool} (p : Passed cs w s mid u r isBroken′ more) where
+    module _ (quiet : isBroken ≡ false) {u r : List ℕ} {more : ℕ} {isBroken′ : Bool} (p : OnePass cs w s mid u r isBroken′ more) where
       all-worked : Worked (cs ++ ds) v₀ t₀ start u r isBroken′ more
       all-worked = worked-trans drained (worked-part cs (cs ++ ds) (to-cs cs ds) (p .worked))
 

@@ -6,7 +6,7 @@ ghost use Rattle.pairs.specs.Entries.{PairTable};
 ghost use Rattle.pairs.specs.Triangles.{triangles};
 ghost use Rattle.rows.specs.Conclusions.{withTriangles};
 ghost use Rattle.rows.specs.Rows.{Rows};
-ghost use Rattle.rows.specs.Trail.{Ready, Passed, Queue, Settles};
+ghost use Rattle.rows.specs.Trail.{Ready, OnePass, Queue, Settles};
 use asking::is_right;
 use asking::is_unset;
 use conclude::Reached;
@@ -30,7 +30,7 @@ fn pass(
     requires { ⌜ Ready (clausesIn (now list)) (now values) (now trail) start ⌝ }
     requires { ⌜ PairTable (now table) × Rows n (now values) (now joined) (now apart) ⌝ }
     ensures { λ r. ⌜
-        Passed (clausesIn (now (list .entry))) (now (values .entry)) (now (trail .entry)) start (now (values .exit)) (now (trail .exit)) (r .broken)
+        OnePass (clausesIn (now (list .entry))) (now (values .entry)) (now (trail .entry)) start (now (values .exit)) (now (trail .exit)) (r .broken)
         (r .count)
         × Rows n (now (values .exit)) (now (joined .exit)) (now (apart .exit)) ⌝ }
 {

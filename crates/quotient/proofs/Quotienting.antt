@@ -16,7 +16,7 @@ use Rattle.lists.proofs.Refusals.{passes, fails, no-test, stage-passes, stage-f
 use Rattle.limits.specs.declared.Limits.{Limits}
 use Rattle.limits.specs.Limits.{symbolMost}
 use Rattle.limits.proofs.Within.{limits-within}
-use Rattle.format.specs.File.{Table, trailer, version, records, tableOf, bytesOf}
+use Rattle.format.specs.File.{Table, trailer, version, records, tableOf, bytesOf, ofStates}
 use Rattle.format.specs.Maps.{classes}
 use Rattle.format.specs.declared.Starts.{Starts}
 use Rattle.format.proofs.Passed.{read-passed, formed-tested}
@@ -28,14 +28,14 @@ use Rattle.table.proofs.Parts.{symbols-read, states-read, internals-read, calls
 use Rattle.reach.specs.Tops.{live, liveReturns}
 use Rattle.relations.specs.Check.{checkNumber}
 use Rattle.maps.specs.Sections.{Known}
-use Rattle.matching.specs.Matching.{ofStates, kept}
+use Rattle.matching.specs.Matching.{kept}
 use Rattle.matching.proofs.Matched.{move-kept, return-kept}
 use Rattle.quotients.specs.Quotient.{image, images, memberHas, classMark, classByte, quotientTable, quotientBytes, quotientNumber, quotientOf}
 use Rattle.table.specs.Keys.{key}
 use Rattle.table.proofs.Keys.{part-bytes}
 use Rattle.quotients.specs.declared.Written.the-variants.{Length, Refused}
 use Rattle.quotients.proofs.Image.{images-mem, images-length, image-length}
-use Rattle.writing.specs.Keys.{lastBytes, Holds}
+use Rattle.writing.specs.Keys.{recordOf, Holds}
 use Rattle.writing.specs.Tables.{keyedTable, writtenFor}
 use Rattle.writing.proofs.Keys.{Same, keys-back}
 use Rattle.writing.proofs.Whole.{bytes-long}
@@ -125,7 +125,7 @@ module _ (w : ℕ) (l : w ≤ 4) (s f m : List ℕ) (bs : Bytes s) (bm : Bytes m
           let k = keep-mem (kept f) (records w s) x q .0 in
           subst (Same w) e (image-length m x ∙ records-wide w s x k, image-bytes m x bm (parts-bytes (length s / w) w s bs x k))
 
-  pub images-back : map (lastBytes w) (imageKeys w s f m) ≡ images m (keep (kept f) (records w s))
+  pub images-back : map (recordOf w) (imageKeys w s f m) ≡ images m (keep (kept f) (records w s))
   images-back = keys-back w l (images m (keep (kept f) (records w s))) images-same
 
 -- moves are kept, and returns where they are live
@@ -183,10 +183,10 @@ module _ {b f : List ℕ} {s : Starts} (k : Known b s f) {symbols states interna
     bytes : {x : List ℕ} (w : Section) → x ≡ partOf b s w → Bytes x
     bytes w e = subst Bytes (sym e) (section-bytes b s w bb)
 
-    moves-again : (x : List ℕ) → Bytes x → map (lastBytes 3) (imageKeys 3 x f m) ≡ images m (records 3 x)
+    moves-again : (x : List ℕ) → Bytes x → map (recordOf 3) (imageKeys 3 x f m) ≡ images m (records 3 x)
     moves-again x h = images-back 3 (omega arith) x f m h bm ∙ ap (images m) (moves-kept x f)
 
-    returns-again : map (lastBytes 4) (imageKeys 4 returns f m) ≡ images m (liveReturns (tableOf b))
+    returns-again : map (recordOf 4) (imageKeys 4 returns f m) ≡ images m (liveReturns (tableOf b))
     unfolding liveReturns
     returns-again =
         images-back 4 (omega arith) returns f m (bytes Returns e4) bm

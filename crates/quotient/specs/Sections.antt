@@ -4,9 +4,9 @@ use Prim.Native.Nat.{ℕ, _≤_}
 use lib.ListN.{length}
 use Rattle.lists.specs.Lists.{keep}
 use Rattle.limits.specs.Limits.{symbolMost}
-use Rattle.format.specs.File.{Table, records}
+use Rattle.format.specs.File.{Table, records, ofStates}
 use Rattle.format.specs.Maps.{classes}
-use Rattle.matching.specs.Matching.{ofStates, kept}
+use Rattle.matching.specs.Matching.{kept}
 use Rattle.quotients.specs.Quotient.{images}
 use Rattle.members.specs.Classes.{classBytes}
 use Rattle.writing.specs.Keys.{keysOf}

@@ -25,7 +25,7 @@ use Rattle.format.specs.Reading.{isInitial}
 use Rattle.format.specs.Language.{count, byteOf, automaton}
 use Rattle.reach.specs.Tops.{topNamed, add, live, byCalls, byReturns, round, rounds, startWords, topWordsAt}
 use Rattle.reach.proofs.Bounded.{Bounded, an-internal, a-call, a-return, lawful}
-use Rattle.reach.proofs.Walks.{Below, below-refl, below-trans, add-bit, add-own, length-add, internalStep, callStep, returnStep, walk, round-walk, internal-grows, call-grows, return-grows, internal-step, call-step, return-step, walk-keeps, walk-longer, walk-wide, walk-at}
+use Rattle.reach.proofs.Walks.{InWords, below-refl, below-trans, add-bit, add-own, length-add, internalStep, callStep, returnStep, walk, round-walk, internal-grows, call-grows, return-grows, internal-step, call-step, return-step, walk-keeps, walk-longer, walk-wide, walk-at}
 
 -- ---- the numbers of tops
 
@@ -141,7 +141,7 @@ module _ {most : ℕ} {t : Table} (bounded : Bounded most t) where
   bits : List ℕ → ℕ
   bits f = length (keep (λ c. has f (c .0) (c .1)) cells)
 
-  round-longer : (f : List ℕ) → Below f (round t f)
+  round-longer : (f : List ℕ) → InWords f (round t f)
   round-longer f =
       rw (round-walk t f)
       (below-trans (walk-longer internalStep internal-grows (t .internals) f)
@@ -157,7 +157,7 @@ module _ {most : ℕ} {t : Table} (bounded : Bounded most t) where
 
   record Settled (f g : List ℕ) : Type 0 where
     sound : Sound g
-    longer : Below f g
+    longer : InWords f g
     fixed : round t g ≡ g
 
   settled : (k : ℕ) (f : List ℕ) → Sound f → length cells < bits f + k → Settled f (rounds k t f)
@@ -181,10 +181,10 @@ module _ {most : ℕ} {t : Table} (bounded : Bounded most t) where
     abbrev second : List ℕ
     second = walk callStep (t .calls) first
 
-    last : Below second g
+    last : InWords second g
     last = rw (sym (round-walk t g) ∙ fixed) at (walk-longer returnStep return-grows (t .returns) second)
 
-    middle : Below first g
+    middle : InWords first g
     middle = below-trans (walk-longer callStep call-grows (t .calls) first) last
 
     internal-closed : (r : List ℕ) → List·Memᴰ r (t .internals) → (x : ℕ) → Bit (getD g (getD r 0 0) 0) x → Bit (getD g (getD r 2 0) 0) x
@@ -208,7 +208,7 @@ module _ {most : ℕ} {t : Table} (bounded : Bounded most t) where
         let h = k .3 .keeps (getD r 3 0) x (rw (return-step r (k .0) (j .keeps _ _ b)) (add-own (k .0) _ _ x l (j .keeps _ x c))) in
         rw (sym (round-walk t g) ∙ fixed) at h
 
-    module _ (started : Below (startWords most t) g) where
+    module _ (started : InWords (startWords most t) g) where
       bottom-found : (q : ℕ) → byteOf t q % 2 ≡ 1 → Bit (getD g q 0) most
       unfolding isInitial
       bottom-found q i =
@@ -233,7 +233,7 @@ module _ {most : ℕ} {t : Table} (bounded : Bounded most t) where
       settled _ _ start-sound (omega arith)
 
   -- from any words that hold tops only, and those at the start, the rounds come to the same rest
-  pub rounds-alike : (f : List ℕ) → Sound f → Below (startWords most t) f → rounds (suc (count t * suc (count t))) t f ≡ rounded
+  pub rounds-alike : (f : List ℕ) → Sound f → InWords (startWords most t) f → rounds (suc (count t * suc (count t))) t f ≡ rounded
   unfolding cells
   rounds-alike f s b =
       let e : length cells ≡ count t * suc (count t) = length-grid (upto (count t)) (most ∷ upto (count t)) ∙ ap (λ n. n * suc n) (length-upto (count t)) in

@@ -17,13 +17,13 @@ use Rattle.format.specs.File.{Table}
 use Rattle.reach.specs.Tops.{add, byInternals, byCalls, byReturns, live, round}
 
 -- each word of f is within that of g
-pub record Below (f g : List ℕ) : Type 0 where
+pub record InWords (f g : List ℕ) : Type 0 where
   pub keeps : (q x : ℕ) → Bit (getD f q 0) x → Bit (getD g q 0) x
 
-pub below-refl : (f : List ℕ) → Below f f
+pub below-refl : (f : List ℕ) → InWords f f
 below-refl f = record { keeps = λ q x b. b }
 
-pub below-trans : {f g h : List ℕ} → Below f g → Below g h → Below f h
+pub below-trans : {f g h : List ℕ} → InWords f g → InWords g h → InWords f h
 below-trans a b = record { keeps = λ q x c. b .keeps q x (a .keeps q x c) }
 
 -- ---- add
@@ -47,7 +47,7 @@ add-bit f q w p x h = go (ℕ-discrete p q) (decLt q (length f))
         let k : length (add f q w) ≤ p = simp length-set (omega arith) in
         absurd (no-bit x (rw (List·getD-eq-default (add f q w) 0 k) at h))
 
-pub add-below : (f : List ℕ) (q w : ℕ) → Below f (add f q w)
+pub add-below : (f : List ℕ) (q w : ℕ) → InWords f (add f q w)
 unfolding add
 add-below f q w = record { keeps = λ p x b. go p x b (ℕ-discrete p q) (decLt q (length f)) }
   where
@@ -113,7 +113,7 @@ round-walk t f = returns-walk (t .returns) _ ∙ ap (walk returnStep (t .returns
 -- ---- a step that only adds
 
 pub record Grows (step : List ℕ → List ℕ → List ℕ) : Type 0 where
-  pub longer : (r f : List ℕ) → Below f (step r f)
+  pub longer : (r f : List ℕ) → InWords f (step r f)
   pub wide : (r f : List ℕ) → length (step r f) ≡ length f
 
 pub internal-grows : Grows internalStep
@@ -124,7 +124,7 @@ pub call-grows : Grows callStep
 unfolding callStep byCalls
 call-grows = record { longer = λ r f. below r f (eqb (getD f (getD r 0 0) 0) 0); wide = λ r f. wide r f (eqb (getD f (getD r 0 0) 0) 0) }
   where
-    below : (r f : List ℕ) (b : Bool) → Below f (elim b [ true ↦ f | false ↦ add f (getD r 2 0) (2 ^ getD r 0 0) ])
+    below : (r f : List ℕ) (b : Bool) → InWords f (elim b [ true ↦ f | false ↦ add f (getD r 2 0) (2 ^ getD r 0 0) ])
     below r f true = below-refl f
     below r f false = add-below f _ _
 
@@ -136,7 +136,7 @@ pub return-grows : Grows returnStep
 unfolding returnStep byReturns
 return-grows = record { longer = λ r f. below r f (live f r); wide = λ r f. wide r f (live f r) }
   where
-    below : (r f : List ℕ) (b : Bool) → Below f (elim b [ true ↦ add f (getD r 3 0) (getD f (getD r 2 0) 0) | false ↦ f ])
+    below : (r f : List ℕ) (b : Bool) → InWords f (elim b [ true ↦ add f (getD r 3 0) (getD f (getD r 2 0) 0) | false ↦ f ])
     below r f true = add-below f _ _
     below r f false = below-refl f
 
@@ -151,14 +151,14 @@ walk-keeps P step [] f h p = p
 walk-keeps P step (r ∷ rs) f h p = walk-keeps P step rs (step r f) (λ s m. h s (List·Memᴰ·tail m)) (h r (List·Memᴰ·head refl) f p)
 
 module _ (step : List ℕ → List ℕ → List ℕ) (grows : Grows step) where
-  pub walk-longer : (rs : List (List ℕ)) (f : List ℕ) → Below f (walk step rs f)
-  walk-longer rs f = walk-keeps (Below f) step rs f (λ r m g h. below-trans h (grows .longer r g)) (below-refl f)
+  pub walk-longer : (rs : List (List ℕ)) (f : List ℕ) → InWords f (walk step rs f)
+  walk-longer rs f = walk-keeps (InWords f) step rs f (λ r m g h. below-trans h (grows .longer r g)) (below-refl f)
 
   pub walk-wide : (rs : List (List ℕ)) (f : List ℕ) → length (walk step rs f) ≡ length f
   walk-wide rs f = walk-keeps (λ g. length g ≡ length f) step rs f (λ r m g h. grows .wide r g ∙ h) refl
 
   -- the step of a record among them was made from words no smaller than the first ones, and nothing of it was lost
-  pub walk-at : (rs : List (List ℕ)) (f r : List ℕ) → List·Memᴰ r rs → (g : List ℕ) × Below f g × (length g ≡ length f) × Below (step r g) (walk step rs f)
+  pub walk-at : (rs : List (List ℕ)) (f r : List ℕ) → List·Memᴰ r rs → (g : List ℕ) × InWords f g × (length g ≡ length f) × InWords (step r g) (walk step rs f)
   unfolding walk
   walk-at [] f r m = elim m [ ]
   walk-at (s ∷ rs) f r (List·Memᴰ·head e) = (f, below-refl f, refl, rw e (walk-longer rs (step s f)))

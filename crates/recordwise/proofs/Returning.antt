@@ -14,7 +14,7 @@ use lib.Dec.{eqb}
 use Rattle.lists.specs.Lists.{gather, keep, upto}
 use Rattle.lists.specs.Bits.{hasBit, has}
 use Rattle.lists.proofs.Bits.{no-bit}
-use Rattle.lists.proofs.Lowest.{Lowest, trailing-lowest, keep-none, keep-lowest, bit-le}
+use Rattle.lists.proofs.Lowest.{LowestBit, trailing-lowest, keep-none, keep-lowest, bit-le}
 use Rattle.limits.specs.Limits.{stateMost}
 use Rattle.format.specs.File.{records}
 use Rattle.format.specs.Language.{targets}
@@ -68,7 +68,7 @@ module _ (g : ℕ → List (List ℕ)) (n : ℕ) where
 
 module _ {g : ℕ → List (List ℕ)} {n : ℕ} {all : List (List ℕ)} {start : State} {rest : ℕ} {now : State} (w : Toward g n all start rest now) where
   module _ {u : ℕ} (d : rest ≢ 0) (e : u ≡ trailingZeros 64 rest) where
-    low : Lowest rest u
+    low : LowestBit rest u
     low = rw e (trailing-lowest 64 rest (w .small) d .1)
 
     -- what is left is less

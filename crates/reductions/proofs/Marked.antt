@@ -16,7 +16,7 @@ use Rattle.pairs.specs.Triangles.{past, triangle, triangles}
 use Rattle.format.specs.Limits.{longest}
 use Rattle.format.specs.File.{word16, trailer, distance, version, start, records, tableOf, bytes16, fromReturns, fromCalls, fromInternals, fromStates, fromSymbols, trailerOf, bytesOf}
 use Rattle.format.specs.Reading.{lengthFits, versionFits, distancesFit, countsFit, stateByteMost, bytesFit, isInitial, isAccepting, startFits, recordFits, recordsFit, before, ascendFrom, ascend, orderFits, tableTests, readNumber}
-use Rattle.format.specs.Language.{markOf, look, targets}
+use Rattle.format.specs.Language.{markOf, agreedOn, targets}
 use Rattle.format.specs.Maps.{joins, classes, numberedFrom, numbered}
 use Rattle.reach.specs.Tops.{add, byInternals, byCalls, live, byReturns, round, rounds, startWords, topWordsAt, topCount, topsOf, liveReturns}
 use Rattle.encoding.specs.Clauses.{opposite, once, tidy, lookClauses, transitivity, premise, matching, moveClause, moveClauses, returnClause, topStates, returnClauses, clauseList, clauseWords, shortList, shortWords, clausesNumber, clausesOf, listedNumber, listedValues}
@@ -123,11 +123,11 @@ said =
 -- M1 to M14 (M9 as request (viii) has it), the clause count and word count of T, what the program prints for T, three states with one guess,
 -- whose budget is found spent at a rest with one pair joined, and of request (v), that "named" and "located" are never joined, and a quotient of version 2
 pub marked : answers ≡ said
-unfolding answers said checked searching writing reducing any all keep gather upto mem same parts flat over firstFailed limitsFit has hasBit onesOver onesIn wordsOf clausesWithin clausesIn wholeWithin whole distinct clauseFits isRight isUnset byUnset seen both scan undo lowestUnset decide act step run searchFrom onlyTrue satisfied trueCount notFalse better ceilingBy rested tried runTried searchTried longest word16 trailer distance version start records tableOf bytes16 fromReturns fromCalls fromInternals fromStates fromSymbols trailerOf bytesOf lengthFits versionFits distancesFit countsFit stateByteMost bytesFit isInitial isAccepting startFits recordFits recordsFit before ascendFrom ascend orderFits tableTests readNumber markOf look targets joins classes numberedFrom numbered add byInternals byCalls live byReturns round rounds startWords topWordsAt topCount topsOf liveReturns pairs variableOf opposite once tidy lookClauses past triangle triangles transitivity premise matching moveClause moveClauses returnClause topStates returnClauses clauseList clauseWords shortList shortWords clausesNumber clausesOf listedNumber listedValues joinedBy nextClass mapOf listFits searchNumber searched searchAt searchOf solutionNumber solutionValues looksAgree moveMatched movesMatched returnMatched returnsMatched mapTests checkNumber checkOf checkedNumber checkedValues image insert ascending images memberHas bitOf markAmong classMark classByte quotientTable quotientBytes quotientNumber quotientOf writtenNumber writtenValues beforeSearch triedOfTable joinedPairs deliver afterSearch reduceOf reductionNumber reductionValues
+unfolding answers said checked searching writing reducing any all keep gather upto mem same parts flat over firstFailed limitsFit has hasBit onesOver onesIn wordsOf clausesWithin clausesIn wholeWithin whole distinct clauseFits isRight isUnset byUnset seen both scan undo lowestUnset decide act step run searchFrom onlyTrue satisfied trueCount notFalse better ceilingBy rested tried runTried searchTried longest word16 trailer distance version start records tableOf bytes16 fromReturns fromCalls fromInternals fromStates fromSymbols trailerOf bytesOf lengthFits versionFits distancesFit countsFit stateByteMost bytesFit isInitial isAccepting startFits recordFits recordsFit before ascendFrom ascend orderFits tableTests readNumber markOf agreedOn targets joins classes numberedFrom numbered add byInternals byCalls live byReturns round rounds startWords topWordsAt topCount topsOf liveReturns pairs variableOf opposite once tidy lookClauses past triangle triangles transitivity premise matching moveClause moveClauses returnClause topStates returnClauses clauseList clauseWords shortList shortWords clausesNumber clausesOf listedNumber listedValues joinedBy nextClass mapOf listFits searchNumber searched searchAt searchOf solutionNumber solutionValues looksAgree moveMatched movesMatched returnMatched returnsMatched mapTests checkNumber checkOf checkedNumber checkedValues image insert ascending images memberHas bitOf markAmong classMark classByte quotientTable quotientBytes quotientNumber quotientOf writtenNumber writtenValues beforeSearch triedOfTable joinedPairs deliver afterSearch reduceOf reductionNumber reductionValues
 marked = refl
 
 -- the order of reduce's refusals: an unreadable table before a short map buffer, that before a short clause buffer, and that before a short
 -- output, judged on the map delivered: 35 bytes where no guess is permitted, else 31
 pub order : map (λ a. reductionNumber (a .answer)) (reduceOf standard [] 0 [] [] [] ∷ reduceOf standard T 0 [] [] [] ∷ reduceOf standard T 0 (replicate 23 0) (replicate 4 0) [] ∷ reduceOf standard T 0 (replicate 24 0) (replicate 4 0) (replicate 34 0) ∷ reduceOf standard T 0 (replicate 24 0) (replicate 4 0) (replicate 35 0) ∷ reduceOf standard T 1 (replicate 24 0) (replicate 4 0) (replicate 30 0) ∷ reduceOf standard T 1 (replicate 24 0) (replicate 4 0) (replicate 31 0) ∷ []) ≡ 1 ∷ 22 ∷ 10 ∷ 21 ∷ 0 ∷ 21 ∷ 0 ∷ []
-unfolding any all keep gather upto mem same parts flat over firstFailed limitsFit has hasBit onesOver onesIn wordsOf clausesWithin clausesIn wholeWithin whole distinct clauseFits isRight isUnset byUnset seen both scan undo lowestUnset decide act step run searchFrom onlyTrue satisfied trueCount notFalse better ceilingBy rested tried runTried searchTried longest word16 trailer distance version start records tableOf bytes16 fromReturns fromCalls fromInternals fromStates fromSymbols trailerOf bytesOf lengthFits versionFits distancesFit countsFit stateByteMost bytesFit isInitial isAccepting startFits recordFits recordsFit before ascendFrom ascend orderFits tableTests readNumber markOf look targets joins classes numberedFrom numbered add byInternals byCalls live byReturns round rounds startWords topWordsAt topCount topsOf liveReturns pairs variableOf opposite once tidy lookClauses past triangle triangles transitivity premise matching moveClause moveClauses returnClause topStates returnClauses clauseList clauseWords shortList shortWords clausesNumber clausesOf listedNumber listedValues joinedBy nextClass mapOf listFits searchNumber searched searchAt searchOf solutionNumber solutionValues looksAgree moveMatched movesMatched returnMatched returnsMatched mapTests checkNumber checkOf checkedNumber checkedValues image insert ascending images memberHas bitOf markAmong classMark classByte quotientTable quotientBytes quotientNumber quotientOf writtenNumber writtenValues beforeSearch triedOfTable joinedPairs deliver afterSearch reduceOf reductionNumber reductionValues
+unfolding any all keep gather upto mem same parts flat over firstFailed limitsFit has hasBit onesOver onesIn wordsOf clausesWithin clausesIn wholeWithin whole distinct clauseFits isRight isUnset byUnset seen both scan undo lowestUnset decide act step run searchFrom onlyTrue satisfied trueCount notFalse better ceilingBy rested tried runTried searchTried longest word16 trailer distance version start records tableOf bytes16 fromReturns fromCalls fromInternals fromStates fromSymbols trailerOf bytesOf lengthFits versionFits distancesFit countsFit stateByteMost bytesFit isInitial isAccepting startFits recordFits recordsFit before ascendFrom ascend orderFits tableTests readNumber markOf agreedOn targets joins classes numberedFrom numbered add byInternals byCalls live byReturns round rounds startWords topWordsAt topCount topsOf liveReturns pairs variableOf opposite once tidy lookClauses past triangle triangles transitivity premise matching moveClause moveClauses returnClause topStates returnClauses clauseList clauseWords shortList shortWords clausesNumber clausesOf listedNumber listedValues joinedBy nextClass mapOf listFits searchNumber searched searchAt searchOf solutionNumber solutionValues looksAgree moveMatched movesMatched returnMatched returnsMatched mapTests checkNumber checkOf checkedNumber checkedValues image insert ascending images memberHas bitOf markAmong classMark classByte quotientTable quotientBytes quotientNumber quotientOf writtenNumber writtenValues beforeSearch triedOfTable joinedPairs deliver afterSearch reduceOf reductionNumber reductionValues
 order = refl

@@ -14,7 +14,7 @@ use Rattle.vpa.proofs.Relations.{Matched}
 use Rattle.limits.specs.declared.Limits.{Limits}
 use Rattle.format.specs.File.{Table}
 use Rattle.format.specs.Reading.{WellFormed}
-use Rattle.format.specs.Language.{count, byteOf, look, targets, automaton}
+use Rattle.format.specs.Language.{count, byteOf, agreedOn, targets, automaton}
 use Rattle.format.specs.Maps.{classOf, joins, JoinedBy}
 use Rattle.format.proofs.Facts.{Fit, internals-fit, calls-fit, returns-fit, three-bytes, four-bytes, targets-mem, mem-targets, look-accepting, look-mark, agreed-look}
 use Rattle.reach.specs.Tops.{topWords}
@@ -42,13 +42,13 @@ module _ (t : Table) (m : List ℕ) where
     any-reaches (q', k, e) = any-of (joins m p') (targets rs key) q' (mem-targets rs key q' k) (joins-of m p' q' e)
 
   -- (i)
-  pub looks-true : looksAgree t m ≡ true → (p q : ℕ) → JoinedBy t m p q → look (byteOf t p) ≡ look (byteOf t q)
+  pub looks-true : looksAgree t m ≡ true → (p q : ℕ) → JoinedBy t m p q → agreedOn (byteOf t p) ≡ agreedOn (byteOf t q)
   unfolding looksAgree
   looks-true e p q j =
       eqb-true _ _
       (gives (joins m p q) _ (all-true _ (upto (count t)) (all-true _ (upto (count t)) e p (upto-of (count t) p (j .left))) q (upto-of (count t) q (j .right))) (joins-of m p q (j .classes)))
 
-  pub looks-test : ((p q : ℕ) → JoinedBy t m p q → look (byteOf t p) ≡ look (byteOf t q)) → looksAgree t m ≡ true
+  pub looks-test : ((p q : ℕ) → JoinedBy t m p q → agreedOn (byteOf t p) ≡ agreedOn (byteOf t q)) → looksAgree t m ≡ true
   unfolding looksAgree
   looks-test h = all-of _ (upto (count t)) (λ p mp. all-of _ (upto (count t)) (λ q mq. gives-of (joins m p q) _ (λ e.
       eq-eqb _ _ (h p q (record { left = upto-mem (count t) p mp; right = upto-mem (count t) q mq; classes = joins-true m p q e })))))
@@ -110,14 +110,14 @@ module _ (t : Table) (m : List ℕ) where
             any-reaches rs (q ∷ a ∷ u ∷ []) p' (fit .wide) (r .0, r .1, r .2 .classes)
 
 -- the four tests together
-pub record Passed (t : Table) (m : List ℕ) : Type 0 where
+pub record TestsPass (t : Table) (m : List ℕ) : Type 0 where
   pub looks : looksAgree t m ≡ true
   pub internals : movesMatched (t .internals) (count t) m ≡ true
   pub calls : movesMatched (t .calls) (count t) m ≡ true
   pub returns : returnsMatched (topWords t) (t .returns) (count t) m ≡ true
 
 module _ (L : Limits) (t : Table) (wf : WellFormed L t) (m : List ℕ) where
-  pub passed-matched : Passed t m → Matched (automaton t) (JoinedBy t m)
+  pub passed-matched : TestsPass t m → Matched (automaton t) (JoinedBy t m)
   passed-matched h = record {
     accepting = λ {p} {q} j. look-accepting t p q (looks-true t m (h .looks) p q j);
     marks = λ {p} {q} j. look-mark t p q (j .right) (looks-true t m (h .looks) p q j);
@@ -126,7 +126,7 @@ module _ (L : Limits) (t : Table) (wf : WellFormed L t) (m : List ℕ) where
     returns = λ {p} {q} {s} {u} {p'} {a} j i tp tq k. returns-true t m (topWords t) (t .returns) (returns-fit wf) (h .returns) p q s u p' a j i (told wf p s (i .left) .1 tp) (told wf q u (i .right) .1 tq) k;
   }
 
-  pub matched-passed : ((p q : ℕ) → JoinedBy t m p q → automaton t .accepting p ↔ automaton t .accepting q) → Matched (automaton t) (JoinedBy t m) → Passed t m
+  pub matched-passed : ((p q : ℕ) → JoinedBy t m p q → automaton t .accepting p ↔ automaton t .accepting q) → Matched (automaton t) (JoinedBy t m) → TestsPass t m
   matched-passed agree h = record {
     looks = looks-test t m (λ p q j. agreed-look t p q (j .left) (agree p q j) (λ k. h .marks j));
     internals = moves-test t m 0 (t .internals) (internals-fit wf) (λ p q p' a j k. h .internals j k);

@@ -9,7 +9,7 @@ use Rattle.lists.specs.Bits.{has}
 use Rattle.limits.specs.declared.Limits.{Limits}
 use Rattle.format.specs.File.{Table, tableOf}
 use Rattle.format.specs.Reading.{readNumber}
-use Rattle.format.specs.Language.{count, byteOf, look, targets}
+use Rattle.format.specs.Language.{count, byteOf, agreedOn, targets}
 use Rattle.format.specs.Maps.{joins, classes, numbered}
 use Rattle.reach.specs.Tops.{topWords}
 use Rattle.relations.specs.declared.Checked.{Checked}
@@ -17,7 +17,7 @@ use Rattle.relations.specs.declared.Checked.the-variants.{Accepted, Refu
 
 -- (i) "joined states agree on accepting"; request (v): "on mark and accepting"
 unfoldable pub looksAgree : Table → List ℕ → Bool
-looksAgree t m = all (λ p. all (λ q. not (joins m p q) || eqb (look (byteOf t p)) (look (byteOf t q))) (upto (count t))) (upto (count t))
+looksAgree t m = all (λ p. all (λ q. not (joins m p q) || eqb (agreedOn (byteOf t p)) (agreedOn (byteOf t q))) (upto (count t))) (upto (count t))
 
 -- a record (p, a, p') and a state q: where q is joined to p, it has a record with symbol a "to a joined target"
 unfoldable pub moveMatched : List (List ℕ) → List ℕ → ℕ → ℕ → ℕ → ℕ → Bool

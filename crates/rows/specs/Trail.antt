@@ -41,7 +41,7 @@ pub record Worked (cs : List (List ℕ)) (v t : List ℕ) (count : ℕ) (w s : L
   pub breaking : isBroken ≡ true → Found w cs broken
 
 -- one pass over the clauses: each is settled, or one of its variables was set
-pub record Passed (cs : List (List ℕ)) (v t : List ℕ) (count : ℕ) (w s : List ℕ) (isBroken : Bool) (more : ℕ) : Type 0 where
+pub record OnePass (cs : List (List ℕ)) (v t : List ℕ) (count : ℕ) (w s : List ℕ) (isBroken : Bool) (more : ℕ) : Type 0 where
   pub worked : Worked cs v t count w s isBroken more
   pub waiting : isBroken ≡ false → Waiting cs w (worked .grown .new)
 

@@ -10,7 +10,7 @@ use lib.Dec.{eqb}
 use borrow.Author.Tests.{eqb-true, eqb-false}
 use Rattle.lists.specs.Bits.{Bit}
 use Rattle.reach.specs.Tops.{add}
-use Rattle.reach.proofs.Walks.{Below, below-refl, below-trans, length-add, add-bit, add-own, add-below}
+use Rattle.reach.proofs.Walks.{InWords, below-refl, below-trans, length-add, add-bit, add-own, add-below}
 use Rattle.scripts.specs.Script.{Level, gains, gained}
 
 module _ (gain : List ℕ → ℕ) (to a : ℕ) where
@@ -39,11 +39,11 @@ module _ (gain : List ℕ → ℕ) (to a : ℕ) where
         go true = length-add g _ _
         go false = refl
 
-    gains-below : Below g (gains gain to a r g)
+    gains-below : InWords g (gains gain to a r g)
     unfolding gains by-test
     gains-below = go (eqb (getD r 1 0) a)
       where
-        go : (t : Bool) → Below g (by-test t)
+        go : (t : Bool) → InWords g (by-test t)
         go true = add-below g _ _
         go false = below-refl g
 
@@ -69,7 +69,7 @@ module _ (gain : List ℕ → ℕ) (to a : ℕ) where
 
   -- ---- all of them
 
-  gained-below : (rs : List (List ℕ)) (g : Level) → Below g (gained gain to a rs g)
+  gained-below : (rs : List (List ℕ)) (g : Level) → InWords g (gained gain to a rs g)
   unfolding gained
   gained-below [] g = below-refl g
   gained-below (r ∷ rs) g = below-trans (gains-below r g) (gained-below rs (gains gain to a r g))

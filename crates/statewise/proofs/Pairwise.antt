@@ -7,6 +7,7 @@ use native.Mathlib.Omega.{arith}
 use lib.ListN.{length, getD}
 use lib.Dec.{eqb}
 use borrow.Author.Tests.{eq-eqb, ne-eqb}
+use Rattle.format.specs.File.{ofStates}
 use Rattle.lists.specs.Lists.{any, mem, gather, upto}
 use Rattle.limits.specs.Limits.{stateMost}
 use Rattle.pairs.specs.declared.Pair.{Pair}
@@ -15,11 +16,11 @@ use Rattle.pairs.specs.Entries.{pairIn, PairTable}
 use Rattle.pairs.specs.Triangles.{together, apart, triangle}
 use Rattle.pairs.proofs.Pairs.{pair-ordered, pair-below, variable-pair}
 use Rattle.pairs.proofs.Entries.{pair-found}
-use Rattle.format.specs.Language.{look}
+use Rattle.format.specs.Language.{agreedOn}
 use Rattle.encoding.specs.Clauses.{lookClauses}
 use Rattle.emit.specs.declared.literals.Literals.{Literals}
 use Rattle.emit.specs.Emit.{literalsOf, withLiteral, Holds, State, emit}
-use Rattle.statewise.specs.Alone.{statesOnly, lookClause}
+use Rattle.statewise.specs.Alone.{lookClause}
 use Rattle.emit.proofs.Stepping.{gather-pairs}
 
 -- ---- group 1
@@ -44,25 +45,25 @@ unfolding withLiteral mem any
 alone h k = rw (h .same) at k
 
 module _ (s : List ℕ) {v low high : ℕ} (w : Placed (length s) v low high) where
-  looks : (b : Bool) → eqb (getD s low 0 / 2) (getD s high 0 / 2) ≡ b → lookClause (statesOnly s) (pairOf v .low) (pairOf v .high) ≡ elim b [ true ↦ [] | false ↦ ((2 * v + 1) ∷ []) ∷ [] ]
-  unfolding lookClause look
+  looks : (b : Bool) → eqb (getD s low 0 / 2) (getD s high 0 / 2) ≡ b → lookClause (ofStates s) (pairOf v .low) (pairOf v .high) ≡ elim b [ true ↦ [] | false ↦ ((2 * v + 1) ∷ []) ∷ [] ]
+  unfolding lookClause agreedOn
   looks b e =
       let f : eqb (getD s (pairOf v .low) 0 / 2) (getD s (pairOf v .high) 0 / 2) ≡ b = (λ i. eqb (getD s (sym (w .low-is) i) 0 / 2) (getD s (sym (w .high-is) i) 0 / 2)) ∙ e in
       λ i. elim (f i) as (λ _. List (List ℕ)) [ true ↦ [] | false ↦ ((2 * variable-pair v i + 1) ∷ []) ∷ [] ]
 
-  pub look-same : (t : State) → getD s low 0 / 2 ≡ getD s high 0 / 2 → t ≡ emit (lookClause (statesOnly s) (pairOf v .low) (pairOf v .high)) t
+  pub look-same : (t : State) → getD s low 0 / 2 ≡ getD s high 0 / 2 → t ≡ emit (lookClause (ofStates s) (pairOf v .low) (pairOf v .high)) t
   unfolding emit
   look-same t e = sym (ap (λ cs. emit cs t) (looks true (eq-eqb _ _ e)))
 
-  pub look-other : (t : State) {next : State} {c : Literals} → (getD s low 0 / 2 ≡ getD s high 0 / 2 → ⊥) → Holds c ((2 * v + 1) ∷ []) → next ≡ emit (literalsOf c ∷ []) t → next ≡ emit (lookClause (statesOnly s) (pairOf v .low) (pairOf v .high)) t
+  pub look-other : (t : State) {next : State} {c : Literals} → (getD s low 0 / 2 ≡ getD s high 0 / 2 → ⊥) → Holds c ((2 * v + 1) ∷ []) → next ≡ emit (literalsOf c ∷ []) t → next ≡ emit (lookClause (ofStates s) (pairOf v .low) (pairOf v .high)) t
   look-other t d h e = e ∙ ap (λ ls. emit (ls ∷ []) t) (h .same) ∙ sym (ap (λ cs. emit cs t) (looks false (ne-eqb _ _ d)))
 
-look-clauses : (s : List ℕ) → lookClauses (statesOnly s) ≡ gather (λ v. lookClause (statesOnly s) (pairOf v .low) (pairOf v .high)) (upto (pairs (length s)))
+look-clauses : (s : List ℕ) → lookClauses (ofStates s) ≡ gather (λ v. lookClause (ofStates s) (pairOf v .low) (pairOf v .high)) (upto (pairs (length s)))
 unfolding lookClauses lookClause
-look-clauses s = sym (gather-pairs (lookClause (statesOnly s)) (length s))
+look-clauses s = sym (gather-pairs (lookClause (ofStates s)) (length s))
 
-pub looked : (s : List ℕ) {end : ℕ} (start : State) {now : State} → end ≡ pairs (length s) → now ≡ emit (gather (λ v. lookClause (statesOnly s) (pairOf v .low) (pairOf v .high)) (upto end)) start → now ≡ emit (lookClauses (statesOnly s)) start
-looked s start e f = f ∙ ap (λ k. emit (gather (λ v. lookClause (statesOnly s) (pairOf v .low) (pairOf v .high)) (upto k)) start) e ∙ ap (λ cs. emit cs start) (sym (look-clauses s))
+pub looked : (s : List ℕ) {end : ℕ} (start : State) {now : State} → end ≡ pairs (length s) → now ≡ emit (gather (λ v. lookClause (ofStates s) (pairOf v .low) (pairOf v .high)) (upto end)) start → now ≡ emit (lookClauses (ofStates s)) start
+looked s start e f = f ∙ ap (λ k. emit (gather (λ v. lookClause (ofStates s) (pairOf v .low) (pairOf v .high)) (upto k)) start) e ∙ ap (λ cs. emit cs start) (sym (look-clauses s))
 
 -- ---- group 2
 

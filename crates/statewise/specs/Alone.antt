@@ -5,12 +5,8 @@ use Prim.Native.Nat.{ℕ}
 use lib.Dec.{eqb}
 use Rattle.pairs.specs.Triangles.{apart}
 use Rattle.format.specs.File.{Table}
-use Rattle.format.specs.Language.{byteOf, look}
-
--- a table of which only the states are looked at
-abbrev pub statesOnly : List ℕ → Table
-statesOnly states = record { version = 0; symbols = []; states = states; internals = []; calls = []; returns = [] }
+use Rattle.format.specs.Language.{byteOf, agreedOn}
 
 -- group 1, for p below q
 unfoldable pub lookClause : Table → ℕ → ℕ → List (List ℕ)
-lookClause t p q = elim (eqb (look (byteOf t p)) (look (byteOf t q))) [ true ↦ [] | false ↦ (apart p q ∷ []) ∷ [] ]
+lookClause t p q = elim (eqb (agreedOn (byteOf t p)) (agreedOn (byteOf t q))) [ true ↦ [] | false ↦ (apart p q ∷ []) ∷ [] ]

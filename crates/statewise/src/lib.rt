@@ -3,6 +3,7 @@ ghost use mathlib.Core.Path.{_≡_};
 ghost use mathlib.Core.List.{[], _∷_};
 ghost use Prim.Native.Nat.{_<_, _≤_};
 ghost use lib.ListN.{length};
+ghost use Rattle.format.specs.File.{ofStates};
 ghost use Rattle.lists.specs.Lists.{gather};
 ghost use Rattle.limits.specs.Limits.{stateMost};
 ghost use Rattle.pairs.specs.Pairs.{pairs, pairOf};
@@ -10,7 +11,7 @@ ghost use Rattle.pairs.specs.Entries.{PairTable};
 ghost use Rattle.pairs.specs.Triangles.{triangle, past};
 ghost use Rattle.encoding.specs.Clauses.{lookClauses, transitivity};
 ghost use Rattle.emit.specs.Emit.{Holds, state, Ordered, emit};
-ghost use Rattle.statewise.specs.Alone.{statesOnly, lookClause};
+ghost use Rattle.statewise.specs.Alone.{lookClause};
 use emit::Literals;
 use emit::Tally;
 use emit::joined;
@@ -31,7 +32,7 @@ fn wide(x: u8) -> usize
 // The clause of a variable: "false" where exactly one of its states is accepting, or their marks differ.
 fn look_apart(states: &[u8], table: &[u16], v: u16, tally: Tally, list: &mut [u16]) -> Tally
     requires { ⌜ (length (now states) ≤ stateMost) × PairTable (now table) × (v < pairs (length (now states))) × Ordered tally ⌝ }
-    ensures { λ r. ⌜ state r (now (list .exit)) ≡ emit (lookClause (statesOnly (now (states .entry))) (pairOf v .low) (pairOf v .high)) (state tally (now (list .entry))) ⌝ }
+    ensures { λ r. ⌜ state r (now (list .exit)) ≡ emit (lookClause (ofStates (now (states .entry))) (pairOf v .low) (pairOf v .high)) (state tally (now (list .entry))) ⌝ }
 {
     let pair = pair_of(table, v);
     let low = states[wide(pair.low)];
@@ -45,7 +46,7 @@ fn look_apart(states: &[u8], table: &[u16], v: u16, tally: Tally, list: &mut [u1
 // 1. "By ascending variable".
 pub fn looks_apart(states: &[u8], tally: Tally, list: &mut [u16]) -> Tally
     requires { ⌜ (length (now states) ≤ stateMost) × Ordered tally ⌝ }
-    ensures { λ r. ⌜ state r (now (list .exit)) ≡ emit (lookClauses (statesOnly (now (states .entry)))) (state tally (now (list .entry))) ⌝ }
+    ensures { λ r. ⌜ state r (now (list .exit)) ≡ emit (lookClauses (ofStates (now (states .entry)))) (state tally (now (list .entry))) ⌝ }
 {
     let table = pair_table();
     let end = pairs_of(states.len() as u8);
@@ -113,7 +114,7 @@ fn close_from(p: u8, count: u8, tally: Tally, list: &mut [u16]) -> Tally
 // 2. "For p < q < s ascending by p, then q, then s".
 pub fn transitive(states: &[u8], tally: Tally, list: &mut [u16]) -> Tally
     requires { ⌜ (length (now states) ≤ 255) × Ordered tally ⌝ }
-    ensures { λ r. ⌜ state r (now (list .exit)) ≡ emit (transitivity (statesOnly (now (states .entry)))) (state tally (now (list .entry))) ⌝ }
+    ensures { λ r. ⌜ state r (now (list .exit)) ≡ emit (transitivity (ofStates (now (states .entry)))) (state tally (now (list .entry))) ⌝ }
 {
     let count = states.len() as u8;
     let mut at = tally;

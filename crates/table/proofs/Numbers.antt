@@ -203,14 +203,14 @@ module _ {b : List ℕ} {end d0 d1 d2 d3 d4 : ℕ} (w : Words b end d0 d1 d2 d3 
 -- ---- the starts
 
 -- no distance leads before the file
-pub record Within (b : List ℕ) (end : ℕ) : Type 0 where
+pub record NoneBefore (b : List ℕ) (end : ℕ) : Type 0 where
   pub within-0 : word16 b end ≤ end
   pub within-1 : word16 b (end + 2) ≤ end
   pub within-2 : word16 b (end + 4) ≤ end
   pub within-3 : word16 b (end + 6) ≤ end
   pub within-4 : word16 b (end + 8) ≤ end
 
-pub within : (b : List ℕ) (end : ℕ) → end + 12 ≡ length b → distancesFit b ≡ true → Within b end
+pub within : (b : List ℕ) (end : ℕ) → end + 12 ≡ length b → distancesFit b ≡ true → NoneBefore b end
 within b end h e =
     let f = distances-framed b e in
     let t = trailer-end b end h in

@@ -18,7 +18,7 @@ use Rattle.format.specs.Reading.{readNumber, Readable, startsOf, readOf}
 use Rattle.format.specs.declared.Starts.{Starts}
 use Rattle.format.specs.declared.Reading.{Reading}
 use Rattle.format.specs.declared.Reading.the-variants.{Sections as SectionsAt, Refused as RefusedBy}
-use Rattle.format.proofs.Passed.{Passed, read-passed}
+use Rattle.format.proofs.Passed.{ReadPasses, read-passed}
 use Rattle.format.proofs.Bytes.{length-between, length-from, read-well-formed}
 use Rattle.format.proofs.Facts.{internals-fit, calls-fit, returns-fit, most-states}
 use Rattle.table.specs.Sections.{sectioned, partOf, HasRead}
@@ -58,7 +58,7 @@ module _ (states : List ℕ) (internals calls returns : List (List ℕ)) where
 -- ---- the sections
 
 module _ (L : Limits) (b : List ℕ) (readable : Readable L b) where
-  p : Passed L b
+  p : ReadPasses L b
   p = read-passed L b readable
 
   pub sections-read : Sections (slice (start b 1) (start b 2) b) (slice (start b 2) (start b 3) b) (slice (start b 3) (start b 4) b) (slice (start b 4) (trailer b) b)

@@ -164,7 +164,7 @@ fn sum_of(words: &[u64]) -> u64
 }
 
 // All records pass until a round changes nothing: words only gain tops, so their sum tells. So many rounds are enough (reach/proofs/Exact).
-fn rest(states: &[u8], internals: &[u8], calls: &[u8], returns: &[u8], words: &mut [u64])
+fn fixpoint(states: &[u8], internals: &[u8], calls: &[u8], returns: &[u8], words: &mut [u64])
     requires { ⌜ Sections (now states) (now internals) (now calls) (now returns) × Small (now words) ⌝ }
     ensures { λ _. ⌜
         now (words .exit)
@@ -193,7 +193,7 @@ fn words_of(states: &[u8], internals: &[u8], calls: &[u8], returns: &[u8], words
     ensures { λ _. ⌜ now (words .exit) ≡ topWords (sectioned 0 [] (now (states .entry)) (now (internals .entry)) (now (calls .entry)) (now (returns .entry))) ⌝ }
 {
     start_words(states, words);
-    rest(states, internals, calls, returns, words);
+    fixpoint(states, internals, calls, returns, words);
 }
 
 // The number of tops in a word: its ones.

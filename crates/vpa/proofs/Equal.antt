@@ -8,7 +8,7 @@ use Rattle.vpa.specs.Automata.{Automaton, Configuration, Step, internall
 use Rattle.vpa.proofs.Simulation.{Simulation, sim-accepts}
 
 -- what A has, B has
-pub record Within {S : Type 0} (A B : Automaton S) : Type 0 where
+pub record PartOf {S : Type 0} (A B : Automaton S) : Type 0 where
   pub initially : {q : S} → A .initial q → B .initial q
   pub internals : {q q' : S} {a : ℕ} → A .internal q a q' → B .internal q a q'
   pub calls : {q q' : S} {a : ℕ} → A .call q a q' → B .call q a q'
@@ -24,7 +24,7 @@ pub record Same {S : Type 0} (A B : Automaton S) : Type 0 where
   pub returns : (q : S) (a : ℕ) (s q' : S) → A .return q a s q' ↔ B .return q a s q'
 
 module _ {S : Type 0} (A B : Automaton S) where
-  pub same-forth : Same A B → Within A B
+  pub same-forth : Same A B → PartOf A B
   same-forth h = record {
     initially = λ {q} i. h .initially q .0 i;
     internals = λ {q} {q'} {a} r. h .internals q a q' .0 r;
@@ -32,7 +32,7 @@ module _ {S : Type 0} (A B : Automaton S) where
     returns = λ {q} {s} {q'} {a} r. h .returns q a s q' .0 r;
   }
 
-  pub same-back : Same A B → Within B A
+  pub same-back : Same A B → PartOf B A
   same-back h = record {
     initially = λ {q} i. h .initially q .1 i;
     internals = λ {q} {q'} {a} r. h .internals q a q' .1 r;
@@ -40,7 +40,7 @@ module _ {S : Type 0} (A B : Automaton S) where
     returns = λ {q} {s} {q'} {a} r. h .returns q a s q' .1 r;
   }
 
-module _ {S : Type 0} {A B : Automaton S} (within : Within A B) where
+module _ {S : Type 0} {A B : Automaton S} (within : PartOf A B) where
   pub within-step : {c d : Configuration S} {a : ℕ} → Step A c a d → Step B c a d
   within-step (internally r) = internally (within .internals r)
   within-step (calling r) = calling (within .calls r)

@@ -9,7 +9,7 @@ use Rattle.lists.specs.Lists.{flat, gather}
 use Rattle.format.specs.File.{Table, bytes16, fromReturns, fromCalls, fromInternals, fromStates, fromSymbols, trailerOf, bytesOf}
 use Rattle.format.proofs.Passed.{Wide}
 use Rattle.format.proofs.Bytes.{lengths}
-use Rattle.writing.specs.Keys.{lastBytes}
+use Rattle.writing.specs.Keys.{recordOf}
 use Rattle.writing.specs.Tables.{keyedTable, trailerFrom}
 use Rattle.writing.proofs.Keys.{length-last}
 
@@ -33,13 +33,13 @@ module _ (v : ℕ) (y s i c r : List ℕ) where
   behindReturns = trailerFrom v (length y) (length s) (length i) (length c) (length r)
 
   abbrev pub behindCalls : List ℕ
-  behindCalls = gather (lastBytes 4) r ++ behindReturns
+  behindCalls = gather (recordOf 4) r ++ behindReturns
 
   abbrev pub behindInternals : List ℕ
-  behindInternals = gather (lastBytes 3) c ++ behindCalls
+  behindInternals = gather (recordOf 3) c ++ behindCalls
 
   abbrev pub behindStates : List ℕ
-  behindStates = gather (lastBytes 3) i ++ behindInternals
+  behindStates = gather (recordOf 3) i ++ behindInternals
 
   abbrev pub behindSymbols : List ℕ
   behindSymbols = s ++ behindStates
@@ -50,16 +50,16 @@ module _ (v : ℕ) (y s i c r : List ℕ) where
   keyed-wide : Wide keyed
   keyed-wide = record { internals = wide 3 (omega arith) i; calls = wide 3 (omega arith) c; returns = wide 4 (omega arith) r }
     where
-      wide : (w : ℕ) → w ≤ 4 → (ks : List ℕ) (x : List ℕ) → List·Memᴰ x (map (lastBytes w) ks) → length x ≡ w
-      wide w h ks x m = let k = Memᴰ·of-map (lastBytes w) ks m in sym (ap length (k .2)) ∙ length-last w (k .0) h
+      wide : (w : ℕ) → w ≤ 4 → (ks : List ℕ) (x : List ℕ) → List·Memᴰ x (map (recordOf w) ks) → length x ≡ w
+      wide w h ks x m = let k = Memᴰ·of-map (recordOf w) ks m in sym (ap length (k .2)) ∙ length-last w (k .0) h
 
   trailer-again : trailerOf keyed ≡ behindReturns
   unfolding trailerOf trailerFrom
   trailer-again =
       let n = lengths keyed keyed-wide in
-      let i' = length-map i (lastBytes 3) in
-      let c' = length-map c (lastBytes 3) in
-      let r' = length-map r (lastBytes 4) in
+      let i' = length-map i (recordOf 3) in
+      let c' = length-map c (recordOf 3) in
+      let r' = length-map r (recordOf 4) in
       let e4 : length (fromReturns keyed) ≡ 4 * length r = omega arith in
       let e3 : length (fromCalls keyed) ≡ 3 * length c + 4 * length r = omega arith in
       let e2 : length (fromInternals keyed) ≡ 3 * length i + (3 * length c + 4 * length r) = omega arith in
@@ -70,12 +70,12 @@ module _ (v : ℕ) (y s i c r : List ℕ) where
   pub bytes-apart : bytesOf keyed ≡ y ++ behindSymbols
   unfolding bytesOf fromSymbols fromStates fromInternals fromCalls fromReturns
   bytes-apart =
-      (λ j. (y ++ (s ++ (sym (gather-flat (lastBytes 3) i) j ++ (sym (gather-flat (lastBytes 3) c) j ++ sym (gather-flat (lastBytes 4) r) j)))) ++ trailer-again j)
-      ∙ regroup y s (gather (lastBytes 3) i) (gather (lastBytes 3) c) (gather (lastBytes 4) r) behindReturns
+      (λ j. (y ++ (s ++ (sym (gather-flat (recordOf 3) i) j ++ (sym (gather-flat (recordOf 3) c) j ++ sym (gather-flat (recordOf 4) r) j)))) ++ trailer-again j)
+      ∙ regroup y s (gather (recordOf 3) i) (gather (recordOf 3) c) (gather (recordOf 4) r) behindReturns
 
   pub length-trailer : length behindReturns ≡ 12
   unfolding trailerFrom gather bytes16
   length-trailer = refl
 
   pub bytes-long : length (bytesOf keyed) ≡ length y + length s + 3 * length i + 3 * length c + 4 * length r + 12
-  bytes-long = omega (arith, lengths keyed keyed-wide, length-map i (lastBytes 3), length-map c (lastBytes 3), length-map r (lastBytes 4))
+  bytes-long = omega (arith, lengths keyed keyed-wide, length-map i (recordOf 3), length-map c (recordOf 3), length-map r (recordOf 4))

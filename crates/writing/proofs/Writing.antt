@@ -10,7 +10,7 @@ use lib.Seq.{length-take-le, drop-cons, drop-drop, take-all, take-at, drop-at}
 use Rattle.lists.specs.Lists.{gather, over}
 use Rattle.lists.proofs.Copying.{length-over}
 use Rattle.format.specs.File.{bytes16}
-use Rattle.writing.specs.Keys.{bytes32, lastBytes}
+use Rattle.writing.specs.Keys.{bytes32, recordOf}
 
 -- the output in the end is what stands before the place, then what is still to be written over what stands behind it
 pub record Writing (rest end out : List ℕ) (at : ℕ) : Type 0 where
@@ -70,8 +70,8 @@ part-put x out at {ys} e =
 -- ---- numbers, each as bytes of one width
 
 -- the part that was lent to its end
-pub last-part : (w k : ℕ) → w ≤ 4 → take (4 - (4 - w)) (drop (4 - w) (bytes32 k)) ≡ lastBytes w k
-unfolding lastBytes bytes32
+pub last-part : (w k : ℕ) → w ≤ 4 → take (4 - (4 - w)) (drop (4 - w) (bytes32 k)) ≡ recordOf w k
+unfolding recordOf bytes32
 last-part w k h = take-all (4 - (4 - w)) (drop (4 - w) (bytes32 k)) (omega (arith, length-drop (4 - w) (bytes32 k)))
 
 pub length-word : (k : ℕ) → length (bytes16 k) ≡ 2

@@ -8,7 +8,7 @@ use Rattle.lists.specs.Lists.{gather, over}
 use Rattle.format.specs.File.{Table, bytes16}
 use Rattle.quotients.specs.Quotient.{QuotientDone}
 use Rattle.quotients.specs.declared.Written.the-variants.{Length, Refused}
-use Rattle.writing.specs.Keys.{lastBytes}
+use Rattle.writing.specs.Keys.{recordOf}
 
 -- a table of a version whose records are given by their keys
 abbrev pub keyedTable : ℕ → List ℕ → List ℕ → List ℕ → List ℕ → List ℕ → Table
@@ -17,9 +17,9 @@ keyedTable version symbols states internals calls returns =
       version = version;
       symbols = symbols;
       states = states;
-      internals = map (lastBytes 3) internals;
-      calls = map (lastBytes 3) calls;
-      returns = map (lastBytes 4) returns;
+      internals = map (recordOf 3) internals;
+      calls = map (recordOf 3) calls;
+      returns = map (recordOf 4) returns;
     }
 
 -- the trailer of a version behind so many symbols, states, internals, calls and returns

@@ -4,7 +4,7 @@ ghost use Prim.Native.Nat.{_+_, _*_, _^_, _<_, _≤_};
 ghost use lib.ListN.{length};
 ghost use Rattle.lists.specs.Lists.{gather, over};
 ghost use Rattle.format.specs.File.{bytes16, bytesOf};
-ghost use Rattle.writing.specs.Keys.{lastBytes};
+ghost use Rattle.writing.specs.Keys.{recordOf};
 ghost use Rattle.writing.specs.Tables.{keyedTable, trailerFrom};
 
 // Bytes to the front of the remaining output.
@@ -18,7 +18,7 @@ fn put_bytes(bytes: &[u8], out: &mut [u8])
 // A record by its key.
 fn put_key(width: usize, key: u32, out: &mut [u8])
     requires { ⌜ (width ≤ 4) × (width ≤ length (now out)) ⌝ }
-    ensures { λ _. ⌜ now (out .exit) ≡ over (lastBytes width key) (now (out .entry)) ⌝ }
+    ensures { λ _. ⌜ now (out .exit) ≡ over (recordOf width key) (now (out .entry)) ⌝ }
 {
     let bytes = [
         (key / 16777216) as u8,
@@ -32,8 +32,8 @@ fn put_key(width: usize, key: u32, out: &mut [u8])
 
 // The records of keys.
 fn put_keys(width: usize, keys: &[u32], out: &mut [u8])
-    requires { ⌜ (width ≤ 4) × (length (gather (lastBytes width) (now keys)) ≤ length (now out)) ⌝ }
-    ensures { λ _. ⌜ now (out .exit) ≡ over (gather (lastBytes width) (now (keys .entry))) (now (out .entry)) ⌝ }
+    requires { ⌜ (width ≤ 4) × (length (gather (recordOf width) (now keys)) ≤ length (now out)) ⌝ }
+    ensures { λ _. ⌜ now (out .exit) ≡ over (gather (recordOf width) (now (keys .entry))) (now (out .entry)) ⌝ }
 {
     let mut at: usize = 0;
     let mut i: usize = 0;

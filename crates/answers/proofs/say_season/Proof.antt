@@ -11,8 +11,9 @@ cast-result c = search needs
 
 returns : tie.Need-returns
 returns c =
-    let r = c .before .before .args .answer in
-    let v = c .before .before .args .values .now in
+    let the-args = c .before .before .args in
+    let r = the-args .answer in
+    let v = the-args .values .now in
     (refl, sym (stored-none v) ∙ ap (λ vs. stored vs v) (sym (season-refused r (c .if1 .taken))))
 
 slice-aggregate-store : tie.Need-slice-aggregate-store

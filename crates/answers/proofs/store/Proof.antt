@@ -46,7 +46,9 @@ same-length : tie.Need-same-length Inv-values μ-values
 same-length c = laws.same-length (c .before .values .inv)
 
 returns-2 : tie.Need-returns-2 Inv-values μ-values
-returns-2 c = laws.write-all (c .before .values .inv) (c .values-test .left) ∙ sym (stored-all _ _ (c .before .values .inv .room))
+returns-2 c =
+    let the-values = c .before .values in
+    laws.write-all (the-values .inv) (c .values-test .left) ∙ sym (stored-all _ _ (the-values .inv .room))
 
 pub store-spec : {M : Type 1} → statement M
 store-spec =

@@ -8,7 +8,9 @@ use Rattle.answers.proofs.store_words.Statement.{statement}
 use Rattle.answers.proofs.store_words.Tie as tie
 
 returns : tie.Need-returns
-returns c = last-short (c .before .before .args .words .now) _ (c .before .before .args .last) (c .before .before .pre) (c .if1 .taken)
+returns c =
+    let the-args = c .before .before .args in
+    last-short (the-args .words .now) _ (the-args .last) (c .before .before .pre) (c .if1 .taken)
 
 store-requires : tie.Need-store-requires
 store-requires c κs = search needs
@@ -20,7 +22,9 @@ same-length : tie.Need-same-length
 same-length c = search needs
 
 returns-2 : tie.Need-returns-2
-returns-2 c = ap (λ r. set r 40 (c .before .before .before .before .before .before .before .args .last)) (c .before .before .store .ensures) ∙ last-stored (c .before .before .before .before .before .before .before .args .words .now) _ (c .before .before .before .before .before .before .before .args .last) (c .before .before .before .before .before .before .before .pre) (omega (arith, c .before .before .before .before .before .if1 .left))
+returns-2 c =
+    let the-args = c .before .before .before .before .before .before .before .args in
+    ap (λ r. set r 40 (the-args .last)) (c .before .before .store .ensures) ∙ last-stored (the-args .words .now) _ (the-args .last) (c .before .before .before .before .before .before .before .pre) (omega (arith, c .before .before .before .before .before .if1 .left))
 
 pub store-words-spec : {M : Type 1} → statement M
 store-words-spec =

@@ -59,16 +59,26 @@ slice-aggregate-put-map : tie.Need-slice-aggregate-put-map
 slice-aggregate-put-map c = sym (length-take-le _ _ (map-room (c .before .before .before .before .before)))
 
 put-map-requires : tie.Need-put-map-requires
-put-map-requires c κs = simp length-take (omega (arith, c .before .before .before .before .before .before .before .before .before .before .before .before .before .before .before .before .before .before .before .before .pre, c .before .before .before .before .put-counts .ensures .1, c .before .before .before .before .put-counts .ensures .0 .long, c .before .before .before .before .before .before .before .before .before .before .before .before .before .reduce-within .kept .1 .1 .1 .1 .0, length-replicate {A = ℕ} 40 0))
+put-map-requires c κs =
+    let the-put-counts = c .before .before .before .before .put-counts in
+    simp length-take (omega (arith, c .before .before .before .before .before .before .before .before .before .before .before .before .before .before .before .before .before .before .before .before .pre, the-put-counts .ensures .1, the-put-counts .ensures .0 .long, c .before .before .before .before .before .before .before .before .before .before .before .before .before .reduce-within .kept .1 .1 .1 .1 .0, length-replicate {A = ℕ} 40 0))
 
 array-share-prefix-out : tie.Need-array-share-prefix-out
-array-share-prefix-out c = omega (arith, delivered-fits _ _ 100000 _ _ _ (c .before .before .before .before .before .before .before .before .before .before .before .before .before .before .before .before .reduce-within .ensures .0) (c .before .before .before .before .before .before .before .before .before .before .before .answer .given .1), c .before .before .before .before .before .before .before .before .before .before .before .before .before .before .before .before .reduce-within .kept .1 .1 .1 .1 .1 .0, length-replicate {A = ℕ} 22644 0)
+array-share-prefix-out c =
+    let the-reduce-within = c .before .before .before .before .before .before .before .before .before .before .before .before .before .before .before .before .reduce-within in
+    omega (arith, delivered-fits _ _ 100000 _ _ _ (the-reduce-within .ensures .0) (c .before .before .before .before .before .before .before .before .before .before .before .answer .given .1), the-reduce-within .kept .1 .1 .1 .1 .1 .0, length-replicate {A = ℕ} 22644 0)
 
 slice-aggregate-put-table : tie.Need-slice-aggregate-put-table
-slice-aggregate-put-table c = sym (length-take-le _ _ (omega (arith, delivered-fits _ _ 100000 _ _ _ (c .before .before .before .before .before .before .before .before .before .before .before .before .before .before .before .before .before .reduce-within .ensures .0) (c .before .before .before .before .before .before .before .before .before .before .before .before .answer .given .1), c .before .before .before .before .before .before .before .before .before .before .before .before .before .before .before .before .before .reduce-within .kept .1 .1 .1 .1 .1 .0, length-replicate {A = ℕ} 22644 0)))
+slice-aggregate-put-table c =
+    let the-reduce-within = c .before .before .before .before .before .before .before .before .before .before .before .before .before .before .before .before .before .reduce-within in
+    sym (length-take-le _ _ (omega (arith, delivered-fits _ _ 100000 _ _ _ (the-reduce-within .ensures .0) (c .before .before .before .before .before .before .before .before .before .before .before .before .answer .given .1), the-reduce-within .kept .1 .1 .1 .1 .1 .0, length-replicate {A = ℕ} 22644 0)))
 
 put-table-requires : tie.Need-put-table-requires
-put-table-requires c κs = simp length-take (omega (arith, c .before .before .before .before .before .before .before .before .before .before .before .before .before .before .before .before .before .before .before .before .before .before .before .before .before .pre, c .before .before .before .before .before .before .before .before .before .put-counts .ensures .1, c .before .before .before .before .before .before .before .before .before .put-counts .ensures .0 .long, simp length-take at (c .before .before .before .before .put-map .ensures .1), c .before .before .before .before .put-map .ensures .0 .long, c .before .before .before .before .before .before .before .before .before .before .before .before .before .before .before .before .before .before .reduce-within .kept .1 .1 .1 .1 .0, length-replicate {A = ℕ} 40 0, c .before .before .before .before .before .before .before .before .before .before .before .before .before .before .before .before .before .before .reduce-within .kept .1 .1 .1 .1 .1 .0, length-replicate {A = ℕ} 22644 0))
+put-table-requires c κs =
+    let the-put-map = c .before .before .before .before .put-map in
+    let the-put-counts = c .before .before .before .before .before .before .before .before .before .put-counts in
+    let the-reduce-within = c .before .before .before .before .before .before .before .before .before .before .before .before .before .before .before .before .before .before .reduce-within in
+    simp length-take (omega (arith, c .before .before .before .before .before .before .before .before .before .before .before .before .before .before .before .before .before .before .before .before .before .before .before .before .before .pre, the-put-counts .ensures .1, the-put-counts .ensures .0 .long, simp length-take at (the-put-map .ensures .1), the-put-map .ensures .0 .long, the-reduce-within .kept .1 .1 .1 .1 .0, length-replicate {A = ℕ} 40 0, the-reduce-within .kept .1 .1 .1 .1 .1 .0, length-replicate {A = ℕ} 22644 0))
 
 array-share-prefix-map-2 : tie.Need-array-share-prefix-map-2
 array-share-prefix-map-2 c = search needs
@@ -77,7 +87,12 @@ slice-aggregate-put-going : tie.Need-slice-aggregate-put-going
 slice-aggregate-put-going c = sym (length-take-le _ _ (map-room (c .before .before .before .before .before .before .before .before .before .before .before .before .before .before .before)))
 
 put-going-requires : tie.Need-put-going-requires
-put-going-requires c κs = (checked (c .before .before .before .before .before .before .before .before .before .before .before .before .before .before .before .before) .1, omega (arith, c .before .before .before .before .before .before .before .before .before .before .before .before .before .before .before .before .before .before .before .before .before .before .before .before .before .before .before .before .before .before .pre, c .before .before .before .before .before .before .before .before .before .before .before .before .before .before .put-counts .ensures .1, c .before .before .before .before .before .before .before .before .before .before .before .before .before .before .put-counts .ensures .0 .long, simp length-take at (c .before .before .before .before .before .before .before .before .before .put-map .ensures .1), c .before .before .before .before .before .before .before .before .before .put-map .ensures .0 .long, simp length-take at (c .before .before .before .before .put-table .ensures .1), c .before .before .before .before .put-table .ensures .0 .long, c .before .before .before .before .before .before .before .before .before .before .before .before .before .before .before .before .before .before .before .before .before .before .before .reduce-within .kept .1 .1 .1 .1 .0, length-replicate {A = ℕ} 40 0, c .before .before .before .before .before .before .before .before .before .before .before .before .before .before .before .before .before .before .before .before .before .before .before .reduce-within .kept .1 .1 .1 .1 .1 .0, length-replicate {A = ℕ} 22644 0))
+put-going-requires c κs =
+    let the-put-table = c .before .before .before .before .put-table in
+    let the-put-map = c .before .before .before .before .before .before .before .before .before .put-map in
+    let the-put-counts = c .before .before .before .before .before .before .before .before .before .before .before .before .before .before .put-counts in
+    let the-reduce-within = c .before .before .before .before .before .before .before .before .before .before .before .before .before .before .before .before .before .before .before .before .before .before .before .reduce-within in
+    (checked (c .before .before .before .before .before .before .before .before .before .before .before .before .before .before .before .before) .1, omega (arith, c .before .before .before .before .before .before .before .before .before .before .before .before .before .before .before .before .before .before .before .before .before .before .before .before .before .before .before .before .before .before .pre, the-put-counts .ensures .1, the-put-counts .ensures .0 .long, simp length-take at (the-put-map .ensures .1), the-put-map .ensures .0 .long, simp length-take at (the-put-table .ensures .1), the-put-table .ensures .0 .long, the-reduce-within .kept .1 .1 .1 .1 .0, length-replicate {A = ℕ} 40 0, the-reduce-within .kept .1 .1 .1 .1 .1 .0, length-replicate {A = ℕ} 22644 0))
 
 enum-known-answer-2 : tie.Need-enum-known-answer-2
 enum-known-answer-2 c = search needs

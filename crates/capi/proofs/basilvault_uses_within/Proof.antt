@@ -14,7 +14,9 @@ cast-result c = search needs
 
 returns : tie.Need-returns
 unfolding usesOut
-returns c = refused _ refl (uses-refused (c .before .uses-within .result) (c .if1 .taken)) ∙ ap (usesOut _) (c .before .uses-within .ensures .0)
+returns c =
+    let the-uses-within = c .before .uses-within in
+    refused _ refl (uses-refused (the-uses-within .result) (c .if1 .taken)) ∙ ap (usesOut _) (the-uses-within .ensures .0)
 
 store-words-requires : tie.Need-store-words-requires
 store-words-requires c κs = search needs
@@ -24,7 +26,10 @@ same-length c = search needs
 
 returns-2 : tie.Need-returns-2
 unfolding usesOut
-returns-2 c = answered _ (c .before .before .before .before .before .before .if1 .left) (uses-counted (c .before .before .before .before .before .before .before .uses-within .result) (c .before .before .before .before .before .before .if1 .left)) (c .before .before .store-words .ensures) ∙ ap (usesOut _) (c .before .before .before .before .before .before .before .uses-within .ensures .0)
+returns-2 c =
+    let the-if1 = c .before .before .before .before .before .before .if1 in
+    let the-uses-within = c .before .before .before .before .before .before .before .uses-within in
+    answered _ (the-if1 .left) (uses-counted (the-uses-within .result) (the-if1 .left)) (c .before .before .store-words .ensures) ∙ ap (usesOut _) (the-uses-within .ensures .0)
 
 pub basilvault-uses-within-spec : {M : Type 1} → statement M
 basilvault-uses-within-spec =

@@ -13,22 +13,32 @@ looks-apart-requires : tie.Need-looks-apart-requires
 looks-apart-requires c κs = search needs
 
 closure-requires : tie.Need-closure-requires
-closure-requires c κs = (omega (arith, c .before .before .before .before .before .before .before .before .before .before .pre .0 .few), ordered-by _ _ (c .before .before .before .looks-apart .ensures) (c .before .before .before .before .before .before .before .before .before .before .pre .1))
+closure-requires c κs =
+    let the-pre = c .before .before .before .before .before .before .before .before .before .before .pre in
+    (omega (arith, the-pre .0 .few), ordered-by _ _ (c .before .before .before .looks-apart .ensures) (the-pre .1))
 
 moves-requires : tie.Need-moves-requires
-moves-requires c κs = (c .before .before .before .before .before .before .before .before .before .before .before .before .before .before .pre .0 .internals-sorted, ordered-by _ _ (c .before .before .before .closure .ensures) (ordered-by _ _ (c .before .before .before .before .before .before .before .looks-apart .ensures) (c .before .before .before .before .before .before .before .before .before .before .before .before .before .before .pre .1)))
+moves-requires c κs =
+    let the-pre = c .before .before .before .before .before .before .before .before .before .before .before .before .before .before .pre in
+    (the-pre .0 .internals-sorted, ordered-by _ _ (c .before .before .before .closure .ensures) (ordered-by _ _ (c .before .before .before .before .before .before .before .looks-apart .ensures) (the-pre .1)))
 
 moves-requires-2 : tie.Need-moves-requires-2
-moves-requires-2 c κs = (c .before .before .before .before .before .before .before .before .before .before .before .before .before .before .before .before .before .before .pre .0 .calls-sorted, ordered-by _ _ (c .before .before .before .moves .ensures) (ordered-by _ _ (c .before .before .before .before .before .before .before .closure .ensures) (ordered-by _ _ (c .before .before .before .before .before .before .before .before .before .before .before .looks-apart .ensures) (c .before .before .before .before .before .before .before .before .before .before .before .before .before .before .before .before .before .before .pre .1))))
+moves-requires-2 c κs =
+    let the-pre = c .before .before .before .before .before .before .before .before .before .before .before .before .before .before .before .before .before .before .pre in
+    (the-pre .0 .calls-sorted, ordered-by _ _ (c .before .before .before .moves .ensures) (ordered-by _ _ (c .before .before .before .before .before .before .before .closure .ensures) (ordered-by _ _ (c .before .before .before .before .before .before .before .before .before .before .before .looks-apart .ensures) (the-pre .1))))
 
 live-returns-requires : tie.Need-live-returns-requires
-live-returns-requires c κs = (c .before .before .before .before .before .before .before .before .before .before .before .before .before .before .before .before .before .before .before .before .before .before .pre .0 .returns-sorted, c .before .before .before .before .before .before .before .before .before .before .before .before .before .before .before .before .before .before .before .before .before .before .pre .0 .few, ordered-by _ _ (c .before .before .before .moves2 .ensures) (ordered-by _ _ (c .before .before .before .before .before .before .before .moves .ensures) (ordered-by _ _ (c .before .before .before .before .before .before .before .before .before .before .before .closure .ensures) (ordered-by _ _ (c .before .before .before .before .before .before .before .before .before .before .before .before .before .before .before .looks-apart .ensures) (c .before .before .before .before .before .before .before .before .before .before .before .before .before .before .before .before .before .before .before .before .before .before .pre .1)))))
+live-returns-requires c κs =
+    let the-pre = c .before .before .before .before .before .before .before .before .before .before .before .before .before .before .before .before .before .before .before .before .before .before .pre in
+    (the-pre .0 .returns-sorted, the-pre .0 .few, ordered-by _ _ (c .before .before .before .moves2 .ensures) (ordered-by _ _ (c .before .before .before .before .before .before .before .moves .ensures) (ordered-by _ _ (c .before .before .before .before .before .before .before .before .before .before .before .closure .ensures) (ordered-by _ _ (c .before .before .before .before .before .before .before .before .before .before .before .before .before .before .before .looks-apart .ensures) (the-pre .1)))))
 
 same-length : tie.Need-same-length
 same-length c = search needs
 
 returns : tie.Need-returns
-returns c = groups _ (c .before .before .before .before .before .before .before .before .before .before .before .before .before .before .before .before .before .before .before .before .before .before .before .before .before .args .states .now) (c .before .before .before .before .before .before .before .before .before .before .before .before .before .before .before .before .before .before .before .before .before .before .before .before .before .args .internals .now) (c .before .before .before .before .before .before .before .before .before .before .before .before .before .before .before .before .before .before .before .before .before .before .before .before .before .args .calls .now) (c .before .before .before .before .before .before .before .before .before .before .before .before .before .before .before .before .before .before .before .before .before .before .before .before .before .args .returns .now) (c .before .before .before .before .before .before .before .before .before .before .before .before .before .before .before .before .before .before .before .before .before .before .before .before .before .args .tops .now) _ (c .before .before .before .before .before .before .before .before .before .before .before .before .before .before .before .before .before .before .looks-apart .ensures) (c .before .before .before .before .before .before .before .before .before .before .before .before .before .before .closure .ensures) (c .before .before .before .before .before .before .before .before .before .before .moves .ensures) (c .before .before .before .before .before .before .moves2 .ensures) (c .before .before .live-returns .ensures)
+returns c =
+    let the-args = c .before .before .before .before .before .before .before .before .before .before .before .before .before .before .before .before .before .before .before .before .before .before .before .before .before .args in
+    groups _ (the-args .states .now) (the-args .internals .now) (the-args .calls .now) (the-args .returns .now) (the-args .tops .now) _ (c .before .before .before .before .before .before .before .before .before .before .before .before .before .before .before .before .before .before .looks-apart .ensures) (c .before .before .before .before .before .before .before .before .before .before .before .before .before .before .closure .ensures) (c .before .before .before .before .before .before .before .before .before .before .moves .ensures) (c .before .before .before .before .before .before .moves2 .ensures) (c .before .before .live-returns .ensures)
 
 pub all-groups-spec : {M : Type 1} → statement M
 all-groups-spec =

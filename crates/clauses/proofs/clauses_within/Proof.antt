@@ -11,7 +11,9 @@ examine-requires : tie.Need-examine-requires
 examine-requires c κs = search needs
 
 returns : tie.Need-returns
-returns c = promised _ (c .before .before .before .before .before .args .table .now) (c .before .before .before .before .before .args .list .now) (unread _ (c .before .before .before .before .before .args .table .now) (c .before .before .examine .ensures) (c .before .before .before .before .before .args .list .now) (c .if1 .taken))
+returns c =
+    let the-args = c .before .before .before .before .before .args in
+    promised _ (the-args .table .now) (the-args .list .now) (unread _ (the-args .table .now) (c .before .before .examine .ensures) (the-args .list .now) (c .if1 .taken))
 
 list-read-requires : tie.Need-list-read-requires
 list-read-requires c κs = read-known _ _ (c .before .before .before .before .before .before .examine .ensures) (c .before .before .before .before .if1 .left)
@@ -21,8 +23,9 @@ same-length c = search needs
 
 returns-2 : tie.Need-returns-2
 returns-2 c =
-    let b = c .before .before .before .before .before .before .before .before .before .before .before .before .args .table .now in
-    let list = c .before .before .before .before .before .before .before .before .before .before .before .before .args .list .now in
+    let the-args = c .before .before .before .before .before .before .before .before .before .before .before .before .args in
+    let b = the-args .table .now in
+    let list = the-args .list .now in
     let k = read-readable _ b (c .before .before .before .before .before .before .before .before .before .examine .ensures) (c .before .before .before .before .before .before .before .if1 .left) in
     promised _ b list (c .before .before .list-read .ensures ∙ listed _ b k list)
 

@@ -7,7 +7,9 @@ use Rattle.conclude.proofs.conclude.Statement.{statement}
 use Rattle.conclude.proofs.conclude.Tie as tie
 
 returns : tie.Need-returns
-returns c = (laws.attended-none (c .before .before .before .before .pre .0 .0) (c .if1 .taken), c .before .before .before .before .pre .0 .1)
+returns c =
+    let the-pre = c .before .before .before .before .pre in
+    (laws.attended-none (the-pre .0 .0) (c .if1 .taken), the-pre .0 .1)
 
 pair-of-requires : tie.Need-pair-of-requires
 pair-of-requires c κs = search needs
@@ -20,10 +22,11 @@ slice-read-if2 c = search needs
 
 conclude-joined-requires : tie.Need-conclude-joined-requires
 conclude-joined-requires c κs =
-    let w = c .before .before .before .before .before .before .before .before .before .before .before .before .pre .0 .0 in
-    let b = c .before .before .before .before .before .before .before .before .before .before .before .before .pre .1 .1 in
-    let pair = pair-of (c .before .before .before .before .before .before .before .before .before .before .before .before .pre .0 .1) (b .0) (c .before .before .before .before .before .before .before .before .if1 .left) (c .before .before .before .before .before .before .before .before .before .before .before .before .pre .1 .0) (c .before .before .before .before .before .before .before .pair-of .ensures) in
-    (c .before .before .before .before .before .before .before .before .before .before .before .before .pre .0, (pair .order, pair .inside, laws.value-joined w pair b (c .before .before .before .before .before .before .wide .ensures) (c .before .before .before .before .if2 .taken)))
+    let the-pre = c .before .before .before .before .before .before .before .before .before .before .before .before .pre in
+    let w = the-pre .0 .0 in
+    let b = the-pre .1 .1 in
+    let pair = pair-of (the-pre .0 .1) (b .0) (c .before .before .before .before .before .before .before .before .if1 .left) (the-pre .1 .0) (c .before .before .before .before .before .before .before .pair-of .ensures) in
+    (the-pre .0, (pair .order, pair .inside, laws.value-joined w pair b (c .before .before .before .before .before .before .wide .ensures) (c .before .before .before .before .if2 .taken)))
 
 same-length : tie.Need-same-length
 same-length c = worked-length (c .before .before .before .before .before .before .before .before .before .before .before .before .before .before .before .before .before .pre .0 .0) (c .before .before .before .before .conclude-joined .ensures .0 .worked)
@@ -33,17 +36,20 @@ same-length-2 c = c .before .before .before .before .conclude-joined .ensures .0
 
 returns-2 : tie.Need-returns-2
 returns-2 c =
-    let w = c .before .before .before .before .before .before .before .before .before .before .before .before .before .before .before .before .before .pre .0 .0 in
-    let b = c .before .before .before .before .before .before .before .before .before .before .before .before .before .before .before .before .before .pre .1 .1 in
-    let pair = pair-of (c .before .before .before .before .before .before .before .before .before .before .before .before .before .before .before .before .before .pre .0 .1) (b .0) (c .before .before .before .before .before .before .before .before .before .before .before .before .before .if1 .left) (c .before .before .before .before .before .before .before .before .before .before .before .before .before .before .before .before .before .pre .1 .0) (c .before .before .before .before .before .before .before .before .before .before .before .before .pair-of .ensures) in
-    (laws.at-variable w pair (c .before .before .before .before .conclude-joined .ensures .0), c .before .before .before .before .conclude-joined .ensures .1)
+    let the-conclude-joined = c .before .before .before .before .conclude-joined in
+    let the-pre = c .before .before .before .before .before .before .before .before .before .before .before .before .before .before .before .before .before .pre in
+    let w = the-pre .0 .0 in
+    let b = the-pre .1 .1 in
+    let pair = pair-of (the-pre .0 .1) (b .0) (c .before .before .before .before .before .before .before .before .before .before .before .before .before .if1 .left) (the-pre .1 .0) (c .before .before .before .before .before .before .before .before .before .before .before .before .pair-of .ensures) in
+    (laws.at-variable w pair (the-conclude-joined .ensures .0), the-conclude-joined .ensures .1)
 
 conclude-apart-requires : tie.Need-conclude-apart-requires
 conclude-apart-requires c κs =
-    let w = c .before .before .before .before .before .before .before .before .before .before .before .before .pre .0 .0 in
-    let b = c .before .before .before .before .before .before .before .before .before .before .before .before .pre .1 .1 in
-    let pair = pair-of (c .before .before .before .before .before .before .before .before .before .before .before .before .pre .0 .1) (b .0) (c .before .before .before .before .before .before .before .before .if1 .left) (c .before .before .before .before .before .before .before .before .before .before .before .before .pre .1 .0) (c .before .before .before .before .before .before .before .pair-of .ensures) in
-    (c .before .before .before .before .before .before .before .before .before .before .before .before .pre .0, (pair .order, pair .inside, laws.value-apart w pair b (c .before .before .before .before .before .before .wide .ensures) (c .before .before .before .before .if2 .left)))
+    let the-pre = c .before .before .before .before .before .before .before .before .before .before .before .before .pre in
+    let w = the-pre .0 .0 in
+    let b = the-pre .1 .1 in
+    let pair = pair-of (the-pre .0 .1) (b .0) (c .before .before .before .before .before .before .before .before .if1 .left) (the-pre .1 .0) (c .before .before .before .before .before .before .before .pair-of .ensures) in
+    (the-pre .0, (pair .order, pair .inside, laws.value-apart w pair b (c .before .before .before .before .before .before .wide .ensures) (c .before .before .before .before .if2 .left)))
 
 same-length-3 : tie.Need-same-length-3
 same-length-3 c = worked-length (c .before .before .before .before .before .before .before .before .before .before .before .before .before .before .before .before .before .pre .0 .0) (c .before .before .before .before .conclude-apart .ensures .0 .worked)
@@ -53,10 +59,12 @@ same-length-4 c = c .before .before .before .before .conclude-apart .ensures .0 
 
 returns-3 : tie.Need-returns-3
 returns-3 c =
-    let w = c .before .before .before .before .before .before .before .before .before .before .before .before .before .before .before .before .before .pre .0 .0 in
-    let b = c .before .before .before .before .before .before .before .before .before .before .before .before .before .before .before .before .before .pre .1 .1 in
-    let pair = pair-of (c .before .before .before .before .before .before .before .before .before .before .before .before .before .before .before .before .before .pre .0 .1) (b .0) (c .before .before .before .before .before .before .before .before .before .before .before .before .before .if1 .left) (c .before .before .before .before .before .before .before .before .before .before .before .before .before .before .before .before .before .pre .1 .0) (c .before .before .before .before .before .before .before .before .before .before .before .before .pair-of .ensures) in
-    (laws.at-variable w pair (c .before .before .before .before .conclude-apart .ensures .0), c .before .before .before .before .conclude-apart .ensures .1)
+    let the-conclude-apart = c .before .before .before .before .conclude-apart in
+    let the-pre = c .before .before .before .before .before .before .before .before .before .before .before .before .before .before .before .before .before .pre in
+    let w = the-pre .0 .0 in
+    let b = the-pre .1 .1 in
+    let pair = pair-of (the-pre .0 .1) (b .0) (c .before .before .before .before .before .before .before .before .before .before .before .before .before .if1 .left) (the-pre .1 .0) (c .before .before .before .before .before .before .before .before .before .before .before .before .pair-of .ensures) in
+    (laws.at-variable w pair (the-conclude-apart .ensures .0), the-conclude-apart .ensures .1)
 
 pub conclude-spec : {M : Type 1} → statement M
 conclude-spec =

@@ -13,9 +13,10 @@ lacking-requires-2 c κs = search needs
 
 spread-both-requires : tie.Need-spread-both-requires
 spread-both-requires c κs =
-    let w = c .before .before .before .before .before .before .before .before .before .before .before .before .pre .0 .0 in
-    let rows = c .before .before .before .before .before .before .before .before .before .before .before .before .pre .0 .1 in
-    let o = c .before .before .before .before .before .before .before .before .before .before .before .before .pre .1 in
+    let the-pre = c .before .before .before .before .before .before .before .before .before .before .before .before .pre in
+    let w = the-pre .0 .0 in
+    let rows = the-pre .0 .1 in
+    let o = the-pre .1 in
     let f = c .before .before .before .before .before .before .before .lacking .ensures in
     let g = c .before .before .before .before .lacking2 .ensures in
     ((w, rows), (laws.parts-q w rows _ _ (o .0) (o .1) (o .2) f g, laws.parts-p w rows _ _ (o .0) (o .1) (o .2) f g))
@@ -31,13 +32,15 @@ same-length-2 c = c .before .before .before .before .spread-both .ensures .0 .wo
 
 returns : tie.Need-returns
 returns c =
-    let w = c .before .before .before .before .before .before .before .before .before .before .before .before .before .before .before .before .before .pre .0 .0 in
-    let rows = c .before .before .before .before .before .before .before .before .before .before .before .before .before .before .before .before .before .pre .0 .1 in
-    let o = c .before .before .before .before .before .before .before .before .before .before .before .before .before .before .before .before .before .pre .1 in
+    let the-spread-both = c .before .before .before .before .spread-both in
+    let the-pre = c .before .before .before .before .before .before .before .before .before .before .before .before .before .before .before .before .before .pre in
+    let w = the-pre .0 .0 in
+    let rows = the-pre .0 .1 in
+    let o = the-pre .1 in
     let f = c .before .before .before .before .before .before .before .before .before .before .before .before .lacking .ensures in
     let g = c .before .before .before .before .before .before .before .before .before .lacking2 .ensures in
-    let k = c .before .before .before .before .spread-both .ensures .0 in
-    (laws.parts-done w rows _ _ (o .0) (o .1) (o .2) f g k, c .before .before .before .before .spread-both .ensures .1)
+    let k = the-spread-both .ensures .0 in
+    (laws.parts-done w rows _ _ (o .0) (o .1) (o .2) f g k, the-spread-both .ensures .1)
 
 pub conclude-apart-spec : {M : Type 1} → statement M
 conclude-apart-spec =

@@ -19,9 +19,10 @@ lacking-requires-4 c κs = search needs
 
 spread-both-requires : tie.Need-spread-both-requires
 spread-both-requires c κs =
-    let w = c .before .before .before .before .before .before .before .before .before .before .before .before .before .before .pre .0 .0 in
-    let rows = c .before .before .before .before .before .before .before .before .before .before .before .before .before .before .pre .0 .1 in
-    let o = c .before .before .before .before .before .before .before .before .before .before .before .before .before .before .pre .1 in
+    let the-pre = c .before .before .before .before .before .before .before .before .before .before .before .before .before .before .pre in
+    let w = the-pre .0 .0 in
+    let rows = the-pre .0 .1 in
+    let o = the-pre .1 in
     let f = c .before .before .before .before .before .before .before .before .before .before .lacking .ensures in
     let g = c .before .before .before .before .before .before .before .before .lacking2 .ensures in
     let h = c .before .before .before .before .before .before .lacking3 .ensures in
@@ -39,23 +40,27 @@ same-length-2 c = c .before .before .before .before .before .spread-both .ensure
 
 returns : tie.Need-returns
 returns c =
-    let w = c .before .before .before .before .before .before .before .before .before .before .before .before .before .before .before .before .before .before .before .before .pre .0 .0 in
-    let rows = c .before .before .before .before .before .before .before .before .before .before .before .before .before .before .before .before .before .before .before .before .pre .0 .1 in
-    let o = c .before .before .before .before .before .before .before .before .before .before .before .before .before .before .before .before .before .before .before .before .pre .1 in
-    let k = c .before .before .before .before .before .spread-both .ensures .0 in
-    (laws.conclude-broken w rows _ _ (o .0) (o .1) (k .worked) (c .if1 .taken), c .before .before .before .before .before .spread-both .ensures .1)
+    let the-spread-both = c .before .before .before .before .before .spread-both in
+    let the-pre = c .before .before .before .before .before .before .before .before .before .before .before .before .before .before .before .before .before .before .before .before .pre in
+    let w = the-pre .0 .0 in
+    let rows = the-pre .0 .1 in
+    let o = the-pre .1 in
+    let k = the-spread-both .ensures .0 in
+    (laws.conclude-broken w rows _ _ (o .0) (o .1) (k .worked) (c .if1 .taken), the-spread-both .ensures .1)
 
 spread-both-requires-2 : tie.Need-spread-both-requires-2
 spread-both-requires-2 c κs =
-    let w = c .before .before .before .before .before .before .before .before .before .before .before .before .before .before .before .before .before .before .before .before .before .before .before .before .pre .0 .0 in
-    let rows = c .before .before .before .before .before .before .before .before .before .before .before .before .before .before .before .before .before .before .before .before .before .before .before .before .pre .0 .1 in
-    let o = c .before .before .before .before .before .before .before .before .before .before .before .before .before .before .before .before .before .before .before .before .before .before .before .before .pre .1 in
+    let the-spread-both = c .before .before .before .before .before .before .before .before .before .spread-both in
+    let the-pre = c .before .before .before .before .before .before .before .before .before .before .before .before .before .before .before .before .before .before .before .before .before .before .before .before .pre in
+    let w = the-pre .0 .0 in
+    let rows = the-pre .0 .1 in
+    let o = the-pre .1 in
     let f = c .before .before .before .before .before .before .before .before .before .before .before .before .before .before .before .before .before .before .before .before .lacking .ensures in
     let g = c .before .before .before .before .before .before .before .before .before .before .before .before .before .before .before .before .before .before .lacking2 .ensures in
     let h = c .before .before .before .before .before .before .before .before .before .before .before .before .before .before .before .before .lacking3 .ensures in
     let i = c .before .before .before .before .before .before .before .before .before .before .before .before .before .before .lacking4 .ensures in
-    let k = c .before .before .before .before .before .before .before .before .before .spread-both .ensures .0 in
-    ((worked-on w (k .worked), c .before .before .before .before .before .before .before .before .before .spread-both .ensures .1), (laws.leaves-q w rows _ _ (o .0) (o .1) (o .2) f g h i k, laws.leaves-p w rows _ _ (o .0) (o .1) (o .2) f g h i k))
+    let k = the-spread-both .ensures .0 in
+    ((worked-on w (k .worked), the-spread-both .ensures .1), (laws.leaves-q w rows _ _ (o .0) (o .1) (o .2) f g h i k, laws.leaves-p w rows _ _ (o .0) (o .1) (o .2) f g h i k))
 
 same-length-3 : tie.Need-same-length-3
 same-length-3 c =
@@ -72,16 +77,18 @@ same-length-4 c =
 
 returns-2 : tie.Need-returns-2
 returns-2 c =
-    let w = c .before .before .before .before .before .before .before .before .before .before .before .before .before .before .before .before .before .before .before .before .before .before .before .before .before .before .before .before .before .pre .0 .0 in
-    let rows = c .before .before .before .before .before .before .before .before .before .before .before .before .before .before .before .before .before .before .before .before .before .before .before .before .before .before .before .before .before .pre .0 .1 in
-    let o = c .before .before .before .before .before .before .before .before .before .before .before .before .before .before .before .before .before .before .before .before .before .before .before .before .before .before .before .before .before .pre .1 in
+    let the-spread-both2 = c .before .before .before .before .spread-both2 in
+    let the-pre = c .before .before .before .before .before .before .before .before .before .before .before .before .before .before .before .before .before .before .before .before .before .before .before .before .before .before .before .before .before .pre in
+    let w = the-pre .0 .0 in
+    let rows = the-pre .0 .1 in
+    let o = the-pre .1 in
     let f = c .before .before .before .before .before .before .before .before .before .before .before .before .before .before .before .before .before .before .before .before .before .before .before .before .before .lacking .ensures in
     let g = c .before .before .before .before .before .before .before .before .before .before .before .before .before .before .before .before .before .before .before .before .before .before .before .lacking2 .ensures in
     let h = c .before .before .before .before .before .before .before .before .before .before .before .before .before .before .before .before .before .before .before .before .before .lacking3 .ensures in
     let i = c .before .before .before .before .before .before .before .before .before .before .before .before .before .before .before .before .before .before .before .lacking4 .ensures in
     let k = c .before .before .before .before .before .before .before .before .before .before .before .before .before .before .spread-both .ensures .0 in
-    let l = c .before .before .before .before .spread-both2 .ensures .0 in
-    (laws.joins-done w rows _ _ (o .0) (o .1) (o .2) f g h i k (c .before .before .before .before .before .before .before .before .before .if1 .left) l, c .before .before .before .before .spread-both2 .ensures .1)
+    let l = the-spread-both2 .ensures .0 in
+    (laws.joins-done w rows _ _ (o .0) (o .1) (o .2) f g h i k (c .before .before .before .before .before .before .before .before .before .if1 .left) l, the-spread-both2 .ensures .1)
 
 pub conclude-joined-spec : {M : Type 1} → statement M
 conclude-joined-spec =

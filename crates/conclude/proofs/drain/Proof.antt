@@ -17,7 +17,9 @@ abbrev μ-queue : tie.MeasureT-queue
     length values - at
 
 queue-holds : tie.Need-queue-holds Inv-queue μ-queue
-queue-holds c = (laws.queueing (c .before .before .before .pre .0 .0) (c .before .before .before .pre .1 .1), c .before .before .before .pre .0 .1)
+queue-holds c =
+    let the-pre = c .before .before .before .pre in
+    (laws.queueing (the-pre .0 .0) (the-pre .1 .1), the-pre .0 .1)
 
 mul-x : tie.Need-mul-x Inv-queue μ-queue
 mul-x c = omega (arith, laws.at-inside (c .before .queue .inv .0) (c .queue-test .taken))
@@ -29,7 +31,9 @@ add-at : tie.Need-add-at Inv-queue μ-queue
 add-at c = omega (arith, laws.at-inside (c .before .before .queue .inv .0) (c .before .queue-test .taken))
 
 conclude-requires : tie.Need-conclude-requires Inv-queue μ-queue
-conclude-requires c κs = let q = laws.next-queued (c .before .before .before .before .before .before .queue .inv .0) (c .before .before .before .before .before .queue-test .taken) in ((laws.queue-ready (c .before .before .before .before .before .before .queue .inv .0), c .before .before .before .before .before .before .queue .inv .1), (c .before .before .before .before .before .before .before .before .before .before .pre .1 .0, q))
+conclude-requires c κs =
+    let the-queue = c .before .before .before .before .before .before .queue in
+    let q = laws.next-queued (the-queue .inv .0) (c .before .before .before .before .before .queue-test .taken) in ((laws.queue-ready (the-queue .inv .0), the-queue .inv .1), (c .before .before .before .before .before .before .before .before .before .before .pre .1 .0, q))
 
 same-length : tie.Need-same-length Inv-queue μ-queue
 same-length c =
@@ -47,10 +51,11 @@ same-length-2 c =
 
 returns : tie.Need-returns Inv-queue μ-queue
 returns c =
+    let the-conclude = c .before .before .before .before .before .conclude in
     let j = c .before .before .before .before .before .before .before .before .before .before .before .before .queue .inv .0 in
     let h = c .before .before .before .before .before .before .before .before .before .before .before .queue-test .taken in
-    let k = c .before .before .before .before .before .conclude .ensures .0 in
-    (laws.queue-broken j h k (c .if1 .taken), c .before .before .before .before .before .conclude .ensures .1)
+    let k = the-conclude .ensures .0 in
+    (laws.queue-broken j h k (c .if1 .taken), the-conclude .ensures .1)
 
 queue-less : tie.Need-queue-less Inv-queue μ-queue
 queue-less c =
@@ -61,10 +66,11 @@ queue-less c =
 
 queue-again : tie.Need-queue-again Inv-queue μ-queue
 queue-again c =
+    let the-conclude = c .before .before .before .before .before .conclude in
     let j = c .before .before .before .before .before .before .before .before .before .before .before .before .queue .inv .0 in
     let h = c .before .before .before .before .before .before .before .before .before .before .before .queue-test .taken in
-    let k = c .before .before .before .before .before .conclude .ensures .0 in
-    (laws.queue-on j h k (c .if1 .left), c .before .before .before .before .before .conclude .ensures .1)
+    let k = the-conclude .ensures .0 in
+    (laws.queue-on j h k (c .if1 .left), the-conclude .ensures .1)
 
 same-length-3 : tie.Need-same-length-3 Inv-queue μ-queue
 same-length-3 c = laws.queue-values (c .before .queue .inv .0)
@@ -73,7 +79,9 @@ same-length-4 : tie.Need-same-length-4 Inv-queue μ-queue
 same-length-4 c = c .before .queue .inv .0 .worked .grown .long
 
 returns-2 : tie.Need-returns-2 Inv-queue μ-queue
-returns-2 c = (laws.queue-end (c .before .queue .inv .0) (c .queue-test .left), c .before .queue .inv .1)
+returns-2 c =
+    let the-queue = c .before .queue in
+    (laws.queue-end (the-queue .inv .0) (c .queue-test .left), the-queue .inv .1)
 
 pub drain-spec : {M : Type 1} → statement M
 drain-spec =

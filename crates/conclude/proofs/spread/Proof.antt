@@ -17,13 +17,17 @@ abbrev μ-states : tie.MeasureT-states
     rest
 
 states-holds : tie.Need-states-holds Inv-states μ-states
-states-holds c = laws.spreading (c .before .before .pre .0 .0) (c .before .before .pre .0 .1) (c .before .before .pre .1) (c .before .before .fits .todo .fits)
+states-holds c =
+    let the-pre = c .before .before .pre in
+    laws.spreading (the-pre .0 .0) (the-pre .0 .1) (the-pre .1) (c .before .before .fits .todo .fits)
 
 next-state-requires : tie.Need-next-state-requires Inv-states μ-states
 next-state-requires c κs = search needs
 
 cast-s : tie.Need-cast-s Inv-states μ-states
-cast-s c = record { fits = omega (arith, laws.low-state (c .before .before .before .before .before .pre .1) (c .before .before .states .inv) (c .before .states-test .taken) (c .next-state .ensures), c .before .before .states .inv .rows .few) }
+cast-s c =
+    let the-states = c .before .before .states in
+    record { fits = omega (arith, laws.low-state (c .before .before .before .before .before .pre .1) (the-states .inv) (c .before .states-test .taken) (c .next-state .ensures), the-states .inv .rows .few) }
 
 later-states-requires : tie.Need-later-states-requires Inv-states μ-states
 later-states-requires c κs = search needs
@@ -36,27 +40,33 @@ wide-requires c κs = search needs
 
 slice-read-y : tie.Need-slice-read-y Inv-states μ-states
 slice-read-y c =
+    let the-pre = c .before .before .before .before .before .before .before .before .before .pre in
     let place = c .before .wide .ensures ∙ c .before .before .variable-of .ensures in
-    let met = laws.meet (c .before .before .before .before .before .before .before .before .before .pre .0 .0) (c .before .before .before .before .before .before .before .before .before .pre .1) (c .before .before .before .before .before .before .states .inv) (c .before .before .before .before .before .states-test .taken) (c .before .before .before .before .next-state .ensures) (c .before .before .before .later-states .ensures) place in
+    let met = laws.meet (the-pre .0 .0) (the-pre .1) (c .before .before .before .before .before .before .states .inv) (c .before .before .before .before .before .states-test .taken) (c .before .before .before .before .next-state .ensures) (c .before .before .before .later-states .ensures) place in
     laws.place-inside met
 
 put-requires : tie.Need-put-requires Inv-states μ-states
 put-requires c κs =
-    let place = c .before .before .before .before .before .before .wide .ensures ∙ c .before .before .before .before .before .before .before .variable-of .ensures in
-    let met = laws.meet (c .before .before .before .before .before .before .before .before .before .before .before .before .before .before .pre .0 .0) (c .before .before .before .before .before .before .before .before .before .before .before .before .before .before .pre .1) (c .before .before .before .before .before .before .before .before .before .before .before .states .inv) (c .before .before .before .before .before .before .before .before .before .before .states-test .taken) (c .before .before .before .before .before .before .before .before .before .next-state .ensures) (c .before .before .before .before .before .before .before .before .later-states .ensures) place in
-    (laws.bounds met .0, laws.bounds met .1, rw (c .before .before .before .before .before .before .before .variable-of .ensures) (laws.inside met), laws.can-put met refl (c .before .before .before .before .if1 .taken))
+    let the-variable-of = c .before .before .before .before .before .before .before .variable-of in
+    let the-pre = c .before .before .before .before .before .before .before .before .before .before .before .before .before .before .pre in
+    let place = c .before .before .before .before .before .before .wide .ensures ∙ the-variable-of .ensures in
+    let met = laws.meet (the-pre .0 .0) (the-pre .1) (c .before .before .before .before .before .before .before .before .before .before .before .states .inv) (c .before .before .before .before .before .before .before .before .before .before .states-test .taken) (c .before .before .before .before .before .before .before .before .before .next-state .ensures) (c .before .before .before .before .before .before .before .before .later-states .ensures) place in
+    (laws.bounds met .0, laws.bounds met .1, rw (the-variable-of .ensures) (laws.inside met), laws.can-put met refl (c .before .before .before .before .if1 .taken))
 
 states-less : tie.Need-states-less Inv-states μ-states
 states-less c =
+    let the-pre = c .before .before .before .before .before .before .before .before .before .before .before .before .before .before .before .before .before .before .before .pre in
     let place = c .before .before .before .before .before .before .before .before .before .before .before .wide .ensures ∙ c .before .before .before .before .before .before .before .before .before .before .before .before .variable-of .ensures in
-    let met = laws.meet (c .before .before .before .before .before .before .before .before .before .before .before .before .before .before .before .before .before .before .before .pre .0 .0) (c .before .before .before .before .before .before .before .before .before .before .before .before .before .before .before .before .before .before .before .pre .1) (c .before .before .before .before .before .before .before .before .before .before .before .before .before .before .before .before .states .inv) (c .before .before .before .before .before .before .before .before .before .before .before .before .before .before .before .states-test .taken) (c .before .before .before .before .before .before .before .before .before .before .before .before .before .before .next-state .ensures) (c .before .before .before .before .before .before .before .before .before .before .before .before .before .later-states .ensures) place in
+    let met = laws.meet (the-pre .0 .0) (the-pre .1) (c .before .before .before .before .before .before .before .before .before .before .before .before .before .before .before .before .states .inv) (c .before .before .before .before .before .before .before .before .before .before .before .before .before .before .before .states-test .taken) (c .before .before .before .before .before .before .before .before .before .before .before .before .before .before .next-state .ensures) (c .before .before .before .before .before .before .before .before .before .before .before .before .before .later-states .ensures) place in
     laws.rest-less met
 
 states-again : tie.Need-states-again Inv-states μ-states
 states-again c =
-    let place = c .before .before .before .before .before .before .before .before .before .before .before .wide .ensures ∙ c .before .before .before .before .before .before .before .before .before .before .before .before .variable-of .ensures in
-    let met = laws.meet (c .before .before .before .before .before .before .before .before .before .before .before .before .before .before .before .before .before .before .before .pre .0 .0) (c .before .before .before .before .before .before .before .before .before .before .before .before .before .before .before .before .before .before .before .pre .1) (c .before .before .before .before .before .before .before .before .before .before .before .before .before .before .before .before .states .inv) (c .before .before .before .before .before .before .before .before .before .before .before .before .before .before .before .states-test .taken) (c .before .before .before .before .before .before .before .before .before .before .before .before .before .before .next-state .ensures) (c .before .before .before .before .before .before .before .before .before .before .before .before .before .later-states .ensures) place in
-    laws.spread-put met refl (c .before .before .before .before .before .before .before .before .before .if1 .taken) (c .before .before .before .before .before .before .before .before .before .before .before .before .variable-of .ensures) (c .before .before .before .before .put .ensures)
+    let the-variable-of = c .before .before .before .before .before .before .before .before .before .before .before .before .variable-of in
+    let the-pre = c .before .before .before .before .before .before .before .before .before .before .before .before .before .before .before .before .before .before .before .pre in
+    let place = c .before .before .before .before .before .before .before .before .before .before .before .wide .ensures ∙ the-variable-of .ensures in
+    let met = laws.meet (the-pre .0 .0) (the-pre .1) (c .before .before .before .before .before .before .before .before .before .before .before .before .before .before .before .before .states .inv) (c .before .before .before .before .before .before .before .before .before .before .before .before .before .before .before .states-test .taken) (c .before .before .before .before .before .before .before .before .before .before .before .before .before .before .next-state .ensures) (c .before .before .before .before .before .before .before .before .before .before .before .before .before .later-states .ensures) place in
+    laws.spread-put met refl (c .before .before .before .before .before .before .before .before .before .if1 .taken) (the-variable-of .ensures) (c .before .before .before .before .put .ensures)
 
 same-length : tie.Need-same-length Inv-states μ-states
 same-length c = worked-length (c .before .before .before .before .before .before .before .before .before .before .before .pre .0 .0) (c .before .before .before .before .before .before .before .before .states .inv .worked)
@@ -66,20 +76,23 @@ same-length-2 c = c .before .before .before .before .before .before .before .bef
 
 returns : tie.Need-returns Inv-states μ-states
 returns c =
+    let the-pre = c .before .before .before .before .before .before .before .before .before .before .before .pre in
     let place = c .before .before .before .wide .ensures ∙ c .before .before .before .before .variable-of .ensures in
-    let met = laws.meet (c .before .before .before .before .before .before .before .before .before .before .before .pre .0 .0) (c .before .before .before .before .before .before .before .before .before .before .before .pre .1) (c .before .before .before .before .before .before .before .before .states .inv) (c .before .before .before .before .before .before .before .states-test .taken) (c .before .before .before .before .before .before .next-state .ensures) (c .before .before .before .before .before .later-states .ensures) place in
+    let met = laws.meet (the-pre .0 .0) (the-pre .1) (c .before .before .before .before .before .before .before .before .states .inv) (c .before .before .before .before .before .before .before .states-test .taken) (c .before .before .before .before .before .before .next-state .ensures) (c .before .before .before .before .before .later-states .ensures) place in
     laws.spread-broken met refl (c .before .if1 .left) (c .if2 .taken)
 
 states-less-2 : tie.Need-states-less-2 Inv-states μ-states
 states-less-2 c =
+    let the-pre = c .before .before .before .before .before .before .before .before .before .before .before .pre in
     let place = c .before .before .before .wide .ensures ∙ c .before .before .before .before .variable-of .ensures in
-    let met = laws.meet (c .before .before .before .before .before .before .before .before .before .before .before .pre .0 .0) (c .before .before .before .before .before .before .before .before .before .before .before .pre .1) (c .before .before .before .before .before .before .before .before .states .inv) (c .before .before .before .before .before .before .before .states-test .taken) (c .before .before .before .before .before .before .next-state .ensures) (c .before .before .before .before .before .later-states .ensures) place in
+    let met = laws.meet (the-pre .0 .0) (the-pre .1) (c .before .before .before .before .before .before .before .before .states .inv) (c .before .before .before .before .before .before .before .states-test .taken) (c .before .before .before .before .before .before .next-state .ensures) (c .before .before .before .before .before .later-states .ensures) place in
     laws.rest-less met
 
 states-again-2 : tie.Need-states-again-2 Inv-states μ-states
 states-again-2 c =
+    let the-pre = c .before .before .before .before .before .before .before .before .before .before .before .pre in
     let place = c .before .before .before .wide .ensures ∙ c .before .before .before .before .variable-of .ensures in
-    let met = laws.meet (c .before .before .before .before .before .before .before .before .before .before .before .pre .0 .0) (c .before .before .before .before .before .before .before .before .before .before .before .pre .1) (c .before .before .before .before .before .before .before .before .states .inv) (c .before .before .before .before .before .before .before .states-test .taken) (c .before .before .before .before .before .before .next-state .ensures) (c .before .before .before .before .before .later-states .ensures) place in
+    let met = laws.meet (the-pre .0 .0) (the-pre .1) (c .before .before .before .before .before .before .before .before .states .inv) (c .before .before .before .before .before .before .before .states-test .taken) (c .before .before .before .before .before .before .next-state .ensures) (c .before .before .before .before .before .later-states .ensures) place in
     laws.spread-skip met refl (c .if2 .left)
 
 same-length-3 : tie.Need-same-length-3 Inv-states μ-states

@@ -19,16 +19,19 @@ same-length-2 c = c .before .before .before .before .before .spread .ensures .0 
 
 returns : tie.Need-returns
 returns c =
+    let the-spread = c .before .before .before .before .before .spread in
     let w = c .before .before .before .before .before .before .before .before .before .before .before .before .pre .0 .0 in
-    let k = c .before .before .before .before .before .spread .ensures .0 in
-    (laws.both-broken w k (c .if1 .taken), c .before .before .before .before .before .spread .ensures .1)
+    let k = the-spread .ensures .0 in
+    (laws.both-broken w k (c .if1 .taken), the-spread .ensures .1)
 
 spread-requires-2 : tie.Need-spread-requires-2
 spread-requires-2 c κs =
-    let w = c .before .before .before .before .before .before .before .before .before .before .before .before .before .before .before .before .pre .0 .0 in
-    let o = c .before .before .before .before .before .before .before .before .before .before .before .before .before .before .before .before .pre .1 in
-    let k = c .before .before .before .before .before .before .before .before .before .spread .ensures .0 in
-    ((worked-on w (k .worked), c .before .before .before .before .before .before .before .before .before .spread .ensures .1), laws.both-then w k (o .1))
+    let the-spread = c .before .before .before .before .before .before .before .before .before .spread in
+    let the-pre = c .before .before .before .before .before .before .before .before .before .before .before .before .before .before .before .before .pre in
+    let w = the-pre .0 .0 in
+    let o = the-pre .1 in
+    let k = the-spread .ensures .0 in
+    ((worked-on w (k .worked), the-spread .ensures .1), laws.both-then w k (o .1))
 
 same-length-3 : tie.Need-same-length-3
 same-length-3 c =
@@ -45,11 +48,13 @@ same-length-4 c =
 
 returns-2 : tie.Need-returns-2
 returns-2 c =
-    let w = c .before .before .before .before .before .before .before .before .before .before .before .before .before .before .before .before .before .before .before .before .before .pre .0 .0 in
-    let o = c .before .before .before .before .before .before .before .before .before .before .before .before .before .before .before .before .before .before .before .before .before .pre .1 in
+    let the-spread2 = c .before .before .before .before .spread2 in
+    let the-pre = c .before .before .before .before .before .before .before .before .before .before .before .before .before .before .before .before .before .before .before .before .before .pre in
+    let w = the-pre .0 .0 in
+    let o = the-pre .1 in
     let k = c .before .before .before .before .before .before .before .before .before .before .before .before .before .before .spread .ensures .0 in
-    let l = c .before .before .before .before .spread2 .ensures .0 in
-    (laws.both-done w k (o .0 .small) (c .before .before .before .before .before .before .before .before .before .if1 .left) l, c .before .before .before .before .spread2 .ensures .1)
+    let l = the-spread2 .ensures .0 in
+    (laws.both-done w k (o .0 .small) (c .before .before .before .before .before .before .before .before .before .if1 .left) l, the-spread2 .ensures .1)
 
 pub spread-both-spec : {M : Type 1} → statement M
 spread-both-spec =

@@ -40,7 +40,10 @@ wide-requires : tie.Need-wide-requires Inv-literals μ-literals
 wide-requires c κs = search needs
 
 returns-3 : tie.Need-returns-3 Inv-literals μ-literals
-returns-3 c = (let w = c .before .before .before .before .literals .inv in laws.mark-past (omega (arith, c .before .before .before .literals-test .taken)) (w .0) (w .1) (c .before .before .before .before .before .before .before .before .pre .0) (omega (arith, c .before .before .before .literals-test .taken, w .0 .inside)) (c .before .wide .ensures) (c .if3 .taken), c .before .before .before .before .literals .inv .1 .below)
+returns-3 c =
+    let the-literals-test = c .before .before .before .literals-test in
+    let the-literals = c .before .before .before .before .literals in
+    (let w = the-literals .inv in laws.mark-past (omega (arith, the-literals-test .taken)) (w .0) (w .1) (c .before .before .before .before .before .before .before .before .pre .0) (omega (arith, the-literals-test .taken, w .0 .inside)) (c .before .wide .ensures) (c .if3 .taken), the-literals .inv .1 .below)
 
 mul-if4 : tie.Need-mul-if4 Inv-literals μ-literals
 mul-if4 c = search needs
@@ -49,7 +52,10 @@ element-copy-out-if4 : tie.Need-element-copy-out-if4 Inv-literals μ-literals
 element-copy-out-if4 c = omega (arith, c .before .before .before .before .before .before .before .before .pre .0, c .if3 .left)
 
 returns-4 : tie.Need-returns-4 Inv-literals μ-literals
-returns-4 c = (let w = c .before .before .before .before .before .before .literals .inv in laws.mark-twice (omega (arith, c .before .before .before .before .before .literals-test .taken)) (w .0) (w .1) (c .before .before .before .before .before .before .before .before .before .before .pre .0) (omega (arith, c .before .before .before .before .before .literals-test .taken, w .0 .inside)) (c .before .before .before .wide .ensures) (c .before .before .if3 .left) (c .if4 .taken), c .before .before .before .before .before .before .literals .inv .1 .below)
+returns-4 c =
+    let the-literals-test = c .before .before .before .before .before .literals-test in
+    let the-literals = c .before .before .before .before .before .before .literals in
+    (let w = the-literals .inv in laws.mark-twice (omega (arith, the-literals-test .taken)) (w .0) (w .1) (c .before .before .before .before .before .before .before .before .before .before .pre .0) (omega (arith, the-literals-test .taken, w .0 .inside)) (c .before .before .before .wide .ensures) (c .before .before .if3 .left) (c .if4 .taken), the-literals .inv .1 .below)
 
 mul-marks : tie.Need-mul-marks Inv-literals μ-literals
 mul-marks c = search needs
@@ -61,10 +67,18 @@ literals-less : tie.Need-literals-less Inv-literals μ-literals
 literals-less c = search needs
 
 literals-again : tie.Need-literals-again Inv-literals μ-literals
-literals-again c = (let w = c .before .before .before .before .before .before .literals .inv in laws.mark-new (omega (arith, c .before .before .before .before .before .literals-test .taken)) (w .0) (w .1) (c .before .before .before .before .before .before .before .before .before .before .pre .0) (omega (arith, c .before .before .before .before .before .literals-test .taken, w .0 .inside)) (c .before .before .before .wide .ensures) (c .before .before .if3 .left) (c .if4 .left), laws.mark-on (omega (arith, c .before .before .before .before .before .literals-test .taken)) (c .before .before .before .before .before .before .literals .inv .1) (omega (arith, c .before .before .before .before .before .literals-test .taken, c .before .before .before .before .before .before .literals .inv .0 .inside)) (c .before .before .before .wide .ensures) (omega (arith, c .before .before .before .before .before .before .before .before .before .before .pre .0, c .before .before .if3 .left)))
+literals-again c =
+    let the-if3 = c .before .before .if3 in
+    let the-wide = c .before .before .before .wide in
+    let the-literals-test = c .before .before .before .before .before .literals-test in
+    let the-literals = c .before .before .before .before .before .before .literals in
+    let the-pre = c .before .before .before .before .before .before .before .before .before .before .pre in
+    (let w = the-literals .inv in laws.mark-new (omega (arith, the-literals-test .taken)) (w .0) (w .1) (the-pre .0) (omega (arith, the-literals-test .taken, w .0 .inside)) (the-wide .ensures) (the-if3 .left) (c .if4 .left), laws.mark-on (omega (arith, the-literals-test .taken)) (the-literals .inv .1) (omega (arith, the-literals-test .taken, the-literals .inv .0 .inside)) (the-wide .ensures) (omega (arith, the-pre .0, the-if3 .left)))
 
 returns-5 : tie.Need-returns-5 Inv-literals μ-literals
-returns-5 c = (laws.fit-done (c .before .literals .inv .0) (c .literals-test .left), c .before .literals .inv .1 .below)
+returns-5 c =
+    let the-literals = c .before .literals in
+    (laws.fit-done (the-literals .inv .0) (c .literals-test .left), the-literals .inv .1 .below)
 
 pub clause-fits-spec : {M : Type 1} → statement M
 clause-fits-spec =

@@ -6,13 +6,13 @@ use Prim.Native.Nat.{_+_, _-_}
 use lib.ListN.{length}
 use mathlib.Core.Path.{refl, sym, _∙_}
 use borrow.Author.Tests.{not-true, not-false}
-use Rattle.fits.specs.Marks.{Below}
+use Rattle.fits.specs.Marks.{MarksBelow}
 use Rattle.fits.proofs.Fitting as laws
 use Rattle.fits.proofs.list_fits.Statement.{statement}
 use Rattle.fits.proofs.list_fits.Tie as tie
 
 abbrev Inv-clauses : tie.InvT-clauses
-Inv-clauses list variables marks₀ at₀ marks at = laws.Judging list variables at × Below marks (at + 1)
+Inv-clauses list variables marks₀ at₀ marks at = laws.Judging list variables at × MarksBelow marks (at + 1)
 
 abbrev μ-clauses : tie.MeasureT-clauses
 μ-clauses list variables marks₀ at₀ marks at = length list - at
@@ -76,14 +76,15 @@ clauses-less c = search needs
 
 clauses-again : tie.Need-clauses-again Inv-clauses μ-clauses
 clauses-again c =
+    let the-clause-fits = c .before .clause-fits in
     let k = c .before .before .before .before .before .wide .ensures in (
       laws.judge-on
           (c .before .before .before .before .before .before .before .before .clauses .inv .0)
           (c .before .before .before .before .before .before .before .clauses-test .taken)
           (rw k at (c .before .before .before .before .if1 .left))
           (rw k refl)
-          (sym (c .before .clause-fits .ensures .0) ∙ not-false _ (c .if2 .left)),
-      laws.lower-still (c .before .clause-fits .ensures .1) (omega arith),
+          (sym (the-clause-fits .ensures .0) ∙ not-false _ (c .if2 .left)),
+      laws.lower-still (the-clause-fits .ensures .1) (omega arith),
     )
 
 returns-3 : tie.Need-returns-3 Inv-clauses μ-clauses

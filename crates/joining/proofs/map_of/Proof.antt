@@ -30,7 +30,9 @@ wide-requires-2 : tie.Need-wide-requires-2 Inv-states μ-states
 wide-requires-2 c κs = search needs
 
 array-read-map : tie.Need-array-read-map Inv-states μ-states
-array-read-map c = omega (arith, c .wide2 .ensures, ap (λ x. getD (c .before .before .before .before .before .lowest-joined .result) x 0) (c .before .before .wide .ensures), low-small (c .before .before .before .before .before .before .before .pre .0) (c .before .before .before .before .before .lowest-joined .ensures) (c .before .before .before .before .states .inv) (c .before .before .before .states-test .taken))
+array-read-map c =
+    let the-lowest-joined = c .before .before .before .before .before .lowest-joined in
+    omega (arith, c .wide2 .ensures, ap (λ x. getD (the-lowest-joined .result) x 0) (c .before .before .wide .ensures), low-small (c .before .before .before .before .before .before .before .pre .0) (the-lowest-joined .ensures) (c .before .before .before .before .states .inv) (c .before .before .before .states-test .taken))
 
 array-write-map : tie.Need-array-write-map Inv-states μ-states
 array-write-map c = search needs
@@ -42,7 +44,9 @@ states-less : tie.Need-states-less Inv-states μ-states
 states-less c = search needs
 
 states-again : tie.Need-states-again Inv-states μ-states
-states-again c = rw (c .wide2 .ensures, c .before .before .wide .ensures) (numbered-joined (c .before .before .before .before .before .before .before .pre .0) (c .before .before .before .before .before .lowest-joined .ensures) (c .before .before .before .before .states .inv) (c .before .before .before .states-test .taken) (rw (c .before .before .wide .ensures) at (c .before .if1 .taken)))
+states-again c =
+    let the-wide = c .before .before .wide in
+    rw (c .wide2 .ensures, the-wide .ensures) (numbered-joined (c .before .before .before .before .before .before .before .pre .0) (c .before .before .before .before .before .lowest-joined .ensures) (c .before .before .before .before .states .inv) (c .before .before .before .states-test .taken) (rw (the-wide .ensures) at (c .before .if1 .taken)))
 
 array-write-map-2 : tie.Need-array-write-map-2 Inv-states μ-states
 array-write-map-2 c = search needs
@@ -57,7 +61,9 @@ states-less-2 : tie.Need-states-less-2 Inv-states μ-states
 states-less-2 c = search needs
 
 states-again-2 : tie.Need-states-again-2 Inv-states μ-states
-states-again-2 c = rw (c .before .wide .ensures) (numbered-new (c .before .before .before .before .before .before .pre .0) (c .before .before .before .before .lowest-joined .ensures) (c .before .before .before .states .inv) (c .before .before .states-test .taken) (rw (c .before .wide .ensures) at (c .if1 .left)))
+states-again-2 c =
+    let the-wide = c .before .wide in
+    rw (the-wide .ensures) (numbered-new (c .before .before .before .before .before .before .pre .0) (c .before .before .before .before .lowest-joined .ensures) (c .before .before .before .states .inv) (c .before .before .states-test .taken) (rw (the-wide .ensures) at (c .if1 .left)))
 
 returns : tie.Need-returns Inv-states μ-states
 returns c = numbered-all (c .before .states .inv) (c .states-test .left)

@@ -124,6 +124,7 @@ records-less c = search needs
 
 records-again : tie.Need-records-again Inv-records μ-records
 records-again c =
+    let the-has-bit = c .before .has-bit in
     let i = c .before .before .before .before in
     let s = i .before .before .before in
     let l : i .before .records .k < length (records 4 (s .args .section .now)) = omega (arith, i .records-test .taken, s .pre .1) in
@@ -132,8 +133,8 @@ records-again c =
     let found = c .before .before .wide .ensures ∙ sym (byte-at 4 (s .args .section .now) (i .before .records .k) l 2 (omega arith)) in
     let target = sym (byte-at 4 (s .args .section .now) (i .before .records .k) l 3 (omega arith)) in
     ⊎-elim
-    (λ a. rw (a .6) (run-on (i .before .records .inv) (i .records-test .taken) (s .pre .1) (a .5 .ensures ∙ (λ j. add (i .before .records .words) ((a .3 .ensures ∙ target) j) (popped-yes (s .args .reached) (s .args .below .now) r found (c .before .has-bit .ensures) (a .0 .taken) j)))))
-    (λ a. rw (a .1) (run-on (i .before .records .inv) (i .records-test .taken) (s .pre .1) (popped-no (s .args .reached) (s .args .below .now) r found (c .before .has-bit .ensures) (a .0 .left) _ _)))
+    (λ a. rw (a .6) (run-on (i .before .records .inv) (i .records-test .taken) (s .pre .1) (a .5 .ensures ∙ (λ j. add (i .before .records .words) ((a .3 .ensures ∙ target) j) (popped-yes (s .args .reached) (s .args .below .now) r found (the-has-bit .ensures) (a .0 .taken) j)))))
+    (λ a. rw (a .1) (run-on (i .before .records .inv) (i .records-test .taken) (s .pre .1) (popped-no (s .args .reached) (s .args .below .now) r found (the-has-bit .ensures) (a .0 .left) _ _)))
     (c .if1 .came)
 
 returns : tie.Need-returns Inv-records μ-records

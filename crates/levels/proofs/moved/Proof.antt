@@ -20,7 +20,9 @@ abbrev μ-states : tie.MeasureT-states
 μ-states section starts n a call level words₀ q₀ words q = n - q
 
 states-holds : tie.Need-states-holds Inv-states μ-states
-states-holds c = stepping (omega arith) (c .before .pre .0) (c .before .pre .2) (c .before .pre .3) _ 2 (c .before .pre .1) _
+states-holds c =
+    let the-pre = c .before .pre in
+    stepping (omega arith) (the-pre .0) (the-pre .2) (the-pre .3) _ 2 (the-pre .1) _
 
 gain-requires : tie.Need-gain-requires Inv-states μ-states
 gain-requires c κs = omega (arith, c .states-test .taken, c .before .before .before .pre .0)
@@ -67,12 +69,13 @@ states-less c = search needs
 
 states-again : tie.Need-states-again Inv-states μ-states
 states-again c =
+    let the-gain = c .before .gain in
     let i = c .before .before in
     let s = i .before .before .before in
     let gives = gain (s .args .call) (s .args .level .now) in
     ⊎-elim
-    (λ a. rw (a .7) (step-by (omega arith) (s .pre .0) (s .pre .2) (s .pre .3) _ 2 (s .pre .1) _ (i .before .states .inv) (i .states-test .taken) (λ r. c .before .gain .result) (λ r d. c .before .gain .ensures ∙ ap gives (sym d)) (a .2 .ensures) (a .4 .ensures) (a .6 .ensures)))
-    (λ a. rw (a .1) (step-over (omega arith) (s .pre .0) (s .pre .2) (s .pre .3) _ 2 (s .pre .1) _ (i .before .states .inv) (i .states-test .taken) (λ r d. ap gives d ∙ sym (c .before .gain .ensures) ∙ a .0 .left)))
+    (λ a. rw (a .7) (step-by (omega arith) (s .pre .0) (s .pre .2) (s .pre .3) _ 2 (s .pre .1) _ (i .before .states .inv) (i .states-test .taken) (λ r. the-gain .result) (λ r d. the-gain .ensures ∙ ap gives (sym d)) (a .2 .ensures) (a .4 .ensures) (a .6 .ensures)))
+    (λ a. rw (a .1) (step-over (omega arith) (s .pre .0) (s .pre .2) (s .pre .3) _ 2 (s .pre .1) _ (i .before .states .inv) (i .states-test .taken) (λ r d. ap gives d ∙ sym (the-gain .ensures) ∙ a .0 .left)))
     (c .if1 .came)
 
 returns : tie.Need-returns Inv-states μ-states

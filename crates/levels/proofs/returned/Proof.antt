@@ -21,7 +21,9 @@ abbrev μ-states : tie.MeasureT-states
 μ-states section starts n a level below words₀ q₀ words q = n - q
 
 states-holds : tie.Need-states-holds Inv-states μ-states
-states-holds c = stepping (omega arith) (c .before .pre .0) (c .before .pre .2) (c .before .pre .3) _ 3 (c .before .pre .1) _
+states-holds c =
+    let the-pre = c .before .pre in
+    stepping (omega arith) (the-pre .0) (the-pre .2) (the-pre .3) _ 3 (the-pre .1) _
 
 mul-reached : tie.Need-mul-reached Inv-states μ-states
 mul-reached c = search needs

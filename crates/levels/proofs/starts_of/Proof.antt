@@ -88,6 +88,7 @@ wide-requires-2 c κs = search needs
 
 add-place : tie.Need-add-place Inv-records μ-records
 add-place c =
+    let the-wide = c .before .before .wide in
     let i = c .before .before .before .before in
     let s = i .before .before .before in
     let k = i .before .records .k in
@@ -98,11 +99,13 @@ add-place c =
     let state = state-small (s .pre .1) k l 0 (λ z. omega arith) (omega arith) in
     let second = byte-at (s .args .width) (s .args .section .now) k l 1 (omega arith) in
     let symbol = symbol-small (s .pre .1) k l in
-    let e : c .before .before .wide .result * 64 + c .wide2 .result ≡ placeOf (getD (records (s .args .width) (s .args .section .now)) k []) = omega (arith, c .before .before .wide .ensures, c .wide2 .ensures) in
+    let e : the-wide .result * 64 + c .wide2 .result ≡ placeOf (getD (records (s .args .width) (s .args .section .now)) k []) = omega (arith, the-wide .ensures, c .wide2 .ensures) in
     search needs
 
 add-fill : tie.Need-add-fill Inv-records μ-records
 add-fill c =
+    let the-wide2 = c .before .wide2 in
+    let the-wide = c .before .before .before .wide in
     let i = c .before .before .before .before .before in
     let s = i .before .before .before in
     let k = i .before .records .k in
@@ -113,7 +116,7 @@ add-fill c =
     let state = state-small (s .pre .1) k l 0 (λ z. omega arith) (omega arith) in
     let second = byte-at (s .args .width) (s .args .section .now) k l 1 (omega arith) in
     let symbol = symbol-small (s .pre .1) k l in
-    let e : c .before .before .before .wide .result * 64 + c .before .wide2 .result ≡ placeOf (getD (records (s .args .width) (s .args .section .now)) k []) = omega (arith, c .before .before .before .wide .ensures, c .before .wide2 .ensures) in
+    let e : the-wide .result * 64 + the-wide2 .result ≡ placeOf (getD (records (s .args .width) (s .args .section .now)) k []) = omega (arith, the-wide .ensures, the-wide2 .ensures) in
     search needs
 
 cast-fill : tie.Need-cast-fill Inv-records μ-records
@@ -129,6 +132,8 @@ cast-fill c =
 
 fill-requires : tie.Need-fill-requires Inv-records μ-records
 fill-requires c κs =
+    let the-wide2 = c .before .wide2 in
+    let the-wide = c .before .before .before .wide in
     let i = c .before .before .before .before .before in
     let s = i .before .before .before in
     let k = i .before .records .k in
@@ -139,12 +144,14 @@ fill-requires c κs =
     let state = state-small (s .pre .1) k l 0 (λ z. omega arith) (omega arith) in
     let second = byte-at (s .args .width) (s .args .section .now) k l 1 (omega arith) in
     let symbol = symbol-small (s .pre .1) k l in
-    let e : c .before .before .before .wide .result * 64 + c .before .wide2 .result ≡ placeOf (getD (records (s .args .width) (s .args .section .now)) k []) = omega (arith, c .before .before .before .wide .ensures, c .before .wide2 .ensures) in
+    let e : the-wide .result * 64 + the-wide2 .result ≡ placeOf (getD (records (s .args .width) (s .args .section .now)) k []) = omega (arith, the-wide .ensures, the-wide2 .ensures) in
     let room = place-room wide (s .pre .1) (i .before .records .inv) l e in
     (room, omega (arith, room, i .before .records .inv .long))
 
 add-x : tie.Need-add-x Inv-records μ-records
 add-x c =
+    let the-wide2 = c .before .before .wide2 in
+    let the-wide = c .before .before .before .before .wide in
     let i = c .before .before .before .before .before .before in
     let s = i .before .before .before in
     let k = i .before .records .k in
@@ -155,7 +162,7 @@ add-x c =
     let state = state-small (s .pre .1) k l 0 (λ z. omega arith) (omega arith) in
     let second = byte-at (s .args .width) (s .args .section .now) k l 1 (omega arith) in
     let symbol = symbol-small (s .pre .1) k l in
-    let e : c .before .before .before .before .wide .result * 64 + c .before .before .wide2 .result ≡ placeOf (getD (records (s .args .width) (s .args .section .now)) k []) = omega (arith, c .before .before .before .before .wide .ensures, c .before .before .wide2 .ensures) in
+    let e : the-wide .result * 64 + the-wide2 .result ≡ placeOf (getD (records (s .args .width) (s .args .section .now)) k []) = omega (arith, the-wide .ensures, the-wide2 .ensures) in
     search needs
 
 add-k : tie.Need-add-k Inv-records μ-records
@@ -180,6 +187,8 @@ records-less c =
 
 records-again : tie.Need-records-again Inv-records μ-records
 records-again c =
+    let the-wide2 = c .before .before .wide2 in
+    let the-wide = c .before .before .before .before .wide in
     let i = c .before .before .before .before .before .before in
     let s = i .before .before .before in
     let k = i .before .records .k in
@@ -190,7 +199,7 @@ records-again c =
     let state = state-small (s .pre .1) k l 0 (λ z. omega arith) (omega arith) in
     let second = byte-at (s .args .width) (s .args .section .now) k l 1 (omega arith) in
     let symbol = symbol-small (s .pre .1) k l in
-    let e : c .before .before .before .before .wide .result * 64 + c .before .before .wide2 .result ≡ placeOf (getD (records (s .args .width) (s .args .section .now)) k []) = omega (arith, c .before .before .before .before .wide .ensures, c .before .before .wide2 .ensures) in
+    let e : the-wide .result * 64 + the-wide2 .result ≡ placeOf (getD (records (s .args .width) (s .args .section .now)) k []) = omega (arith, the-wide .ensures, the-wide2 .ensures) in
     index-on wide (s .pre .1) (i .before .records .inv) l e (c .fill .ensures)
 
 cast-fill-2 : tie.Need-cast-fill-2 Inv-records μ-records

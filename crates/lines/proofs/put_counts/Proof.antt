@@ -43,20 +43,44 @@ put-number-requires-6 : tie.Need-put-number-requires-6
 put-number-requires-6 c κs = search needs
 
 put-spent-requires : tie.Need-put-spent-requires
-put-spent-requires c κs = omega (arith, c .before .before .before .before .before .before .before .before .before .before .before .before .before .before .before .before .before .before .before .before .before .before .before .before .before .before .before .before .before .before .before .before .pre, c .before .before .before .before .before .before .before .before .before .before .before .before .before .before .before .before .before .before .before .before .before .before .before .before .before .before .before .before .put-number .ensures .1, c .before .before .before .before .before .before .before .before .before .before .before .before .before .before .before .before .before .before .before .before .before .before .before .before .before .before .before .before .put-number .ensures .0 .long, c .before .before .before .before .before .before .before .before .before .before .before .before .before .before .before .before .before .before .before .before .before .before .before .put-number2 .ensures .1, c .before .before .before .before .before .before .before .before .before .before .before .before .before .before .before .before .before .before .before .before .before .before .before .put-number2 .ensures .0 .long, c .before .before .before .before .before .before .before .before .before .before .before .before .before .before .before .before .before .before .put-number3 .ensures .1, c .before .before .before .before .before .before .before .before .before .before .before .before .before .before .before .before .before .before .put-number3 .ensures .0 .long, c .before .before .before .before .before .before .before .before .before .before .before .before .before .put-number4 .ensures .1, c .before .before .before .before .before .before .before .before .before .before .before .before .before .put-number4 .ensures .0 .long, c .before .before .before .before .before .before .before .before .put-number5 .ensures .1, c .before .before .before .before .before .before .before .before .put-number5 .ensures .0 .long, c .before .before .before .put-number6 .ensures .1, c .before .before .before .put-number6 .ensures .0 .long)
+put-spent-requires c κs =
+    let the-put-number6 = c .before .before .before .put-number6 in
+    let the-put-number5 = c .before .before .before .before .before .before .before .before .put-number5 in
+    let the-put-number4 = c .before .before .before .before .before .before .before .before .before .before .before .before .before .put-number4 in
+    let the-put-number3 = c .before .before .before .before .before .before .before .before .before .before .before .before .before .before .before .before .before .before .put-number3 in
+    let the-put-number2 = c .before .before .before .before .before .before .before .before .before .before .before .before .before .before .before .before .before .before .before .before .before .before .before .put-number2 in
+    let the-put-number = c .before .before .before .before .before .before .before .before .before .before .before .before .before .before .before .before .before .before .before .before .before .before .before .before .before .before .before .before .put-number in
+    omega (arith, c .before .before .before .before .before .before .before .before .before .before .before .before .before .before .before .before .before .before .before .before .before .before .before .before .before .before .before .before .before .before .before .before .pre, the-put-number .ensures .1, the-put-number .ensures .0 .long, the-put-number2 .ensures .1, the-put-number2 .ensures .0 .long, the-put-number3 .ensures .1, the-put-number3 .ensures .0 .long, the-put-number4 .ensures .1, the-put-number4 .ensures .0 .long, the-put-number5 .ensures .1, the-put-number5 .ensures .0 .long, the-put-number6 .ensures .1, the-put-number6 .ensures .0 .long)
 
 slice-aggregate-put : tie.Need-slice-aggregate-put
 slice-aggregate-put c = search needs
 
 put-requires : tie.Need-put-requires
-put-requires c κs = omega (arith, c .before .before .before .before .before .before .before .before .before .before .before .before .before .before .before .before .before .before .before .before .before .before .before .before .before .before .before .before .before .before .before .before .before .before .before .before .before .pre, c .before .before .before .before .before .before .before .before .before .before .before .before .before .before .before .before .before .before .before .before .before .before .before .before .before .before .before .before .before .before .before .before .before .put-number .ensures .1, c .before .before .before .before .before .before .before .before .before .before .before .before .before .before .before .before .before .before .before .before .before .before .before .before .before .before .before .before .before .before .before .before .before .put-number .ensures .0 .long, c .before .before .before .before .before .before .before .before .before .before .before .before .before .before .before .before .before .before .before .before .before .before .before .before .before .before .before .before .put-number2 .ensures .1, c .before .before .before .before .before .before .before .before .before .before .before .before .before .before .before .before .before .before .before .before .before .before .before .before .before .before .before .before .put-number2 .ensures .0 .long, c .before .before .before .before .before .before .before .before .before .before .before .before .before .before .before .before .before .before .before .before .before .before .before .put-number3 .ensures .1, c .before .before .before .before .before .before .before .before .before .before .before .before .before .before .before .before .before .before .before .before .before .before .before .put-number3 .ensures .0 .long, c .before .before .before .before .before .before .before .before .before .before .before .before .before .before .before .before .before .before .put-number4 .ensures .1, c .before .before .before .before .before .before .before .before .before .before .before .before .before .before .before .before .before .before .put-number4 .ensures .0 .long, c .before .before .before .before .before .before .before .before .before .before .before .before .before .put-number5 .ensures .1, c .before .before .before .before .before .before .before .before .before .before .before .before .before .put-number5 .ensures .0 .long, c .before .before .before .before .before .before .before .before .put-number6 .ensures .1, c .before .before .before .before .before .before .before .before .put-number6 .ensures .0 .long, c .before .before .before .before .put-spent .ensures .1, c .before .before .before .before .put-spent .ensures .0 .long)
+put-requires c κs =
+    let the-put-spent = c .before .before .before .before .put-spent in
+    let the-put-number6 = c .before .before .before .before .before .before .before .before .put-number6 in
+    let the-put-number5 = c .before .before .before .before .before .before .before .before .before .before .before .before .before .put-number5 in
+    let the-put-number4 = c .before .before .before .before .before .before .before .before .before .before .before .before .before .before .before .before .before .before .put-number4 in
+    let the-put-number3 = c .before .before .before .before .before .before .before .before .before .before .before .before .before .before .before .before .before .before .before .before .before .before .before .put-number3 in
+    let the-put-number2 = c .before .before .before .before .before .before .before .before .before .before .before .before .before .before .before .before .before .before .before .before .before .before .before .before .before .before .before .before .put-number2 in
+    let the-put-number = c .before .before .before .before .before .before .before .before .before .before .before .before .before .before .before .before .before .before .before .before .before .before .before .before .before .before .before .before .before .before .before .before .before .put-number in
+    omega (arith, c .before .before .before .before .before .before .before .before .before .before .before .before .before .before .before .before .before .before .before .before .before .before .before .before .before .before .before .before .before .before .before .before .before .before .before .before .before .pre, the-put-number .ensures .1, the-put-number .ensures .0 .long, the-put-number2 .ensures .1, the-put-number2 .ensures .0 .long, the-put-number3 .ensures .1, the-put-number3 .ensures .0 .long, the-put-number4 .ensures .1, the-put-number4 .ensures .0 .long, the-put-number5 .ensures .1, the-put-number5 .ensures .0 .long, the-put-number6 .ensures .1, the-put-number6 .ensures .0 .long, the-put-spent .ensures .1, the-put-spent .ensures .0 .long)
 
 same-length : tie.Need-same-length
 same-length c = let p = put-on (put-on (put-on (put-on (put-on (put-on (put-on (c .before .before .before .before .before .before .before .before .before .before .before .before .before .before .before .before .before .before .before .before .before .before .before .before .before .before .before .before .before .before .before .before .before .before .before .before .put-number .ensures .0) (c .before .before .before .before .before .before .before .before .before .before .before .before .before .before .before .before .before .before .before .before .before .before .before .before .before .before .before .before .before .before .before .put-number2 .ensures .0)) (c .before .before .before .before .before .before .before .before .before .before .before .before .before .before .before .before .before .before .before .before .before .before .before .before .before .before .put-number3 .ensures .0)) (c .before .before .before .before .before .before .before .before .before .before .before .before .before .before .before .before .before .before .before .before .before .put-number4 .ensures .0)) (c .before .before .before .before .before .before .before .before .before .before .before .before .before .before .before .before .put-number5 .ensures .0)) (c .before .before .before .before .before .before .before .before .before .before .before .put-number6 .ensures .0)) (c .before .before .before .before .before .before .before .put-spent .ensures .0)) (c .before .before .put .ensures) in p .long
 
 returns : tie.Need-returns
 unfolding countsText
-returns c = (put-on (put-on (put-on (put-on (put-on (put-on (put-on (c .before .before .before .before .before .before .before .before .before .before .before .before .before .before .before .before .before .before .before .before .before .before .before .before .before .before .before .before .before .before .before .before .before .before .before .before .put-number .ensures .0) (c .before .before .before .before .before .before .before .before .before .before .before .before .before .before .before .before .before .before .before .before .before .before .before .before .before .before .before .before .before .before .before .put-number2 .ensures .0)) (c .before .before .before .before .before .before .before .before .before .before .before .before .before .before .before .before .before .before .before .before .before .before .before .before .before .before .put-number3 .ensures .0)) (c .before .before .before .before .before .before .before .before .before .before .before .before .before .before .before .before .before .before .before .before .before .put-number4 .ensures .0)) (c .before .before .before .before .before .before .before .before .before .before .before .before .before .before .before .before .put-number5 .ensures .0)) (c .before .before .before .before .before .before .before .before .before .before .before .put-number6 .ensures .0)) (c .before .before .before .before .before .before .before .put-spent .ensures .0)) (c .before .before .put .ensures), omega (arith, c .before .before .before .before .before .before .before .before .before .before .before .before .before .before .before .before .before .before .before .before .before .before .before .before .before .before .before .before .before .before .before .before .before .before .before .before .put-number .ensures .1, c .before .before .before .before .before .before .before .before .before .before .before .before .before .before .before .before .before .before .before .before .before .before .before .before .before .before .before .before .before .before .before .before .before .before .before .before .put-number .ensures .0 .long, c .before .before .before .before .before .before .before .before .before .before .before .before .before .before .before .before .before .before .before .before .before .before .before .before .before .before .before .before .before .before .before .put-number2 .ensures .1, c .before .before .before .before .before .before .before .before .before .before .before .before .before .before .before .before .before .before .before .before .before .before .before .before .before .before .before .before .before .before .before .put-number2 .ensures .0 .long, c .before .before .before .before .before .before .before .before .before .before .before .before .before .before .before .before .before .before .before .before .before .before .before .before .before .before .put-number3 .ensures .1, c .before .before .before .before .before .before .before .before .before .before .before .before .before .before .before .before .before .before .before .before .before .before .before .before .before .before .put-number3 .ensures .0 .long, c .before .before .before .before .before .before .before .before .before .before .before .before .before .before .before .before .before .before .before .before .before .put-number4 .ensures .1, c .before .before .before .before .before .before .before .before .before .before .before .before .before .before .before .before .before .before .before .before .before .put-number4 .ensures .0 .long, c .before .before .before .before .before .before .before .before .before .before .before .before .before .before .before .before .put-number5 .ensures .1, c .before .before .before .before .before .before .before .before .before .before .before .before .before .before .before .before .put-number5 .ensures .0 .long, c .before .before .before .before .before .before .before .before .before .before .before .put-number6 .ensures .1, c .before .before .before .before .before .before .before .before .before .before .before .put-number6 .ensures .0 .long, c .before .before .before .before .before .before .before .put-spent .ensures .1, c .before .before .put .ensures .place))
+returns c =
+    let the-put = c .before .before .put in
+    let the-put-spent = c .before .before .before .before .before .before .before .put-spent in
+    let the-put-number6 = c .before .before .before .before .before .before .before .before .before .before .before .put-number6 in
+    let the-put-number5 = c .before .before .before .before .before .before .before .before .before .before .before .before .before .before .before .before .put-number5 in
+    let the-put-number4 = c .before .before .before .before .before .before .before .before .before .before .before .before .before .before .before .before .before .before .before .before .before .put-number4 in
+    let the-put-number3 = c .before .before .before .before .before .before .before .before .before .before .before .before .before .before .before .before .before .before .before .before .before .before .before .before .before .before .put-number3 in
+    let the-put-number2 = c .before .before .before .before .before .before .before .before .before .before .before .before .before .before .before .before .before .before .before .before .before .before .before .before .before .before .before .before .before .before .before .put-number2 in
+    let the-put-number = c .before .before .before .before .before .before .before .before .before .before .before .before .before .before .before .before .before .before .before .before .before .before .before .before .before .before .before .before .before .before .before .before .before .before .before .before .put-number in
+    (put-on (put-on (put-on (put-on (put-on (put-on (put-on (the-put-number .ensures .0) (the-put-number2 .ensures .0)) (the-put-number3 .ensures .0)) (the-put-number4 .ensures .0)) (the-put-number5 .ensures .0)) (the-put-number6 .ensures .0)) (the-put-spent .ensures .0)) (the-put .ensures), omega (arith, the-put-number .ensures .1, the-put-number .ensures .0 .long, the-put-number2 .ensures .1, the-put-number2 .ensures .0 .long, the-put-number3 .ensures .1, the-put-number3 .ensures .0 .long, the-put-number4 .ensures .1, the-put-number4 .ensures .0 .long, the-put-number5 .ensures .1, the-put-number5 .ensures .0 .long, the-put-number6 .ensures .1, the-put-number6 .ensures .0 .long, the-put-spent .ensures .1, the-put .ensures .place))
 
 pub put-counts-spec : {M : Type 1} → statement M
 put-counts-spec =

@@ -23,7 +23,9 @@ shared-slice-read-b : tie.Need-shared-slice-read-b Inv-bytes μ-bytes
 shared-slice-read-b c = search needs
 
 slice-write-text : tie.Need-slice-write-text Inv-bytes μ-bytes
-slice-write-text c = omega (arith, hexed-length _ _ _ _ (c .before .before .bytes .inv), c .before .before .bytes .inv .room, c .before .bytes-test .taken)
+slice-write-text c =
+    let the-bytes = c .before .before .bytes in
+    omega (arith, hexed-length _ _ _ _ (the-bytes .inv), the-bytes .inv .room, c .before .bytes-test .taken)
 
 digit-requires : tie.Need-digit-requires Inv-bytes μ-bytes
 digit-requires c κs = omega (arith, c .shared-slice-known2 .given (c .before .before .bytes .i))
@@ -32,7 +34,9 @@ add-text : tie.Need-add-text Inv-bytes μ-bytes
 add-text c = search needs
 
 slice-write-text-2 : tie.Need-slice-write-text-2 Inv-bytes μ-bytes
-slice-write-text-2 c = simp length-set (omega (arith, hexed-length _ _ _ _ (c .before .before .before .bytes .inv), c .before .before .before .bytes .inv .room, c .before .before .bytes-test .taken))
+slice-write-text-2 c =
+    let the-bytes = c .before .before .before .bytes in
+    simp length-set (omega (arith, hexed-length _ _ _ _ (the-bytes .inv), the-bytes .inv .room, c .before .before .bytes-test .taken))
 
 digit-requires-2 : tie.Need-digit-requires-2 Inv-bytes μ-bytes
 digit-requires-2 c κs = search needs
@@ -41,7 +45,9 @@ add-text-2 : tie.Need-add-text-2 Inv-bytes μ-bytes
 add-text-2 c = search needs
 
 slice-write-text-3 : tie.Need-slice-write-text-3 Inv-bytes μ-bytes
-slice-write-text-3 c = simp length-set (omega (arith, hexed-length _ _ _ _ (c .before .before .before .before .bytes .inv), c .before .before .before .before .bytes .inv .room, c .before .before .before .bytes-test .taken))
+slice-write-text-3 c =
+    let the-bytes = c .before .before .before .before .bytes in
+    simp length-set (omega (arith, hexed-length _ _ _ _ (the-bytes .inv), the-bytes .inv .room, c .before .before .before .bytes-test .taken))
 
 add-i : tie.Need-add-i Inv-bytes μ-bytes
 add-i c = search needs
@@ -50,7 +56,9 @@ bytes-less : tie.Need-bytes-less Inv-bytes μ-bytes
 bytes-less c = search needs
 
 bytes-again : tie.Need-bytes-again Inv-bytes μ-bytes
-bytes-again c = hex-on _ _ _ _ (c .before .before .before .before .bytes .inv) (c .before .digit .result) (c .digit2 .result) (c .before .before .before .bytes-test .taken) (c .before .digit .ensures) (c .digit2 .ensures)
+bytes-again c =
+    let the-digit = c .before .digit in
+    hex-on _ _ _ _ (c .before .before .before .before .bytes .inv) (the-digit .result) (c .digit2 .result) (c .before .before .before .bytes-test .taken) (the-digit .ensures) (c .digit2 .ensures)
 
 same-length : tie.Need-same-length Inv-bytes μ-bytes
 same-length c = hexed-length _ _ _ _ (c .before .bytes .inv)

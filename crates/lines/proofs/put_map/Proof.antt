@@ -42,7 +42,9 @@ states-less : tie.Need-states-less Inv-states μ-states
 states-less c = search needs
 
 states-again : tie.Need-states-again Inv-states μ-states
-states-again c = map-on (c .before .before .before .before .before .before .before .before .states .inv) (c .before .before .before .before .before .before .before .states-test .taken) (c .before .before .before .before .wide .ensures) (c .before .before .put-number .ensures .0) (c .before .before .put-number .ensures .1)
+states-again c =
+    let the-put-number = c .before .before .put-number in
+    map-on (c .before .before .before .before .before .before .before .before .states .inv) (c .before .before .before .before .before .before .before .states-test .taken) (c .before .before .before .before .wide .ensures) (the-put-number .ensures .0) (the-put-number .ensures .1)
 
 slice-aggregate-put-2 : tie.Need-slice-aggregate-put-2 Inv-states μ-states
 slice-aggregate-put-2 c = search needs

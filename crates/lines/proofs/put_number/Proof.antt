@@ -21,21 +21,27 @@ slice-aggregate-put : tie.Need-slice-aggregate-put
 slice-aggregate-put c = search needs
 
 few : (c : tie.After-put-arg2) → c .before .before .decimal .result ≤ 20
-few c = let a = c .before .before .before .before .before .before .before .before .before .before in few-digits (a .args .number) (c .before .before .decimal .result) (a .fits .number .fits) (c .before .before .decimal .ensures .1 .0)
+few c =
+    let the-decimal = c .before .before .decimal in
+    let a = c .before .before .before .before .before .before .before .before .before .before in few-digits (a .args .number) (the-decimal .result) (a .fits .number .fits) (the-decimal .ensures .1 .0)
 
 put-requires-2 : tie.Need-put-requires-2
-put-requires-2 c κs = let a = c .before .before .before .before .before .before .before .before .before .before in omega (arith, a .pre, c .before .before .before .before .before .before .put .ensures .place, c .before .before .before .before .before .before .put .ensures .long, few c, c .before .before .decimal .ensures .0 .1)
+put-requires-2 c κs =
+    let the-put = c .before .before .before .before .before .before .put in
+    let a = c .before .before .before .before .before .before .before .before .before .before in omega (arith, a .pre, the-put .ensures .place, the-put .ensures .long, few c, c .before .before .decimal .ensures .0 .1)
 
 same-length : tie.Need-same-length
 same-length c = search needs
 
 returns : tie.Need-returns
 returns c =
+    let the-before = c .before .before .before in
+    let the-decimal = c .before .before .before .before .before .decimal in
     let a = c .before .before .before .before .before .before .before .before .before .before .before .before .before in
     let p = c .before .before .before .before .before .before .before .before .before .put .ensures in
     let q = c .before .before .put2 .ensures in
-    let d = c .before .before .before .before .before .decimal .ensures in
-    (put-on p (put-same (d .1 .1 ∙ decimal-text (a .args .number) (c .before .before .before .before .before .decimal .result) (few (c .before .before .before)) (d .1 .0)) q), omega (arith, p .place, q .place, few (c .before .before .before), d .0 .1))
+    let d = the-decimal .ensures in
+    (put-on p (put-same (d .1 .1 ∙ decimal-text (a .args .number) (the-decimal .result) (few (the-before)) (d .1 .0)) q), omega (arith, p .place, q .place, few (the-before), d .0 .1))
 
 pub put-number-spec : {M : Type 1} → statement M
 put-number-spec =

@@ -42,10 +42,11 @@ same-length c = search needs
 returns : tie.Need-returns
 unfolding tableText
 returns c =
+    let the-put = c .before .before .before .before .before .before .before .before .before .before .before .put in
     let a = c .before .before .before .before .before .before .before .before .before .before .before .before .before .before .before .before in
-    let p = c .before .before .before .before .before .before .before .before .before .before .before .put .ensures in
+    let p = the-put .ensures in
     let q = c .before .before .put2 .ensures in
-    (put-on (put-on p (put-hexed (a .args .bytes .now) _ (c .before .before .before .before .before .before .before .before .before .before .before .put .result) (omega (arith, a .pre, p .place, p .long)) (c .before .before .before .before .before .before .before .put-hex .ensures))) q, omega (arith, p .place, q .place))
+    (put-on (put-on p (put-hexed (a .args .bytes .now) _ (the-put .result) (omega (arith, a .pre, p .place, p .long)) (c .before .before .before .before .before .before .before .put-hex .ensures))) q, omega (arith, p .place, q .place))
 
 pub put-table-spec : {M : Type 1} → statement M
 put-table-spec =

@@ -36,13 +36,19 @@ room c = let a = c .before .before .before .before .before .before in index-room
 
 -- the record that is lent, the class of its state, and the state
 fields : (c : tie.Then1 Inv-records μ-records) → take (c .before .before .before .before .records .i * c .before .before .before .before .before .before .before .before .before .args .width + c .before .before .before .before .before .before .before .before .before .args .width - c .before .before .before .before .records .i * c .before .before .before .before .before .before .before .before .before .args .width) (drop (c .before .before .before .before .records .i * c .before .before .before .before .before .before .before .before .before .args .width) (c .before .before .before .before .before .before .before .before .before .args .section .now)) ≡ recordAt (c .before .before .before .before .before .before .before .before .before .args .width) (c .before .before .before .before .before .before .before .before .before .args .section .now) (c .before .before .before .before .records .i)
-fields c = let a = c .before .before .before .before .before .before .before .before .before in record-here (a .args .width) (a .args .section .now) (some (c .before .before .before)) (c .before .before .before .before .records .i) (here (c .before .before .before))
+fields c =
+    let the-before = c .before .before .before in
+    let a = c .before .before .before .before .before .before .before .before .before in record-here (a .args .width) (a .args .section .now) (some (the-before)) (c .before .before .before .before .records .i) (here (the-before))
 
 class-here : (c : tie.After-class-at Inv-records μ-records) → c .class-at .result ≡ classOf (c .before .before .before .before .before .before .before .before .args .map .now) (stateAt (c .before .before .before .before .before .before .before .before .args .width) (c .before .before .before .before .before .before .before .before .args .section .now) (c .before .before .before .records .i))
-class-here c = let a = c .before .before .before .before .before .before .before .before in c .class-at .ensures ∙ ap (classOf (a .args .map .now)) (state-here (a .args .width) (a .args .section .now) (some (c .before .before)) (c .before .before .before .records .i) (here (c .before .before)))
+class-here c =
+    let the-before = c .before .before in
+    let a = c .before .before .before .before .before .before .before .before in c .class-at .ensures ∙ ap (classOf (a .args .map .now)) (state-here (a .args .width) (a .args .section .now) (some (the-before)) (c .before .before .before .records .i) (here (the-before)))
 
 state : (c : tie.After-wide Inv-records μ-records) → c .wide .result ≡ stateAt (c .before .before .before .before .before .before .before .before .before .before .args .width) (c .before .before .before .before .before .before .before .before .before .before .args .section .now) (c .before .before .before .before .before .records .i)
-state c = let a = c .before .before .before .before .before .before .before .before .before .before in c .wide .ensures ∙ state-here (a .args .width) (a .args .section .now) (some (c .before .before .before .before)) (c .before .before .before .before .before .records .i) (here (c .before .before .before .before))
+state c =
+    let the-before = c .before .before .before .before in
+    let a = c .before .before .before .before .before .before .before .before .before .before in c .wide .ensures ∙ state-here (a .args .width) (a .args .section .now) (some (the-before)) (c .before .before .before .before .before .records .i) (here (the-before))
 
 small : (c : tie.After-wide Inv-records μ-records) → c .wide .result < 40
 small c = let a = c .before .before .before .before .before .before .before .before .before .before in omega (arith, state c, state-small (a .pre .0 .0) (here (c .before .before .before .before)), a .pre .0 .0 .few-states)
@@ -82,10 +88,11 @@ records-less c = omega (arith, here (c .before .before .before .before .before .
 
 records-again : tie.Need-records-again Inv-records μ-records
 records-again c =
+    let the-records = c .before .before .before .before .before .before .before .records in
     let a = c .before .before .before .before .before .before .before .before .before .before .before .before in
-    let s : Stamped (a .args .words .now) (a .args .map .now) (a .args .stamp) (recordAt (a .args .width) (a .args .section .now) (c .before .before .before .before .before .before .before .records .i)) (c .before .before .before .before .before .before .before .records .room) (c .mark-of .result) (c .mark-of .last .1 .1 .1 .1 .0) =
-    subst (λ (r : List ℕ). Stamped (a .args .words .now) (a .args .map .now) (a .args .stamp) r (c .before .before .before .before .before .before .before .records .room) (c .mark-of .result) (c .mark-of .last .1 .1 .1 .1 .0)) (fields (c .before .before .before)) (c .mark-of .ensures) in
-    mark-on (a .pre .0 .0) (c .before .before .before .before .before .before .before .records .inv) (here (c .before .before .before .before .before .before)) (sym (class-here (c .before .before .before .before)) ∙ c .before .before .before .if1 .taken) (a .pre .0 .2) s
+    let s : Stamped (a .args .words .now) (a .args .map .now) (a .args .stamp) (recordAt (a .args .width) (a .args .section .now) (the-records .i)) (the-records .room) (c .mark-of .result) (c .mark-of .last .1 .1 .1 .1 .0) =
+    subst (λ (r : List ℕ). Stamped (a .args .words .now) (a .args .map .now) (a .args .stamp) r (the-records .room) (c .mark-of .result) (c .mark-of .last .1 .1 .1 .1 .0)) (fields (c .before .before .before)) (c .mark-of .ensures) in
+    mark-on (a .pre .0 .0) (the-records .inv) (here (c .before .before .before .before .before .before)) (sym (class-here (c .before .before .before .before)) ∙ c .before .before .before .if1 .taken) (a .pre .0 .2) s
 
 wide-requires : tie.Need-wide-requires Inv-records μ-records
 wide-requires c κs = search needs
@@ -97,7 +104,9 @@ element-copy-out-i : tie.Need-element-copy-out-i Inv-records μ-records
 element-copy-out-i c = small c
 
 records-less-2 : tie.Need-records-less-2 Inv-records μ-records
-records-less-2 c = let a = c .before .before .before .before .before .before .before .before .before .before .before in omega (arith, here (c .before .before .before .before .before), ahead (a .pre .0 .1) (here (c .before .before .before .before .before)) (state (c .before)))
+records-less-2 c =
+    let the-before = c .before .before .before .before .before in
+    let a = c .before .before .before .before .before .before .before .before .before .before .before in omega (arith, here (the-before), ahead (a .pre .0 .1) (here (the-before)) (state (c .before)))
 
 records-again-2 : tie.Need-records-again-2 Inv-records μ-records
 records-again-2 c = let a = c .before .before .before .before .before .before .before .before .before .before .before in skip (a .pre .0 .0) (c .before .before .before .before .before .before .records .inv) (a .pre .0 .1) (here (c .before .before .before .before .before)) (state (c .before)) (λ e. c .before .before .if1 .left (class-here (c .before .before .before) ∙ ap (classOf (a .args .map .now)) (sym (state (c .before))) ∙ e))

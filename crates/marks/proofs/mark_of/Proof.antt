@@ -27,7 +27,9 @@ element-write-room : tie.Need-element-write-room
 element-write-room c = search needs
 
 returns-3 : tie.Need-returns-3
-returns-3 c = let a = c .before .before .before .before .before .before .before .before in subst (λ (p : ℕ). Stamped (a .args .words .now) (a .args .map .now) (a .args .stamp) (a .args .fields .now) (a .args .room .now) 0 (set (a .args .room .now) p (a .args .stamp))) (sym (c .before .before .place-of .ensures .0)) (first (sym (c .before .before .before .before .keeps .ensures) ∙ not-false _ (c .before .before .before .if1 .left)) (λ e. c .if2 .left (ap (λ p. getD (a .args .room .now) p 0) (c .before .before .place-of .ensures .0) ∙ e)))
+returns-3 c =
+    let the-place-of = c .before .before .place-of in
+    let a = c .before .before .before .before .before .before .before .before in subst (λ (p : ℕ). Stamped (a .args .words .now) (a .args .map .now) (a .args .stamp) (a .args .fields .now) (a .args .room .now) 0 (set (a .args .room .now) p (a .args .stamp))) (sym (the-place-of .ensures .0)) (first (sym (c .before .before .before .before .keeps .ensures) ∙ not-false _ (c .before .before .before .if1 .left)) (λ e. c .if2 .left (ap (λ p. getD (a .args .room .now) p 0) (the-place-of .ensures .0) ∙ e)))
 
 pub mark-of-spec : {M : Type 1} → statement M
 mark-of-spec =

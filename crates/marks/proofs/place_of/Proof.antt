@@ -26,10 +26,14 @@ class-at-requires : tie.Need-class-at-requires
 class-at-requires c κs = search needs
 
 add-result : tie.Need-add-result
-add-result c = omega (arith, c .before .before .wide .ensures, c .class-at .ensures, c .before .before .before .before .before .before .pre .symbol, c .before .before .before .before .before .before .pre .class (getD (c .before .before .before .before .before .before .args .fields .now) 2 0))
+add-result c =
+    let the-pre = c .before .before .before .before .before .before .pre in
+    omega (arith, c .before .before .wide .ensures, c .class-at .ensures, the-pre .symbol, the-pre .class (getD (c .before .before .before .before .before .before .args .fields .now) 2 0))
 
 mul-result-2 : tie.Need-mul-result-2
-mul-result-2 c = omega (arith, c .before .before .wide .ensures, c .class-at .ensures, c .before .before .before .before .before .before .pre .symbol, c .before .before .before .before .before .before .pre .class (getD (c .before .before .before .before .before .before .args .fields .now) 2 0))
+mul-result-2 c =
+    let the-pre = c .before .before .before .before .before .before .pre in
+    omega (arith, c .before .before .wide .ensures, c .class-at .ensures, the-pre .symbol, the-pre .class (getD (c .before .before .before .before .before .before .args .fields .now) 2 0))
 
 shared-slice-read-class-at-2 : tie.Need-shared-slice-read-class-at-2
 shared-slice-read-class-at-2 c = search needs
@@ -38,11 +42,19 @@ class-at-requires-2 : tie.Need-class-at-requires-2
 class-at-requires-2 c κs = search needs
 
 add-result-2 : tie.Need-add-result-2
-add-result-2 c = omega (arith, c .before .before .before .before .wide .ensures, c .before .before .class-at .ensures, c .class-at2 .ensures, c .before .before .before .before .before .before .before .before .pre .symbol, c .before .before .before .before .before .before .before .before .pre .class (getD (c .before .before .before .before .before .before .before .before .args .fields .now) 2 0), c .before .before .before .before .before .before .before .before .pre .class (getD (c .before .before .before .before .before .before .before .before .args .fields .now) (length (c .before .before .before .before .before .before .before .before .args .fields .now) - 1) 0))
+add-result-2 c =
+    let the-pre = c .before .before .before .before .before .before .before .before .pre in
+    let the-args = c .before .before .before .before .before .before .before .before .args in
+    omega (arith, c .before .before .before .before .wide .ensures, c .before .before .class-at .ensures, c .class-at2 .ensures, the-pre .symbol, the-pre .class (getD (the-args .fields .now) 2 0), the-pre .class (getD (the-args .fields .now) (length (the-args .fields .now) - 1) 0))
 
 returns : tie.Need-returns
 unfolding placeOf
-returns c = ((λ j. (c .before .before .before .before .wide .ensures j * 40 + c .before .before .class-at .ensures j) * 40 + c .class-at2 .ensures j), omega (arith, c .before .before .before .before .wide .ensures, c .before .before .class-at .ensures, c .class-at2 .ensures, c .before .before .before .before .before .before .before .before .pre .symbol, c .before .before .before .before .before .before .before .before .pre .class (getD (c .before .before .before .before .before .before .before .before .args .fields .now) 2 0), c .before .before .before .before .before .before .before .before .pre .class (getD (c .before .before .before .before .before .before .before .before .args .fields .now) (length (c .before .before .before .before .before .before .before .before .args .fields .now) - 1) 0)))
+returns c =
+    let the-class-at = c .before .before .class-at in
+    let the-wide = c .before .before .before .before .wide in
+    let the-pre = c .before .before .before .before .before .before .before .before .pre in
+    let the-args = c .before .before .before .before .before .before .before .before .args in
+    ((λ j. (the-wide .ensures j * 40 + the-class-at .ensures j) * 40 + c .class-at2 .ensures j), omega (arith, the-wide .ensures, the-class-at .ensures, c .class-at2 .ensures, the-pre .symbol, the-pre .class (getD (the-args .fields .now) 2 0), the-pre .class (getD (the-args .fields .now) (length (the-args .fields .now) - 1) 0)))
 
 pub place-of-spec : {M : Type 1} → statement M
 place-of-spec =

@@ -1,7 +1,7 @@
 -- `matching::agrees` meets its contract: the states before this one agree. Assumes nothing.
 use Rattle.matching.proofs.Matched.{spared, met, broken}
 use Rattle.format.specs.Maps.{joins}
-use Rattle.format.specs.Language.{look}
+use Rattle.format.specs.Language.{agreedOn}
 use Rattle.lists.proofs.Upto.{Counting, counting, all-passed, all-failed, all-done}
 use Rattle.lists.specs.Lists.{all}
 use borrow.Author.Tests.{eq-eqb, ne-eqb}
@@ -16,7 +16,7 @@ use Rattle.matching.proofs.agrees.Statement.{statement}
 use Rattle.matching.proofs.agrees.Tie as tie
 
 abbrev Inv-states : tie.InvT-states
-Inv-states states map p q₀ q = Counting (all (λ r. not (joins map p r) || eqb (look (getD states p 0)) (look (getD states r 0)))) (length states) q
+Inv-states states map p q₀ q = Counting (all (λ r. not (joins map p r) || eqb (agreedOn (getD states p 0)) (agreedOn (getD states r 0)))) (length states) q
 
 abbrev μ-states : tie.MeasureT-states
 μ-states states map p q₀ q = length states - q
@@ -34,7 +34,7 @@ shared-slice-read-if2-2 : tie.Need-shared-slice-read-if2-2 Inv-states μ-states
 shared-slice-read-if2-2 c = search needs
 
 returns : tie.Need-returns Inv-states μ-states
-unfolding look
+unfolding agreedOn
 returns c = all-failed _ (c .before .before .before .before .before .before .states .inv) (c .before .before .before .before .before .states-test .taken) (broken (sym (c .before .before .before .before .joined .ensures) ∙ c .before .before .before .if1 .taken) (ne-eqb _ _ (c .if2 .taken)))
 
 add-q : tie.Need-add-q Inv-states μ-states
@@ -44,7 +44,7 @@ states-less : tie.Need-states-less Inv-states μ-states
 states-less c = search needs
 
 states-again : tie.Need-states-again Inv-states μ-states
-unfolding look
+unfolding agreedOn
 states-again c =
     let i = c .before .before .before .states .inv in
     let t = c .before .before .states-test .taken in

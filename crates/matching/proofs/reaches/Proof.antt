@@ -43,16 +43,26 @@ joined-requires : tie.Need-joined-requires Inv-records μ-records
 joined-requires c κs = search needs
 
 returns : tie.Need-returns Inv-records μ-records
-returns c = λ k d. over-targets (c .before .before .before .before .before .before .before .before .before .args .width) (c .before .before .before .before .before .before .before .before .before .args .section .now) k (c .before .before .before .before .before .before .starting .result .now) (c .before .before .before .before .before .before .before .before .before .args .map .now) (c .before .before .before .before .before .before .before .before .before .args .target) (d .long) (c .before .before .before .before .before .before .starting .ensures k d (c .before .before .before .before .before .before .before .before .before .pre .1)) (met (c .before .before .before .before .before .before .before .before .before .args .map .now) (c .before .before .before .before .before .before .before .before .before .args .target) (c .before .before .before .before .before .before .before .before .before .args .width - 1) (omega (arith, c .before .before .before .before .before .before .before .before .before .pre .0)) (c .before .before .before .before .before .records .inv) (c .before .before .before .before .records-test .taken) (sym (ap (joins (c .before .before .before .before .before .before .before .before .before .args .map .now) (c .before .before .before .before .before .before .before .before .before .args .target)) (c .before .before .wide .ensures)) ∙ sym (c .before .joined .ensures) ∙ c .if1 .taken))
+returns c =
+    let the-starting = c .before .before .before .before .before .before .starting in
+    let the-args = c .before .before .before .before .before .before .before .before .before .args in
+    let the-pre = c .before .before .before .before .before .before .before .before .before .pre in
+    λ k d. over-targets (the-args .width) (the-args .section .now) k (the-starting .result .now) (the-args .map .now) (the-args .target) (d .long) (the-starting .ensures k d (the-pre .1)) (met (the-args .map .now) (the-args .target) (the-args .width - 1) (omega (arith, the-pre .0)) (c .before .before .before .before .before .records .inv) (c .before .before .before .before .records-test .taken) (sym (ap (joins (the-args .map .now) (the-args .target)) (c .before .before .wide .ensures)) ∙ sym (c .before .joined .ensures) ∙ c .if1 .taken))
 
 records-less : tie.Need-records-less Inv-records μ-records
 records-less c = omega (arith, c .before .before .before .before .before .before .before .before .before .pre .0, c .before .before .before .before .records-test .taken)
 
 records-again : tie.Need-records-again Inv-records μ-records
-records-again c = missed (c .before .before .before .before .before .before .before .before .before .args .map .now) (c .before .before .before .before .before .before .before .before .before .args .target) (c .before .before .before .before .before .before .before .before .before .args .width - 1) (omega (arith, c .before .before .before .before .before .before .before .before .before .pre .0)) (c .before .before .before .before .before .records .inv) (c .before .before .before .before .records-test .taken) (sym (ap (joins (c .before .before .before .before .before .before .before .before .before .args .map .now) (c .before .before .before .before .before .before .before .before .before .args .target)) (c .before .before .wide .ensures)) ∙ sym (c .before .joined .ensures) ∙ c .if1 .left)
+records-again c =
+    let the-args = c .before .before .before .before .before .before .before .before .before .args in
+    missed (the-args .map .now) (the-args .target) (the-args .width - 1) (omega (arith, c .before .before .before .before .before .before .before .before .before .pre .0)) (c .before .before .before .before .before .records .inv) (c .before .before .before .before .records-test .taken) (sym (ap (joins (the-args .map .now) (the-args .target)) (c .before .before .wide .ensures)) ∙ sym (c .before .joined .ensures) ∙ c .if1 .left)
 
 returns-2 : tie.Need-returns-2 Inv-records μ-records
-returns-2 c = λ k d. over-targets (c .before .before .before .before .before .args .width) (c .before .before .before .before .before .args .section .now) k (c .before .before .starting .result .now) (c .before .before .before .before .before .args .map .now) (c .before .before .before .before .before .args .target) (d .long) (c .before .before .starting .ensures k d (c .before .before .before .before .before .pre .1)) (none-met (c .before .before .before .before .before .args .map .now) (c .before .before .before .before .before .args .target) (c .before .before .before .before .before .args .width - 1) (omega (arith, c .before .before .before .before .before .pre .0)) (c .before .records .inv) (c .records-test .left))
+returns-2 c =
+    let the-starting = c .before .before .starting in
+    let the-args = c .before .before .before .before .before .args in
+    let the-pre = c .before .before .before .before .before .pre in
+    λ k d. over-targets (the-args .width) (the-args .section .now) k (the-starting .result .now) (the-args .map .now) (the-args .target) (d .long) (the-starting .ensures k d (the-pre .1)) (none-met (the-args .map .now) (the-args .target) (the-args .width - 1) (omega (arith, the-pre .0)) (c .before .records .inv) (c .records-test .left))
 
 pub reaches-spec : {M : Type 1} → statement M
 reaches-spec =

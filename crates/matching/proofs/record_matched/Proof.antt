@@ -13,31 +13,42 @@ cast-move-key : tie.Need-cast-move-key
 cast-move-key c = search needs
 
 shared-slice-read-move-key : tie.Need-shared-slice-read-move-key
-shared-slice-read-move-key c = omega (arith, c .before .before .before .before .before .before .pre .0 .0 .moves, c .before .before .before .before .before .before .pre .0 .1)
+shared-slice-read-move-key c =
+    let the-pre = c .before .before .before .before .before .before .pre in
+    omega (arith, the-pre .0 .0 .moves, the-pre .0 .1)
 
 move-key-requires : tie.Need-move-key-requires
 move-key-requires c κs = search needs
 
 shared-slice-read-wide : tie.Need-shared-slice-read-wide
-shared-slice-read-wide c = omega (arith, c .before .before .before .before .before .before .before .before .pre .0 .0 .moves, c .before .before .before .before .before .before .before .before .pre .0 .1)
+shared-slice-read-wide c =
+    let the-pre = c .before .before .before .before .before .before .before .before .pre in
+    omega (arith, the-pre .0 .0 .moves, the-pre .0 .1)
 
 wide-requires : tie.Need-wide-requires
 wide-requires c κs = search needs
 
 reaches-requires : tie.Need-reaches-requires
-reaches-requires c κs = (c .before .before .before .before .before .before .before .before .before .pre .0 .0 .moves, c .before .before .before .before .before .before .before .before .before .pre .0 .0 .in-order)
+reaches-requires c κs =
+    let the-pre = c .before .before .before .before .before .before .before .before .before .pre in
+    (the-pre .0 .0 .moves, the-pre .0 .0 .in-order)
 
 returns : tie.Need-returns
 returns c =
-    let k = subst (λ w. Keyed w (c .before .before .before .before .before .before .before .before .before .before .args .q ∷ getD (c .before .before .before .before .before .before .before .before .before .before .args .fields .now) 1 0 ∷ []) (c .before .before .before .move-key .result)) (sym (c .before .before .before .before .before .if1 .taken)) (c .before .before .before .move-key .ensures) in
-    c .reaches .ensures (c .before .before .before .before .before .before .before .before .before .before .args .q ∷ getD (c .before .before .before .before .before .before .before .before .before .before .args .fields .now) 1 0 ∷ []) k ∙ record-move _ _ _ _ _ _ _ (c .before .before .before .before .before .if1 .taken) (c .before .before .before .before .before .before .before .before .before .before .pre .1 .0) (c .before .wide .ensures)
+    let the-move-key = c .before .before .before .move-key in
+    let the-if1 = c .before .before .before .before .before .if1 in
+    let the-args = c .before .before .before .before .before .before .before .before .before .before .args in
+    let k = subst (λ w. Keyed w (the-args .q ∷ getD (the-args .fields .now) 1 0 ∷ []) (the-move-key .result)) (sym (the-if1 .taken)) (the-move-key .ensures) in
+    c .reaches .ensures (the-args .q ∷ getD (the-args .fields .now) 1 0 ∷ []) k ∙ record-move _ _ _ _ _ _ _ (the-if1 .taken) (c .before .before .before .before .before .before .before .before .before .before .pre .1 .0) (c .before .wide .ensures)
 
 return-met-requires : tie.Need-return-met-requires
 return-met-requires c κs =
-    let l = c .before .before .before .before .before .pre .0 .0 in
+    let the-pre = c .before .before .before .before .before .pre in
+    let the-args = c .before .before .before .before .before .args in
+    let l = the-pre .0 .0 in
     let x = c .if1 .left in
-    let e = c .before .before .before .before .before .pre .0 .1 in
-    ((return-lent l x, return-long l x (c .before .before .before .before .before .args .fields .now) e, c .before .before .before .before .before .pre .1 .1), (return-live l x (c .before .before .before .before .before .args .fields .now) e _ (c .before .before .before .before .before .pre .0 .2), c .before .before .before .before .before .pre .1 .0))
+    let e = the-pre .0 .1 in
+    ((return-lent l x, return-long l x (the-args .fields .now) e, the-pre .1 .1), (return-live l x (the-args .fields .now) e _ (the-pre .0 .2), the-pre .1 .0))
 
 returns-2 : tie.Need-returns-2
 returns-2 c = c .return-met .ensures ∙ record-return (c .before .before .before .before .before .before .pre .0 .0) (c .before .if1 .left) _ _ _ _

@@ -13,13 +13,17 @@ is-in-requires : tie.Need-is-in-requires
 is-in-requires c κs = search needs
 
 returns : tie.Need-returns
-returns c = stack-apart _ _ _ _ _ _ _ _ _ (c .before .before .before .before .before .before .pre .1 .0) (c .before .before .before .before .before .before .pre .1 .1) (by-class _ _ _ (c .before .before .before .before .before .before .pre .0 .4) (c .before .is-in .ensures) (not-true _ (c .if1 .taken)))
+returns c =
+    let the-pre = c .before .before .before .before .before .before .pre in
+    stack-apart _ _ _ _ _ _ _ _ _ (the-pre .1 .0) (the-pre .1 .1) (by-class _ _ _ (the-pre .0 .4) (c .before .is-in .ensures) (not-true _ (c .if1 .taken)))
 
 has-top-requires : tie.Need-has-top-requires
 has-top-requires c κs = search needs
 
 returns-2 : tie.Need-returns-2
-returns-2 c = not-under _ _ _ _ _ _ _ _ _ (c .before .before .before .before .before .before .before .before .pre .1 .0) (c .before .before .before .before .before .before .before .before .pre .1 .1) (by-class _ _ _ (c .before .before .before .before .before .before .before .before .pre .0 .4) (c .before .before .before .is-in .ensures) (not-false _ (c .before .before .if1 .left))) (sym (c .before .has-top .ensures) ∙ not-true _ (c .if2 .taken))
+returns-2 c =
+    let the-pre = c .before .before .before .before .before .before .before .before .pre in
+    not-under _ _ _ _ _ _ _ _ _ (the-pre .1 .0) (the-pre .1 .1) (by-class _ _ _ (the-pre .0 .4) (c .before .before .before .is-in .ensures) (not-false _ (c .before .before .if1 .left))) (sym (c .before .has-top .ensures) ∙ not-true _ (c .if2 .taken))
 
 cast-return-key : tie.Need-cast-return-key
 cast-return-key c = search needs
@@ -43,7 +47,10 @@ reaches-requires : tie.Need-reaches-requires
 reaches-requires c κs = (omega arith, c .before .before .before .before .before .before .before .before .before .before .before .before .pre .0 .0)
 
 returns-3 : tie.Need-returns-3
-returns-3 c = c .reaches .ensures (c .before .before .before .before .before .before .before .before .before .before .before .before .before .args .q ∷ getD (c .before .before .before .before .before .before .before .before .before .before .before .before .before .args .fields .now) 1 0 ∷ c .before .before .before .before .before .before .before .before .before .before .before .before .before .args .u ∷ []) (c .before .before .before .return-key .ensures) ∙ return-by _ _ _ _ _ _ _ _ _ (c .before .before .before .before .before .before .before .before .before .before .before .before .before .pre .1 .0) (c .before .before .before .before .before .before .before .before .before .before .before .before .before .pre .1 .1) (by-class _ _ _ (c .before .before .before .before .before .before .before .before .before .before .before .before .before .pre .0 .4) (c .before .before .before .before .before .before .before .before .is-in .ensures) (not-false _ (c .before .before .before .before .before .before .before .if1 .left))) (sym (c .before .before .before .before .before .before .has-top .ensures) ∙ not-false _ (c .before .before .before .before .before .if2 .left)) (c .before .wide .ensures)
+returns-3 c =
+    let the-args = c .before .before .before .before .before .before .before .before .before .before .before .before .before .args in
+    let the-pre = c .before .before .before .before .before .before .before .before .before .before .before .before .before .pre in
+    c .reaches .ensures (the-args .q ∷ getD (the-args .fields .now) 1 0 ∷ the-args .u ∷ []) (c .before .before .before .return-key .ensures) ∙ return-by _ _ _ _ _ _ _ _ _ (the-pre .1 .0) (the-pre .1 .1) (by-class _ _ _ (the-pre .0 .4) (c .before .before .before .before .before .before .before .before .is-in .ensures) (not-false _ (c .before .before .before .before .before .before .before .if1 .left))) (sym (c .before .before .before .before .before .before .has-top .ensures) ∙ not-false _ (c .before .before .before .before .before .if2 .left)) (c .before .wide .ensures)
 
 pub return-matched-spec : {M : Type 1} → statement M
 return-matched-spec =

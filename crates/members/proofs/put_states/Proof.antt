@@ -1,5 +1,5 @@
 -- `members::put_states` meets its contract: the bytes of the classes from here on are still to be written. Assumes nothing.
-use Rattle.matching.specs.Matching.{ofStates}
+use Rattle.format.specs.File.{ofStates}
 use Rattle.lists.proofs.Copying as laws
 use Rattle.members.proofs.ClassBytes.{length-bytes, byte-of-class}
 use Rattle.members.specs.Classes.{classBytes}
@@ -26,7 +26,9 @@ class-byte-requires : tie.Need-class-byte-requires Inv-classes μ-classes
 class-byte-requires c κs = search needs
 
 slice-write-out : tie.Need-slice-write-out Inv-classes μ-classes
-slice-write-out c = let a = c .before .before .before .before .before .before in omega (arith, c .before .classes-test .taken, length-bytes (ofStates (a .args .states .now)) (a .args .map .now) (a .args .classes), c .before .before .classes .inv .room, laws.same-length (c .before .before .classes .inv))
+slice-write-out c =
+    let the-classes = c .before .before .classes in
+    let a = c .before .before .before .before .before .before in omega (arith, c .before .classes-test .taken, length-bytes (ofStates (a .args .states .now)) (a .args .map .now) (a .args .classes), the-classes .inv .room, laws.same-length (the-classes .inv))
 
 add-c : tie.Need-add-c Inv-classes μ-classes
 add-c c = search needs
@@ -36,9 +38,11 @@ classes-less c = search needs
 
 classes-again : tie.Need-classes-again Inv-classes μ-classes
 classes-again c =
+    let the-classes-test = c .before .classes-test in
+    let the-classes = c .before .before .classes in
     let a = c .before .before .before .before .before .before in
-    let byte = c .class-byte .ensures ∙ byte-of-class (ofStates (a .args .states .now)) (a .args .map .now) (a .args .classes) (c .before .before .classes .c) (c .before .classes-test .taken) in
-    rw byte (laws.write-on (c .before .before .classes .inv) (omega (arith, c .before .classes-test .taken, length-bytes (ofStates (a .args .states .now)) (a .args .map .now) (a .args .classes))))
+    let byte = c .class-byte .ensures ∙ byte-of-class (ofStates (a .args .states .now)) (a .args .map .now) (a .args .classes) (the-classes .c) (the-classes-test .taken) in
+    rw byte (laws.write-on (the-classes .inv) (omega (arith, the-classes-test .taken, length-bytes (ofStates (a .args .states .now)) (a .args .map .now) (a .args .classes))))
 
 same-length : tie.Need-same-length Inv-classes μ-classes
 same-length c = laws.same-length (c .before .classes .inv)

@@ -34,10 +34,11 @@ states-less c = search needs
 
 states-again : tie.Need-states-again Inv-states μ-states
 states-again c =
-    let i = c .before .before .before .before .states .inv in
+    let the-states = c .before .before .before .before .states in
+    let i = the-states .inv in
     let t = c .before .before .before .states-test .taken in
     let e = c .before .wide .ensures in
-    let b = c .before .before .shared-slice-known2 .given (c .before .before .before .before .states .q) .fits in
+    let b = c .before .before .shared-slice-known2 .given (the-states .q) .fits in
     ⊎-elim (λ w. rw (w .1) (class-more i t e (omega arith) (w .0 .taken))) (λ w. rw (w .1) (class-within i t e (w .0 .left))) (c .if1 .came)
 
 returns : tie.Need-returns Inv-states μ-states

@@ -17,7 +17,7 @@ use Rattle.passes.proofs.pass.Statement.{statement}
 use Rattle.passes.proofs.pass.Tie as tie
 
 abbrev Inv-literals : tie.InvT-literals
-Inv-literals list n table values trail joined apart start broken₀ count at i₀ unset₀ last₀ broken i unset last = asking.Within list values i₀ at i unset last × (broken ≡ false)
+Inv-literals list n table values trail joined apart start broken₀ count at i₀ unset₀ last₀ broken i unset last = asking.SeenSoFar list values i₀ at i unset last × (broken ≡ false)
 
 abbrev μ-literals : tie.MeasureT-literals
 μ-literals list n table values trail joined apart start broken₀ count at i₀ unset₀ last₀ broken i unset last = at - i
@@ -30,7 +30,9 @@ abbrev μ-clauses : tie.MeasureT-clauses
 μ-clauses list n table values₀ trail₀ joined₀ apart₀ start broken₀ count₀ at₀ values trail joined apart broken count at = length list - at
 
 clauses-holds : tie.Need-clauses-holds Inv-literals μ-literals Inv-clauses μ-clauses
-clauses-holds c = (laws.passing (c .before .before .before .before .pre .1 .0) (c .before .before .before .before .pre .0), refl, c .before .before .before .before .pre .1 .1 .1)
+clauses-holds c =
+    let the-pre = c .before .before .before .before .pre in
+    (laws.passing (the-pre .1 .0) (the-pre .0), refl, the-pre .1 .1 .1)
 
 add-i : tie.Need-add-i Inv-literals μ-literals Inv-clauses μ-clauses
 add-i c = search needs
@@ -49,7 +51,9 @@ add-at : tie.Need-add-at Inv-literals μ-literals Inv-clauses μ-clauses
 add-at c = omega (arith, end-inside (c .before .before .before .clauses .inv .0 .before) (c .before .before .clauses-test .taken), c .wide .ensures, c .before .before .before .before .before .before .before .before .good .0)
 
 literals-holds : tie.Need-literals-holds Inv-literals μ-literals Inv-clauses μ-clauses
-literals-holds c = (rw (c .wide .ensures) (laws.pass-clause (c .before .before .before .before .before .before .before .before .pre .1 .0) (c .before .before .before .clauses .inv .0) (c .before .before .clauses-test .taken)), c .before .before .before .clauses .inv .1)
+literals-holds c =
+    let the-clauses = c .before .before .before .clauses in
+    (rw (c .wide .ensures) (laws.pass-clause (c .before .before .before .before .before .before .before .before .pre .1 .0) (the-clauses .inv .0) (c .before .before .clauses-test .taken)), the-clauses .inv .1)
 
 mul-l : tie.Need-mul-l Inv-literals μ-literals Inv-clauses μ-clauses
 mul-l c = search needs
@@ -68,16 +72,22 @@ clauses-less c = search needs
 
 clauses-again : tie.Need-clauses-again Inv-literals μ-literals Inv-clauses μ-clauses
 clauses-again c =
-    let sees = asking.sees-right (c .before .before .before .before .before .literals .inv .0) (c .before .before .before .before .if1 .left) (sym (c .before .is-right .ensures) ∙ c .if3 .taken) in
-    (rw (c .before .before .before .before .before .before .wide .ensures) (laws.pass-quiet (c .before .before .before .before .before .before .before .before .before .before .before .before .before .before .pre .1 .0) (c .before .before .before .before .before .before .before .before .before .clauses .inv .0) (c .before .before .before .before .before .before .before .before .clauses-test .taken) (rw (c .before .before .before .before .before .before .wide .ensures) at sees)), c .before .before .before .before .before .literals .inv .1, c .before .before .before .before .before .before .before .before .before .clauses .inv .2)
+    let the-literals = c .before .before .before .before .before .literals in
+    let the-wide = c .before .before .before .before .before .before .wide in
+    let the-clauses = c .before .before .before .before .before .before .before .before .before .clauses in
+    let sees = asking.sees-right (the-literals .inv .0) (c .before .before .before .before .if1 .left) (sym (c .before .is-right .ensures) ∙ c .if3 .taken) in
+    (rw (the-wide .ensures) (laws.pass-quiet (c .before .before .before .before .before .before .before .before .before .before .before .before .before .before .pre .1 .0) (the-clauses .inv .0) (c .before .before .before .before .before .before .before .before .clauses-test .taken) (rw (the-wide .ensures) at sees)), the-literals .inv .1, the-clauses .inv .2)
 
 clauses-less-2 : tie.Need-clauses-less-2 Inv-literals μ-literals Inv-clauses μ-clauses
 clauses-less-2 c = search needs
 
 clauses-again-2 : tie.Need-clauses-again-2 Inv-literals μ-literals Inv-clauses μ-clauses
 clauses-again-2 c =
-    let sees = asking.sees-second (c .before .before .before .before .before .before .before .before .before .literals .inv .0) (c .before .before .before .before .before .before .before .before .if1 .left) (c .if5 .taken) (sym (c .before .before .is-unset .ensures) ∙ c .before .if4 .taken) in
-    (rw (c .before .before .before .before .before .before .before .before .before .before .wide .ensures) (laws.pass-quiet (c .before .before .before .before .before .before .before .before .before .before .before .before .before .before .before .before .before .before .pre .1 .0) (c .before .before .before .before .before .before .before .before .before .before .before .before .before .clauses .inv .0) (c .before .before .before .before .before .before .before .before .before .before .before .before .clauses-test .taken) (rw (c .before .before .before .before .before .before .before .before .before .before .wide .ensures) at sees)), c .before .before .before .before .before .before .before .before .before .literals .inv .1, c .before .before .before .before .before .before .before .before .before .before .before .before .before .clauses .inv .2)
+    let the-literals = c .before .before .before .before .before .before .before .before .before .literals in
+    let the-wide = c .before .before .before .before .before .before .before .before .before .before .wide in
+    let the-clauses = c .before .before .before .before .before .before .before .before .before .before .before .before .before .clauses in
+    let sees = asking.sees-second (the-literals .inv .0) (c .before .before .before .before .before .before .before .before .if1 .left) (c .if5 .taken) (sym (c .before .before .is-unset .ensures) ∙ c .before .if4 .taken) in
+    (rw (the-wide .ensures) (laws.pass-quiet (c .before .before .before .before .before .before .before .before .before .before .before .before .before .before .before .before .before .before .pre .1 .0) (the-clauses .inv .0) (c .before .before .before .before .before .before .before .before .before .before .before .before .clauses-test .taken) (rw (the-wide .ensures) at sees)), the-literals .inv .1, the-clauses .inv .2)
 
 add-i-2 : tie.Need-add-i-2 Inv-literals μ-literals Inv-clauses μ-clauses
 add-i-2 c = search needs
@@ -87,30 +97,35 @@ literals-less c = search needs
 
 literals-again : tie.Need-literals-again Inv-literals μ-literals Inv-clauses μ-clauses
 literals-again c =
-    let w = c .before .before .before .before .before .before .before .before .literals .inv .0 in
+    let the-literals = c .before .before .before .before .before .before .before .before .literals in
+    let w = the-literals .inv .0 in
     let more = c .before .before .before .before .before .before .before .if1 .left in
     let u = c .before .is-unset .ensures in (
       ⊎-elim
           (λ a. rw (a .2, a .3) (asking.step-unset w more (a .1 .left) (sym u ∙ a .0 .taken)))
           (λ a. rw (a .1, a .2) (asking.step-wrong w more (sym (c .before .before .before .before .is-right .ensures) ∙ c .before .before .before .if3 .left) (sym u ∙ a .0 .left)))
           (c .if4 .came),
-      c .before .before .before .before .before .before .before .before .literals .inv .1,
+      the-literals .inv .1,
     )
 
 force-requires : tie.Need-force-requires Inv-literals μ-literals Inv-clauses μ-clauses
 force-requires c κs =
-    let i = c .before .before .before .before .before .before .before .before .before .before .clauses .inv .0 in
+    let the-clauses = c .before .before .before .before .before .before .before .before .before .before .clauses in
+    let the-pre = c .before .before .before .before .before .before .before .before .before .before .before .before .before .before .before .pre in
+    let i = the-clauses .inv .0 in
     let sees = asking.sees-forcing (c .before .before .before .before .before .before .literals .inv .0) (c .before .before .before .before .before .if1 .taken) (c .before .before .before .before .if2 .left) in
-    (c .before .before .before .before .before .before .before .before .before .before .before .before .before .before .before .pre .1 .1 .0, can-force (c .before .before .before .before .before .before .before .before .before .before .before .before .before .before .before .pre .1 .0) (i .worked) (clause-in (i .before) (c .before .before .before .before .before .before .before .before .before .clauses-test .taken)) (rw (c .before .before .before .before .before .before .before .wide .ensures) at sees) (c .before .before .before .before .before .before .before .before .before .before .clauses .inv .2))
+    (the-pre .1 .1 .0, can-force (the-pre .1 .0) (i .worked) (clause-in (i .before) (c .before .before .before .before .before .before .before .before .before .clauses-test .taken)) (rw (c .before .before .before .before .before .before .before .wide .ensures) at sees) (the-clauses .inv .2))
 
 clauses-less-3 : tie.Need-clauses-less-3 Inv-literals μ-literals Inv-clauses μ-clauses
 clauses-less-3 c = search needs
 
 clauses-again-3 : tie.Need-clauses-again-3 Inv-literals μ-literals Inv-clauses μ-clauses
 clauses-again-3 c =
-    let sees = asking.sees-forcing (c .before .before .before .before .before .before .before .before .before .before .before .literals .inv .0) (c .before .before .before .before .before .before .before .before .before .before .if1 .taken) (c .before .before .before .before .before .before .before .before .before .if2 .left) in
+    let the-literals = c .before .before .before .before .before .before .before .before .before .before .before .literals in
+    let the-wide = c .before .before .before .before .before .before .before .before .before .before .before .before .wide in
+    let sees = asking.sees-forcing (the-literals .inv .0) (c .before .before .before .before .before .before .before .before .before .before .if1 .taken) (c .before .before .before .before .before .before .before .before .before .if2 .left) in
     let f = c .before .before .before .before .force .ensures in
-    (rw (c .before .before .before .before .before .before .before .before .before .before .before .before .wide .ensures) (laws.pass-stored (c .before .before .before .before .before .before .before .before .before .before .before .before .before .before .before .before .before .before .before .before .pre .1 .0) (c .before .before .before .before .before .before .before .before .before .before .before .before .before .before .before .clauses .inv .0) (c .before .before .before .before .before .before .before .before .before .before .before .before .before .before .clauses-test .taken) (rw (c .before .before .before .before .before .before .before .before .before .before .before .before .wide .ensures) at sees) f), c .before .before .before .before .before .before .before .before .before .before .before .literals .inv .1, f .assigned .rows)
+    (rw (the-wide .ensures) (laws.pass-stored (c .before .before .before .before .before .before .before .before .before .before .before .before .before .before .before .before .before .before .before .before .pre .1 .0) (c .before .before .before .before .before .before .before .before .before .before .before .before .before .before .before .clauses .inv .0) (c .before .before .before .before .before .before .before .before .before .before .before .before .before .before .clauses-test .taken) (rw (the-wide .ensures) at sees) f), the-literals .inv .1, f .assigned .rows)
 
 same-length : tie.Need-same-length Inv-literals μ-literals Inv-clauses μ-clauses
 same-length c = worked-length (c .before .before .before .before .before .before .pre .1 .0) (c .before .clauses .inv .0 .worked)
@@ -119,7 +134,9 @@ same-length-2 : tie.Need-same-length-2 Inv-literals μ-literals Inv-clauses μ-c
 same-length-2 c = c .before .clauses .inv .0 .worked .grown .long
 
 returns : tie.Need-returns Inv-literals μ-literals Inv-clauses μ-clauses
-returns c = (rw (c .before .clauses .inv .1) (laws.pass-end (c .before .before .before .before .before .before .pre .1 .0) (c .before .clauses .inv .0) (c .clauses-test .left)), c .before .clauses .inv .2)
+returns c =
+    let the-clauses = c .before .clauses in
+    (rw (the-clauses .inv .1) (laws.pass-end (c .before .before .before .before .before .before .pre .1 .0) (the-clauses .inv .0) (c .clauses-test .left)), the-clauses .inv .2)
 
 same-length-3 : tie.Need-same-length-3 Inv-literals μ-literals Inv-clauses μ-clauses
 same-length-3 c = worked-length (c .before .before .before .before .before .before .before .before .before .before .before .pre .1 .0) (c .before .before .before .before .before .before .clauses .inv .0 .worked)
@@ -129,8 +146,9 @@ same-length-4 c = c .before .before .before .before .before .before .clauses .in
 
 returns-2 : tie.Need-returns-2 Inv-literals μ-literals Inv-clauses μ-clauses
 returns-2 c =
+    let the-clauses = c .before .before .before .before .before .before .clauses in
     let sees = asking.sees-broken (c .before .before .literals .inv .0) (c .before .if1 .taken) (c .if2 .taken) in
-    (laws.pass-broken (c .before .before .before .before .before .before .before .before .before .before .before .pre .1 .0) (c .before .before .before .before .before .before .clauses .inv .0) (c .before .before .before .before .before .clauses-test .taken) (rw (c .before .before .before .wide .ensures) at sees), c .before .before .before .before .before .before .clauses .inv .2)
+    (laws.pass-broken (c .before .before .before .before .before .before .before .before .before .before .before .pre .1 .0) (the-clauses .inv .0) (c .before .before .before .before .before .clauses-test .taken) (rw (c .before .before .before .wide .ensures) at sees), the-clauses .inv .2)
 
 pub pass-spec : {M : Type 1} → statement M
 pass-spec =

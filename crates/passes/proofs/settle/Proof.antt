@@ -18,10 +18,14 @@ abbrev μ-passes : tie.MeasureT-passes
     length values - count
 
 passes-holds : tie.Need-passes-holds Inv-passes μ-passes
-passes-holds c = (laws.settling _ _ (c .before .before .before .before .pre .1 .0 .0) (c .before .before .before .before .pre .1 .0 .1), c .before .before .before .before .pre .1 .1 .1)
+passes-holds c =
+    let the-pre = c .before .before .before .before .pre in
+    (laws.settling _ _ (the-pre .1 .0 .0) (the-pre .1 .0 .1), the-pre .1 .1 .1)
 
 drain-requires : tie.Need-drain-requires Inv-passes μ-passes
-drain-requires c κs = ((laws.drain-ready (c .before .before .before .before .passes .inv .0), c .before .before .before .before .passes .inv .1), (c .before .before .before .before .before .before .before .before .before .pre .1 .1 .0, c .before .before .before .before .passes .inv .0 .queue))
+drain-requires c κs =
+    let the-passes = c .before .before .before .before .passes in
+    ((laws.drain-ready (the-passes .inv .0), the-passes .inv .1), (c .before .before .before .before .before .before .before .before .before .pre .1 .1 .0, the-passes .inv .0 .queue))
 
 same-length : tie.Need-same-length Inv-passes μ-passes
 same-length c = laws.drained-values (c .before .before .before .before .before .before .before .before .before .before .passes .inv .0) (c .before .before .before .before .before .drain .ensures .0)
@@ -30,10 +34,15 @@ same-length-2 : tie.Need-same-length-2 Inv-passes μ-passes
 same-length-2 c = laws.drained-trail (c .before .before .before .before .before .before .before .before .before .before .passes .inv .0) (c .before .before .before .before .before .drain .ensures .0)
 
 returns : tie.Need-returns Inv-passes μ-passes
-returns c = (laws.drain-broken (c .before .before .before .before .before .before .before .before .before .before .passes .inv .0) (c .before .before .before .before .before .drain .ensures .0) (c .if1 .taken), c .before .before .before .before .before .drain .ensures .1)
+returns c =
+    let the-drain = c .before .before .before .before .before .drain in
+    (laws.drain-broken (c .before .before .before .before .before .before .before .before .before .before .passes .inv .0) (the-drain .ensures .0) (c .if1 .taken), the-drain .ensures .1)
 
 pass-requires : tie.Need-pass-requires Inv-passes μ-passes
-pass-requires c κs = (c .before .before .before .before .before .before .before .before .before .before .before .before .before .before .before .before .before .before .before .pre .0, (laws.pass-ready (c .before .before .before .before .before .before .before .before .before .before .before .before .before .before .passes .inv .0) (c .before .before .before .before .before .before .before .before .before .drain .ensures .0), (c .before .before .before .before .before .before .before .before .before .before .before .before .before .before .before .before .before .before .before .pre .1 .1 .0, c .before .before .before .before .before .before .before .before .before .drain .ensures .1)))
+pass-requires c κs =
+    let the-drain = c .before .before .before .before .before .before .before .before .before .drain in
+    let the-pre = c .before .before .before .before .before .before .before .before .before .before .before .before .before .before .before .before .before .before .before .pre in
+    (the-pre .0, (laws.pass-ready (c .before .before .before .before .before .before .before .before .before .before .before .before .before .before .passes .inv .0) (the-drain .ensures .0), (the-pre .1 .1 .0, the-drain .ensures .1)))
 
 same-length-3 : tie.Need-same-length-3 Inv-passes μ-passes
 same-length-3 c = laws.settle-values (c .before .before .before .before .before .before .before .before .before .before .before .before .before .before .before .before .before .before .before .before .passes .inv .0) (c .before .before .before .before .before .before .before .before .before .before .before .before .before .before .before .drain .ensures .0) (c .before .before .before .before .before .before .before .before .before .before .if1 .left) (c .before .before .before .before .before .pass .ensures .0)
@@ -42,7 +51,9 @@ same-length-4 : tie.Need-same-length-4 Inv-passes μ-passes
 same-length-4 c = laws.settle-trail (c .before .before .before .before .before .before .before .before .before .before .before .before .before .before .before .before .before .before .before .before .passes .inv .0) (c .before .before .before .before .before .before .before .before .before .before .before .before .before .before .before .drain .ensures .0) (c .before .before .before .before .before .before .before .before .before .before .if1 .left) (c .before .before .before .before .before .pass .ensures .0)
 
 returns-2 : tie.Need-returns-2 Inv-passes μ-passes
-returns-2 c = (laws.settle-broken (c .before .before .before .before .before .before .before .before .before .before .before .before .before .before .before .before .before .before .before .before .passes .inv .0) (c .before .before .before .before .before .before .before .before .before .before .before .before .before .before .before .drain .ensures .0) (c .before .before .before .before .before .before .before .before .before .before .if1 .left) (c .before .before .before .before .before .pass .ensures .0) (c .if2 .taken), c .before .before .before .before .before .pass .ensures .1)
+returns-2 c =
+    let the-pass = c .before .before .before .before .before .pass in
+    (laws.settle-broken (c .before .before .before .before .before .before .before .before .before .before .before .before .before .before .before .before .before .before .before .before .passes .inv .0) (c .before .before .before .before .before .before .before .before .before .before .before .before .before .before .before .drain .ensures .0) (c .before .before .before .before .before .before .before .before .before .before .if1 .left) (the-pass .ensures .0) (c .if2 .taken), the-pass .ensures .1)
 
 same-length-5 : tie.Need-same-length-5 Inv-passes μ-passes
 same-length-5 c = laws.settle-values (c .before .before .before .before .before .before .before .before .before .before .before .before .before .before .before .before .before .before .before .before .before .before .passes .inv .0) (c .before .before .before .before .before .before .before .before .before .before .before .before .before .before .before .before .before .drain .ensures .0) (c .before .before .before .before .before .before .before .before .before .before .before .before .if1 .left) (c .before .before .before .before .before .before .before .pass .ensures .0)
@@ -51,13 +62,17 @@ same-length-6 : tie.Need-same-length-6 Inv-passes μ-passes
 same-length-6 c = laws.settle-trail (c .before .before .before .before .before .before .before .before .before .before .before .before .before .before .before .before .before .before .before .before .before .before .passes .inv .0) (c .before .before .before .before .before .before .before .before .before .before .before .before .before .before .before .before .before .drain .ensures .0) (c .before .before .before .before .before .before .before .before .before .before .before .before .if1 .left) (c .before .before .before .before .before .before .before .pass .ensures .0)
 
 returns-3 : tie.Need-returns-3 Inv-passes μ-passes
-returns-3 c = (laws.settle-rest (c .before .before .before .before .before .before .before .before .before .before .before .before .before .before .before .before .before .before .before .before .before .before .passes .inv .0) (c .before .before .before .before .before .before .before .before .before .before .before .before .before .before .before .before .before .drain .ensures .0) (c .before .before .before .before .before .before .before .before .before .before .before .before .if1 .left) (c .before .before .before .before .before .before .before .pass .ensures .0) (c .before .before .if2 .left) (c .if3 .taken), c .before .before .before .before .before .before .before .pass .ensures .1)
+returns-3 c =
+    let the-pass = c .before .before .before .before .before .before .before .pass in
+    (laws.settle-rest (c .before .before .before .before .before .before .before .before .before .before .before .before .before .before .before .before .before .before .before .before .before .before .passes .inv .0) (c .before .before .before .before .before .before .before .before .before .before .before .before .before .before .before .before .before .drain .ensures .0) (c .before .before .before .before .before .before .before .before .before .before .before .before .if1 .left) (the-pass .ensures .0) (c .before .before .if2 .left) (c .if3 .taken), the-pass .ensures .1)
 
 passes-less : tie.Need-passes-less Inv-passes μ-passes
 passes-less c = laws.settle-less (c .before .before .before .before .before .before .before .before .before .before .before .before .before .before .before .before .before .before .before .before .before .before .passes .inv .0) (c .before .before .before .before .before .before .before .before .before .before .before .before .before .before .before .before .before .drain .ensures .0) (c .before .before .before .before .before .before .before .before .before .before .before .before .if1 .left) (c .before .before .before .before .before .before .before .pass .ensures .0) (c .if3 .left)
 
 passes-again : tie.Need-passes-again Inv-passes μ-passes
-passes-again c = (laws.settle-more (c .before .before .before .before .before .before .before .before .before .before .before .before .before .before .before .before .before .before .before .before .before .before .passes .inv .0) (c .before .before .before .before .before .before .before .before .before .before .before .before .before .before .before .before .before .drain .ensures .0) (c .before .before .before .before .before .before .before .before .before .before .before .before .if1 .left) (c .before .before .before .before .before .before .before .pass .ensures .0) (c .before .before .if2 .left), c .before .before .before .before .before .before .before .pass .ensures .1)
+passes-again c =
+    let the-pass = c .before .before .before .before .before .before .before .pass in
+    (laws.settle-more (c .before .before .before .before .before .before .before .before .before .before .before .before .before .before .before .before .before .before .before .before .before .before .passes .inv .0) (c .before .before .before .before .before .before .before .before .before .before .before .before .before .before .before .before .before .drain .ensures .0) (c .before .before .before .before .before .before .before .before .before .before .before .before .if1 .left) (the-pass .ensures .0) (c .before .before .if2 .left), the-pass .ensures .1)
 
 pub settle-spec : {M : Type 1} → statement M
 settle-spec =

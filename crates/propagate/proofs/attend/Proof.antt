@@ -20,34 +20,51 @@ abbrev μ-places : tie.MeasureT-places
 μ-places list n table firsts clauses hints₀ x values₀ trail₀ joined₀ apart₀ start count₀ l k₀ end hints values trail joined apart count k = end - k
 
 false-literal-requires : tie.Need-false-literal-requires Inv-places μ-places
-false-literal-requires c κs = (c .before .before .before .before .before .before .before .pre .1 .1 .0 .0, laws.set-value _ (c .before .before .before .before .before .before .before .pre .1 .0) (c .before .before .before .before .before .before .before .pre .1 .1 .0 .2))
+false-literal-requires c κs =
+    let the-pre = c .before .before .before .before .before .before .before .pre in
+    (the-pre .1 .1 .0 .0, laws.set-value _ (the-pre .1 .0) (the-pre .1 .1 .0 .2))
 
 mul-wide : tie.Need-mul-wide Inv-places μ-places
-mul-wide c = omega (arith, laws.literal-inside (laws.falsify (c .before .before .before .before .before .before .before .before .pre .1 .0) (c .before .before .before .before .before .before .before .before .pre .1 .1 .0 .2) (c .false-literal .ensures)) (c .before .before .before .before .before .before .before .before .pre .1 .1 .0 .0) (c .before .before .before .before .before .before .before .before .pre .1 .1 .0 .1))
+mul-wide c =
+    let the-pre = c .before .before .before .before .before .before .before .before .pre in
+    omega (arith, laws.literal-inside (laws.falsify (the-pre .1 .0) (the-pre .1 .1 .0 .2) (c .false-literal .ensures)) (the-pre .1 .1 .0 .0) (the-pre .1 .1 .0 .1))
 
 element-copy-out-wide : tie.Need-element-copy-out-wide Inv-places μ-places
-element-copy-out-wide c = omega (arith, laws.literal-inside (laws.falsify (c .before .before .before .before .before .before .before .before .pre .1 .0) (c .before .before .before .before .before .before .before .before .pre .1 .1 .0 .2) (c .false-literal .ensures)) (c .before .before .before .before .before .before .before .before .pre .1 .1 .0 .0) (c .before .before .before .before .before .before .before .before .pre .1 .1 .0 .1))
+element-copy-out-wide c =
+    let the-pre = c .before .before .before .before .before .before .before .before .pre in
+    omega (arith, laws.literal-inside (laws.falsify (the-pre .1 .0) (the-pre .1 .1 .0 .2) (c .false-literal .ensures)) (the-pre .1 .1 .0 .0) (the-pre .1 .1 .0 .1))
 
 wide-requires : tie.Need-wide-requires Inv-places μ-places
 wide-requires c κs = search needs
 
 add-wide : tie.Need-add-wide Inv-places μ-places
-add-wide c = omega (arith, laws.literal-inside (laws.falsify (c .before .before .before .before .before .before .before .before .before .before .pre .1 .0) (c .before .before .before .before .before .before .before .before .before .before .pre .1 .1 .0 .2) (c .before .before .false-literal .ensures)) (c .before .before .before .before .before .before .before .before .before .before .pre .1 .1 .0 .0) (c .before .before .before .before .before .before .before .before .before .before .pre .1 .1 .0 .1))
+add-wide c =
+    let the-pre = c .before .before .before .before .before .before .before .before .before .before .pre in
+    omega (arith, laws.literal-inside (laws.falsify (the-pre .1 .0) (the-pre .1 .1 .0 .2) (c .before .before .false-literal .ensures)) (the-pre .1 .1 .0 .0) (the-pre .1 .1 .0 .1))
 
 mul-wide-2 : tie.Need-mul-wide-2 Inv-places μ-places
-mul-wide-2 c = omega (arith, laws.literal-inside (laws.falsify (c .before .before .before .before .before .before .before .before .before .before .pre .1 .0) (c .before .before .before .before .before .before .before .before .before .before .pre .1 .1 .0 .2) (c .before .before .false-literal .ensures)) (c .before .before .before .before .before .before .before .before .before .before .pre .1 .1 .0 .0) (c .before .before .before .before .before .before .before .before .before .before .pre .1 .1 .0 .1))
+mul-wide-2 c =
+    let the-pre = c .before .before .before .before .before .before .before .before .before .before .pre in
+    omega (arith, laws.literal-inside (laws.falsify (the-pre .1 .0) (the-pre .1 .1 .0 .2) (c .before .before .false-literal .ensures)) (the-pre .1 .1 .0 .0) (the-pre .1 .1 .0 .1))
 
 element-copy-out-wide-2 : tie.Need-element-copy-out-wide-2 Inv-places μ-places
-element-copy-out-wide-2 c = omega (arith, laws.literal-inside (laws.falsify (c .before .before .before .before .before .before .before .before .before .before .pre .1 .0) (c .before .before .before .before .before .before .before .before .before .before .pre .1 .1 .0 .2) (c .before .before .false-literal .ensures)) (c .before .before .before .before .before .before .before .before .before .before .pre .1 .1 .0 .0) (c .before .before .before .before .before .before .before .before .before .before .pre .1 .1 .0 .1))
+element-copy-out-wide-2 c =
+    let the-pre = c .before .before .before .before .before .before .before .before .before .before .pre in
+    omega (arith, laws.literal-inside (laws.falsify (the-pre .1 .0) (the-pre .1 .1 .0 .2) (c .before .before .false-literal .ensures)) (the-pre .1 .1 .0 .0) (the-pre .1 .1 .0 .1))
 
 wide-requires-2 : tie.Need-wide-requires-2 Inv-places μ-places
 wide-requires-2 c κs = search needs
 
 places-holds : tie.Need-places-holds Inv-places μ-places
-places-holds c = (laws.falling (c .before .before .before .before .before .before .before .before .before .before .before .before .pre .0 .0) (c .before .before .before .before .before .before .before .before .before .before .before .before .pre .1 .0) (laws.falsify (c .before .before .before .before .before .before .before .before .before .before .before .before .pre .1 .0) (c .before .before .before .before .before .before .before .before .before .before .before .before .pre .1 .1 .0 .2) (c .before .before .before .before .false-literal .ensures)) (laws.literal-inside (laws.falsify (c .before .before .before .before .before .before .before .before .before .before .before .before .pre .1 .0) (c .before .before .before .before .before .before .before .before .before .before .before .before .pre .1 .1 .0 .2) (c .before .before .before .before .false-literal .ensures)) (c .before .before .before .before .before .before .before .before .before .before .before .before .pre .1 .1 .0 .0) (c .before .before .before .before .before .before .before .before .before .before .before .before .pre .1 .1 .0 .1)) (c .before .before .wide .ensures), c .before .before .before .before .before .before .before .before .before .before .before .before .pre .1 .1 .1 .1, c .before .before .before .before .before .before .before .before .before .before .before .before .pre .0 .1, refl)
+places-holds c =
+    let the-false-literal = c .before .before .before .before .false-literal in
+    let the-pre = c .before .before .before .before .before .before .before .before .before .before .before .before .pre in
+    (laws.falling (the-pre .0 .0) (the-pre .1 .0) (laws.falsify (the-pre .1 .0) (the-pre .1 .1 .0 .2) (the-false-literal .ensures)) (laws.literal-inside (laws.falsify (the-pre .1 .0) (the-pre .1 .1 .0 .2) (the-false-literal .ensures)) (the-pre .1 .1 .0 .0) (the-pre .1 .1 .0 .1)) (c .before .before .wide .ensures), the-pre .1 .1 .1 .1, the-pre .0 .1, refl)
 
 visit-requires : tie.Need-visit-requires Inv-places μ-places
-visit-requires c κs = laws.place (c .before .before .before .places .inv .0) (c .before .before .before .before .wide2 .ensures) (c .before .before .places-test .taken) (c .before .before .before .places .inv .2)
+visit-requires c κs =
+    let the-places = c .before .before .before .places in
+    laws.place (the-places .inv .0) (c .before .before .before .before .wide2 .ensures) (c .before .before .places-test .taken) (the-places .inv .2)
 
 add-k : tie.Need-add-k Inv-places μ-places
 add-k c = omega (arith, laws.place-small (c .before .before .before .before .before .before .places .inv .0) (c .before .before .before .before .before .before .before .wide2 .ensures) (c .before .before .before .before .before .places-test .taken))
@@ -65,23 +82,29 @@ same-length-3 : tie.Need-same-length-3 Inv-places μ-places
 same-length-3 c = c .before .before .before .before .before .before .before .before .places .inv .0 .worked .grown .long
 
 returns : tie.Need-returns Inv-places μ-places
-returns c = ((laws.fall-broken (c .before .before .before .before .before .before .before .before .places .inv .0) (c .before .before .before .before .before .before .before .before .before .wide2 .ensures) (c .before .before .before .before .before .before .before .places-test .taken) (sym (ap heardOf (c .enum-told .given .1)) ∙ c .before .before .before .before .visit .ensures .0), c .before .before .before .before .before .before .before .before .places .inv .1), laws.hints-kept (c .before .before .before .before .before .before .before .before .before .before .before .before .before .before .before .before .before .before .before .before .before .pre .0 .0) (c .before .before .before .before .before .before .before .before .places .inv .2) (c .before .before .before .before .visit .ensures .1))
+returns c =
+    let the-visit = c .before .before .before .before .visit in
+    let the-places = c .before .before .before .before .before .before .before .before .places in
+    ((laws.fall-broken (the-places .inv .0) (c .before .before .before .before .before .before .before .before .before .wide2 .ensures) (c .before .before .before .before .before .before .before .places-test .taken) (sym (ap heardOf (c .enum-told .given .1)) ∙ the-visit .ensures .0), the-places .inv .1), laws.hints-kept (c .before .before .before .before .before .before .before .before .before .before .before .before .before .before .before .before .before .before .before .before .before .pre .0 .0) (the-places .inv .2) (the-visit .ensures .1))
 
 enum-known-heard : tie.Need-enum-known-heard Inv-places μ-places
 enum-known-heard c = search needs
 
 force-requires : tie.Need-force-requires Inv-places μ-places
 force-requires c κs =
-    let p = c .before .before .before .before .before .before .before .before .before .before .before .before .before .places .inv .0 in
-    (c .before .before .before .before .before .before .before .before .before .before .before .before .before .before .before .before .before .before .before .before .before .before .before .before .before .before .pre .1 .1 .1 .0, can-force (p .ready) (p .worked) (laws.clause-here p (c .before .before .before .before .before .before .before .before .before .before .before .before .before .before .wide2 .ensures) (c .before .before .before .before .before .before .before .before .before .before .before .before .places-test .taken)) (sym (ap heardOf (c .before .before .before .before .before .heard .given .1)) ∙ c .before .before .before .before .before .before .before .before .before .visit .ensures .0) (c .before .before .before .before .before .before .before .before .before .before .before .before .before .places .inv .1))
+    let the-places = c .before .before .before .before .before .before .before .before .before .before .before .before .before .places in
+    let p = the-places .inv .0 in
+    (c .before .before .before .before .before .before .before .before .before .before .before .before .before .before .before .before .before .before .before .before .before .before .before .before .before .before .pre .1 .1 .1 .0, can-force (p .ready) (p .worked) (laws.clause-here p (c .before .before .before .before .before .before .before .before .before .before .before .before .before .before .wide2 .ensures) (c .before .before .before .before .before .before .before .before .before .before .before .before .places-test .taken)) (sym (ap heardOf (c .before .before .before .before .before .heard .given .1)) ∙ c .before .before .before .before .before .before .before .before .before .visit .ensures .0) (the-places .inv .1))
 
 places-less : tie.Need-places-less Inv-places μ-places
 places-less c = search needs
 
 places-again : tie.Need-places-again Inv-places μ-places
 places-again c =
+    let the-visit = c .before .before .before .before .before .before .before .before .before .before .before .before .before .before .visit in
+    let the-places = c .before .before .before .before .before .before .before .before .before .before .before .before .before .before .before .before .before .before .places in
     let f = c .before .before .before .before .force .ensures in
-    (laws.fall-stored (c .before .before .before .before .before .before .before .before .before .before .before .before .before .before .before .before .before .before .places .inv .0) (c .before .before .before .before .before .before .before .before .before .before .before .before .before .before .before .before .before .before .before .wide2 .ensures) (c .before .before .before .before .before .before .before .before .before .before .before .before .before .before .before .before .before .places-test .taken) (sym (ap heardOf (c .before .before .before .before .before .before .before .before .before .before .heard .given .1)) ∙ c .before .before .before .before .before .before .before .before .before .before .before .before .before .before .visit .ensures .0) f, f .assigned .rows, laws.hints-kept (c .before .before .before .before .before .before .before .before .before .before .before .before .before .before .before .before .before .before .before .before .before .before .before .before .before .before .before .before .before .before .before .pre .0 .0) (c .before .before .before .before .before .before .before .before .before .before .before .before .before .before .before .before .before .before .places .inv .2) (c .before .before .before .before .before .before .before .before .before .before .before .before .before .before .visit .ensures .1), c .before .before .before .before .before .before .before .before .before .before .before .before .before .before .visit .ensures .1 .long ∙ c .before .before .before .before .before .before .before .before .before .before .before .before .before .before .before .before .before .before .places .inv .3)
+    (laws.fall-stored (the-places .inv .0) (c .before .before .before .before .before .before .before .before .before .before .before .before .before .before .before .before .before .before .before .wide2 .ensures) (c .before .before .before .before .before .before .before .before .before .before .before .before .before .before .before .before .before .places-test .taken) (sym (ap heardOf (c .before .before .before .before .before .before .before .before .before .before .heard .given .1)) ∙ the-visit .ensures .0) f, f .assigned .rows, laws.hints-kept (c .before .before .before .before .before .before .before .before .before .before .before .before .before .before .before .before .before .before .before .before .before .before .before .before .before .before .before .before .before .before .before .pre .0 .0) (the-places .inv .2) (the-visit .ensures .1), the-visit .ensures .1 .long ∙ the-places .inv .3)
 
 enum-told-2 : tie.Need-enum-told-2 Inv-places μ-places
 enum-told-2 c = search needs
@@ -90,7 +113,10 @@ places-less-2 : tie.Need-places-less-2 Inv-places μ-places
 places-less-2 c = search needs
 
 places-again-2 : tie.Need-places-again-2 Inv-places μ-places
-places-again-2 c = (laws.fall-quiet (c .before .before .before .before .before .before .before .before .places .inv .0) (c .before .before .before .before .before .before .before .before .before .wide2 .ensures) (c .before .before .before .before .before .before .before .places-test .taken) (sym (ap heardOf (c .enum-told2 .given .1)) ∙ c .before .before .before .before .visit .ensures .0), c .before .before .before .before .before .before .before .before .places .inv .1, laws.hints-kept (c .before .before .before .before .before .before .before .before .before .before .before .before .before .before .before .before .before .before .before .before .before .pre .0 .0) (c .before .before .before .before .before .before .before .before .places .inv .2) (c .before .before .before .before .visit .ensures .1), c .before .before .before .before .visit .ensures .1 .long ∙ c .before .before .before .before .before .before .before .before .places .inv .3)
+places-again-2 c =
+    let the-visit = c .before .before .before .before .visit in
+    let the-places = c .before .before .before .before .before .before .before .before .places in
+    (laws.fall-quiet (the-places .inv .0) (c .before .before .before .before .before .before .before .before .before .wide2 .ensures) (c .before .before .before .before .before .before .before .places-test .taken) (sym (ap heardOf (c .enum-told2 .given .1)) ∙ the-visit .ensures .0), the-places .inv .1, laws.hints-kept (c .before .before .before .before .before .before .before .before .before .before .before .before .before .before .before .before .before .before .before .before .before .pre .0 .0) (the-places .inv .2) (the-visit .ensures .1), the-visit .ensures .1 .long ∙ the-places .inv .3)
 
 same-length-4 : tie.Need-same-length-4 Inv-places μ-places
 same-length-4 c = c .before .places .inv .3
@@ -102,7 +128,9 @@ same-length-6 : tie.Need-same-length-6 Inv-places μ-places
 same-length-6 c = c .before .places .inv .0 .worked .grown .long
 
 returns-2 : tie.Need-returns-2 Inv-places μ-places
-returns-2 c = ((laws.fall-end (c .before .places .inv .0) (c .before .before .wide2 .ensures) (omega (arith, c .places-test .left)), c .before .places .inv .1), c .before .places .inv .2)
+returns-2 c =
+    let the-places = c .before .places in
+    ((laws.fall-end (the-places .inv .0) (c .before .before .wide2 .ensures) (omega (arith, c .places-test .left)), the-places .inv .1), the-places .inv .2)
 
 pub attend-spec : {M : Type 1} → statement M
 attend-spec = tie.close (tie.spec Inv-places μ-places false-literal-requires mul-wide element-copy-out-wide wide-requires add-wide mul-wide-2 element-copy-out-wide-2 wide-requires-2 places-holds visit-requires add-k enum-told same-length same-length-2 same-length-3 returns enum-known-heard force-requires places-less places-again enum-told-2 places-less-2 places-again-2 same-length-4 same-length-5 same-length-6 returns-2)

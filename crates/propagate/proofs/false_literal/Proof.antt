@@ -17,13 +17,17 @@ add-result : tie.Need-add-result
 add-result c = search needs
 
 returns : tie.Need-returns
-returns c = laws.literal-one (c .before .before .before .before .args .values .now) (c .before .before .before .before .pre .0) (c .before .before .before .before .pre .1) (c .before .before .wide .ensures) (c .if1 .taken)
+returns c =
+    let the-pre = c .before .before .before .before .pre in
+    laws.literal-one (c .before .before .before .before .args .values .now) (the-pre .0) (the-pre .1) (c .before .before .wide .ensures) (c .if1 .taken)
 
 mul-result-2 : tie.Need-mul-result-2
 mul-result-2 c = search needs
 
 returns-2 : tie.Need-returns-2
-returns-2 c = laws.literal-none (c .before .before .before .before .args .values .now) (c .before .before .before .before .pre .0) (c .before .before .before .before .pre .1) (c .before .before .wide .ensures) (c .if1 .left)
+returns-2 c =
+    let the-pre = c .before .before .before .before .pre in
+    laws.literal-none (c .before .before .before .before .args .values .now) (the-pre .0) (the-pre .1) (c .before .before .wide .ensures) (c .if1 .left)
 
 pub false-literal-spec : {M : Type 1} → statement M
 false-literal-spec =

@@ -1,7 +1,7 @@
 -- `quotient::write_parts` meets its contract: too short, or written. Assumes nothing.
+use Rattle.format.specs.File.{ofStates}
 use Rattle.writing.proofs.Keys.{holds-long}
 use Rattle.quotient.proofs.Quotienting.{Few, counts-few, states-put, fits, short, put}
-use Rattle.matching.specs.Matching.{ofStates}
 use native.Mathlib.Omega.{arith}
 use borrow.Author.Needs.{needs}
 use Rattle.quotient.proofs.write_parts.Statement.{statement}

@@ -33,11 +33,12 @@ same-length c = search needs
 
 returns : tie.Need-returns
 returns c =
+    let the-args = c .before .before .before .before .before .before .before .before .before .before .before .before .before .before .args in
     c .before .before .write-parts .ensures
     ∙ written-read (c .before .before .before .before .before .before .before .before .before .before .before .before .before .before .pre)
     (c .before .before .before .before .before .before .before .before .part .ensures) (c .before .before .before .before .before .before .before .part2 .ensures) (c .before .before .before .before .before .before .part3 .ensures) (c .before .before .before .before .before .part4 .ensures) (c .before .before .before .before .part5 .ensures)
-    (c .before .before .before .before .before .before .before .before .before .before .before .before .before .before .args .map .now) (λ k. c .before .before .before .before .before .before .before .before .before .before .before .before .before .shared-slice-known .given k .fits) (λ k. c .before .before .before .before .before .before .before .before .before .before .before .shared-slice-known3 .given k .fits)
-    (c .before .before .before .before .before .before .before .before .before .version-of .ensures) (c .before .before .before .before .before .before .before .before .before .before .before .before .before .before .args .out .now)
+    (the-args .map .now) (λ k. c .before .before .before .before .before .before .before .before .before .before .before .before .before .shared-slice-known .given k .fits) (λ k. c .before .before .before .before .before .before .before .before .before .before .before .shared-slice-known3 .given k .fits)
+    (c .before .before .before .before .before .before .before .before .before .version-of .ensures) (the-args .out .now)
 
 pub write-read-spec : {M : Type 1} → statement M
 write-read-spec =

@@ -20,9 +20,10 @@ part-mark-section-end c = search needs
 
 mark-section-requires-2 : tie.Need-mark-section-requires-2
 mark-section-requires-2 c κs =
+    let the-mark-section = c .before .before .before .before .mark-section in
     let a = c .before .before .before .before .before .before .before .before .before .before .before .before .before in
-    let w = internals-told (a .args .internals .now) (a .args .calls .now) (a .args .returns .now) (a .args .words .now) (a .args .map .now) (a .args .out .now) (a .pre .1) (c .before .before .before .before .mark-section .ensures .0) in
-    (a .pre .0 .of-calls, calls-room (a .args .internals .now) (a .args .calls .now) (a .args .returns .now) (a .args .words .now) (a .args .map .now) (a .args .out .now) w, omega arith, c .before .before .before .before .mark-section .ensures .1)
+    let w = internals-told (a .args .internals .now) (a .args .calls .now) (a .args .returns .now) (a .args .words .now) (a .args .map .now) (a .args .out .now) (a .pre .1) (the-mark-section .ensures .0) in
+    (a .pre .0 .of-calls, calls-room (a .args .internals .now) (a .args .calls .now) (a .args .returns .now) (a .args .words .now) (a .args .map .now) (a .args .out .now) w, omega arith, the-mark-section .ensures .1)
 
 add-at : tie.Need-add-at
 add-at c = search needs
@@ -38,9 +39,10 @@ part-mark-section-end-2 c = search needs
 
 mark-section-requires-3 : tie.Need-mark-section-requires-3
 mark-section-requires-3 c κs =
+    let the-mark-section2 = c .before .before .before .before .mark-section2 in
     let a = c .before .before .before .before .before .before .before .before .before .before .before .before .before .before .before .before .before .before in
     let w = internals-told (a .args .internals .now) (a .args .calls .now) (a .args .returns .now) (a .args .words .now) (a .args .map .now) (a .args .out .now) (a .pre .1) (c .before .before .before .before .before .before .before .before .before .mark-section .ensures .0) in
-    (a .pre .0 .of-returns, returns-room (a .args .internals .now) (a .args .calls .now) (a .args .returns .now) (a .args .words .now) (a .args .map .now) (a .args .out .now) (calls-told (a .args .internals .now) (a .args .calls .now) (a .args .returns .now) (a .args .words .now) (a .args .map .now) (a .args .out .now) w (c .before .before .before .before .mark-section2 .ensures .0)), omega arith, c .before .before .before .before .mark-section2 .ensures .1)
+    (a .pre .0 .of-returns, returns-room (a .args .internals .now) (a .args .calls .now) (a .args .returns .now) (a .args .words .now) (a .args .map .now) (a .args .out .now) (calls-told (a .args .internals .now) (a .args .calls .now) (a .args .returns .now) (a .args .words .now) (a .args .map .now) (a .args .out .now) w (the-mark-section2 .ensures .0)), omega arith, the-mark-section2 .ensures .1)
 
 same-length : tie.Need-same-length
 same-length c = search needs

@@ -7,7 +7,9 @@ use Rattle.reduce.proofs.deliver_held.Statement.{statement}
 use Rattle.reduce.proofs.deliver_held.Tie as tie
 
 map-of-requires : tie.Need-map-of-requires
-map-of-requires c κs = (c .before .before .before .before .before .pre .0 .1, omega (arith, c .before .before .before .before .before .pre .1 .long))
+map-of-requires c κs =
+    let the-pre = c .before .before .before .before .before .pre in
+    (the-pre .0 .1, omega (arith, the-pre .1 .long))
 
 not-false-requires : tie.Need-not-false-requires
 not-false-requires c κs = search needs
@@ -16,7 +18,9 @@ array-share-prefix-found : tie.Need-array-share-prefix-found
 array-share-prefix-found c = search needs
 
 slice-aggregate-quotient-known : tie.Need-slice-aggregate-quotient-known
-slice-aggregate-quotient-known c = sym (laws.prefix-long (c .before .before .before .map-of .result .map) (c .before .before .before .before .before .before .before .before .before .args .n) (c .before .before .before .map-of .ensures .long) (c .before .before .before .before .before .before .before .before .before .pre .0 .1))
+slice-aggregate-quotient-known c =
+    let the-map-of = c .before .before .before .map-of in
+    sym (laws.prefix-long (the-map-of .result .map) (c .before .before .before .before .before .before .before .before .before .args .n) (the-map-of .ensures .long) (c .before .before .before .before .before .before .before .before .before .pre .0 .1))
 
 quotient-known-requires : tie.Need-quotient-known-requires
 quotient-known-requires c κs = search needs
@@ -31,10 +35,15 @@ array-share-prefix-found-2 : tie.Need-array-share-prefix-found-2
 array-share-prefix-found-2 c = search needs
 
 slice-aggregate-copy : tie.Need-slice-aggregate-copy
-slice-aggregate-copy c = sym (laws.prefix-long (c .before .before .before .before .before .before .before .before .before .before .before .map-of .result .map) (c .before .before .before .before .before .before .before .before .before .before .before .before .before .before .before .before .before .args .n) (c .before .before .before .before .before .before .before .before .before .before .before .map-of .ensures .long) (c .before .before .before .before .before .before .before .before .before .before .before .before .before .before .before .before .before .pre .0 .1))
+slice-aggregate-copy c =
+    let the-map-of = c .before .before .before .before .before .before .before .before .before .before .before .map-of in
+    sym (laws.prefix-long (the-map-of .result .map) (c .before .before .before .before .before .before .before .before .before .before .before .before .before .before .before .before .before .args .n) (the-map-of .ensures .long) (c .before .before .before .before .before .before .before .before .before .before .before .before .before .before .before .before .before .pre .0 .1))
 
 copy-requires : tie.Need-copy-requires
-copy-requires c κs = omega (arith, laws.prefix-long (c .before .before .before .before .before .before .before .before .before .before .before .before .map-of .result .map) (c .before .before .before .before .before .before .before .before .before .before .before .before .before .before .before .before .before .before .args .n) (c .before .before .before .before .before .before .before .before .before .before .before .before .map-of .ensures .long) (c .before .before .before .before .before .before .before .before .before .before .before .before .before .before .before .before .before .before .pre .0 .1), c .before .before .before .before .before .before .before .before .before .before .before .before .before .before .before .before .before .before .pre .0 .2)
+copy-requires c κs =
+    let the-map-of = c .before .before .before .before .before .before .before .before .before .before .before .before .map-of in
+    let the-pre = c .before .before .before .before .before .before .before .before .before .before .before .before .before .before .before .before .before .before .pre in
+    omega (arith, laws.prefix-long (the-map-of .result .map) (c .before .before .before .before .before .before .before .before .before .before .before .before .before .before .before .before .before .before .args .n) (the-map-of .ensures .long) (the-pre .0 .1), the-pre .0 .2)
 
 cast-t24 : tie.Need-cast-t24
 cast-t24 c = search needs

@@ -24,30 +24,36 @@ part-requires c κs = search needs
 
 returns-2 : tie.Need-returns-2
 returns-2 c =
+    let the-if1 = c .before .before .before .before .if1 in
+    let the-examine = c .before .before .before .before .before .before .examine in
     let s = c .before .before .before .before .before .before .before .before .before .before .before in
     let L = s .args .limits in
     let b = s .args .table .now in
-    let readable = read-readable L b (c .before .before .before .before .before .before .examine .ensures) (c .before .before .before .before .if1 .left) in
-    let known = read-known L b (c .before .before .before .before .before .before .examine .ensures) (c .before .before .before .before .if1 .left) in
+    let readable = read-readable L b (the-examine .ensures) (the-if1 .left) in
+    let known = read-known L b (the-examine .ensures) (the-if1 .left) in
     promised L b (s .args .budget) (s .args .list .now) (s .args .map .now) (s .args .out .now)
     (laws.map-short L b (s .args .budget) (s .args .list .now) (s .args .map .now) (s .args .out .now) readable (omega (arith, laws.states-count (known .read) (c .before .part .ensures), c .if2 .taken)))
 
 cast-reduce-known : tie.Need-cast-reduce-known
 cast-reduce-known c =
+    let the-if1 = c .before .before .before .before .before .if1 in
+    let the-examine = c .before .before .before .before .before .before .before .examine in
     let s = c .before .before .before .before .before .before .before .before .before .before .before .before in
     let L = s .args .limits in
     let b = s .args .table .now in
-    let readable = read-readable L b (c .before .before .before .before .before .before .before .examine .ensures) (c .before .before .before .before .before .if1 .left) in
-    let known = read-known L b (c .before .before .before .before .before .before .before .examine .ensures) (c .before .before .before .before .before .if1 .left) in
+    let readable = read-readable L b (the-examine .ensures) (the-if1 .left) in
+    let known = read-known L b (the-examine .ensures) (the-if1 .left) in
     omega (arith, laws.states-count (known .read) (c .before .before .part .ensures), laws.states-few L b readable)
 
 reduce-known-requires : tie.Need-reduce-known-requires
 reduce-known-requires c κs =
+    let the-if1 = c .before .before .before .before .before .before .before .before .if1 in
+    let the-examine = c .before .before .before .before .before .before .before .before .before .before .examine in
     let s = c .before .before .before .before .before .before .before .before .before .before .before .before .before .before .before in
     let L = s .args .limits in
     let b = s .args .table .now in
-    let readable = read-readable L b (c .before .before .before .before .before .before .before .before .before .before .examine .ensures) (c .before .before .before .before .before .before .before .before .if1 .left) in
-    let known = read-known L b (c .before .before .before .before .before .before .before .before .before .before .examine .ensures) (c .before .before .before .before .before .before .before .before .if1 .left) in
+    let readable = read-readable L b (the-examine .ensures) (the-if1 .left) in
+    let known = read-known L b (the-examine .ensures) (the-if1 .left) in
     (known, laws.states-count (known .read) (c .before .before .before .before .before .part .ensures), c .before .before .before .before .if2 .left)
 
 same-length : tie.Need-same-length
@@ -61,11 +67,13 @@ same-length-3 c = search needs
 
 returns-3 : tie.Need-returns-3
 returns-3 c =
+    let the-if1 = c .before .before .before .before .before .before .before .before .before .before .before .before .before .before .before .if1 in
+    let the-examine = c .before .before .before .before .before .before .before .before .before .before .before .before .before .before .before .before .before .examine in
     let s = c .before .before .before .before .before .before .before .before .before .before .before .before .before .before .before .before .before .before .before .before .before .before in
     let L = s .args .limits in
     let b = s .args .table .now in
-    let readable = read-readable L b (c .before .before .before .before .before .before .before .before .before .before .before .before .before .before .before .before .before .examine .ensures) (c .before .before .before .before .before .before .before .before .before .before .before .before .before .before .before .if1 .left) in
-    let known = read-known L b (c .before .before .before .before .before .before .before .before .before .before .before .before .before .before .before .before .before .examine .ensures) (c .before .before .before .before .before .before .before .before .before .before .before .before .before .before .before .if1 .left) in
+    let readable = read-readable L b (the-examine .ensures) (the-if1 .left) in
+    let known = read-known L b (the-examine .ensures) (the-if1 .left) in
     promised L b (s .args .budget) (s .args .list .now) (s .args .map .now) (s .args .out .now)
     (c .before .before .before .before .before .before .reduce-known .ensures L readable)
 

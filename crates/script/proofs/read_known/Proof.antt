@@ -47,8 +47,10 @@ reads-requires c κs =
 
 returns-2 : tie.Need-returns-2
 returns-2 c =
-    let e = sym (c .before .before .before .before .before .before .script-number .ensures ∙ ap (λ x. firstFailed (scriptTests x (c .before .before .before .before .before .before .before .before .before .before .args .script .now))) (symbols-read (c .before .before .before .before .before .before .before .before .before .before .pre .known) (c .before .before .before .before .before .before .before .part .ensures))) ∙ c .before .before .before .before .before .if1 .left in
-    answered _ _ _ e (c .reads .ensures ∙ parts-read _ (c .before .before .before .before .before .before .before .before .before .before .pre) (c .before .before .before .before .before .before .before .part .ensures) (c .before .before .before .before .part2 .ensures) (c .before .before .before .part3 .ensures) (c .before .before .part4 .ensures) (c .before .part5 .ensures) _)
+    let the-part = c .before .before .before .before .before .before .before .part in
+    let the-pre = c .before .before .before .before .before .before .before .before .before .before .pre in
+    let e = sym (c .before .before .before .before .before .before .script-number .ensures ∙ ap (λ x. firstFailed (scriptTests x (c .before .before .before .before .before .before .before .before .before .before .args .script .now))) (symbols-read (the-pre .known) (the-part .ensures))) ∙ c .before .before .before .before .before .if1 .left in
+    answered _ _ _ e (c .reads .ensures ∙ parts-read _ (the-pre) (the-part .ensures) (c .before .before .before .before .part2 .ensures) (c .before .before .before .part3 .ensures) (c .before .before .part4 .ensures) (c .before .part5 .ensures) _)
 
 pub read-known-spec : {M : Type 1} → statement M
 read-known-spec =

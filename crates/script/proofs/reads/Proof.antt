@@ -24,13 +24,19 @@ abbrev μ-script : tie.MeasureT-script
 μ-script symbols states internals calls returns script n moves opens closes level₀ levels₀ depth₀ i₀ level levels depth i = length script - i
 
 starts-of-requires : tie.Need-starts-of-requires Inv-script μ-script
-starts-of-requires c κs = (omega arith, lent-more (c .before .before .before .before .before .before .pre .0 .internals-lent) (c .before .before .before .before .before .before .pre .0 .few))
+starts-of-requires c κs =
+    let the-pre = c .before .before .before .before .before .before .pre in
+    (omega arith, lent-more (the-pre .0 .internals-lent) (the-pre .0 .few))
 
 starts-of-requires-2 : tie.Need-starts-of-requires-2 Inv-script μ-script
-starts-of-requires-2 c κs = (omega arith, lent-more (c .before .before .before .before .before .before .before .pre .0 .calls-lent) (c .before .before .before .before .before .before .before .pre .0 .few))
+starts-of-requires-2 c κs =
+    let the-pre = c .before .before .before .before .before .before .before .pre in
+    (omega arith, lent-more (the-pre .0 .calls-lent) (the-pre .0 .few))
 
 starts-of-requires-3 : tie.Need-starts-of-requires-3 Inv-script μ-script
-starts-of-requires-3 c κs = (omega arith, lent-more (c .before .before .before .before .before .before .before .before .pre .0 .returns-lent) (c .before .before .before .before .before .before .before .before .pre .0 .few))
+starts-of-requires-3 c κs =
+    let the-pre = c .before .before .before .before .before .before .before .before .pre in
+    (omega arith, lent-more (the-pre .0 .returns-lent) (the-pre .0 .few))
 
 slice-aggregate-start-words : tie.Need-slice-aggregate-start-words Inv-script μ-script
 slice-aggregate-start-words c = search needs

@@ -17,11 +17,12 @@ use Rattle.search.proofs.search_at.Tie as tie
 
 returns : tie.Need-returns
 returns c =
-    let l = c .before .before .before .args .list .now in
-    let n = c .before .before .before .args .variables in
-    let k = c .before .before .before .args .most in
-    let b = c .before .before .before .args .budget in
-    let a = c .before .before .before .args .answer .now in
+    let the-args = c .before .before .before .args in
+    let l = the-args .list .now in
+    let n = the-args .variables in
+    let k = the-args .most in
+    let b = the-args .budget in
+    let a = the-args .answer .now in
     answers.promised k l n b a (answers.refuse-list k l n b a (answers.list-many k n l (c .if1 .taken)))
 
 list-fits-requires : tie.Need-list-fits-requires
@@ -29,11 +30,12 @@ list-fits-requires c κs = laws.room (c .if1 .left) (c .before .before .before .
 
 returns-2 : tie.Need-returns-2
 returns-2 c =
-    let l = c .before .before .before .before .before .args .list .now in
-    let n = c .before .before .before .before .before .args .variables in
-    let k = c .before .before .before .before .before .args .most in
-    let b = c .before .before .before .before .before .args .budget in
-    let a = c .before .before .before .before .before .args .answer .now in
+    let the-args = c .before .before .before .before .before .args in
+    let l = the-args .list .now in
+    let n = the-args .variables in
+    let k = the-args .most in
+    let b = the-args .budget in
+    let a = the-args .answer .now in
     let most = c .before .before .if1 .left in
     let room = laws.room most (c .before .before .before .before .before .pre) in
     let unfit = answers.list-as k n l most false (sym (c .before .list-fits .ensures) ∙ not-true _ (c .if2 .taken)) in
@@ -41,11 +43,12 @@ returns-2 c =
 
 returns-3 : tie.Need-returns-3
 returns-3 c =
-    let l = c .before .before .before .before .before .before .args .list .now in
-    let n = c .before .before .before .before .before .before .args .variables in
-    let k = c .before .before .before .before .before .before .args .most in
-    let b = c .before .before .before .before .before .before .args .budget in
-    let a = c .before .before .before .before .before .before .args .answer .now in
+    let the-args = c .before .before .before .before .before .before .args in
+    let l = the-args .list .now in
+    let n = the-args .variables in
+    let k = the-args .most in
+    let b = the-args .budget in
+    let a = the-args .answer .now in
     let most = c .before .before .before .if1 .left in
     let room = laws.room most (c .before .before .before .before .before .before .pre) in
     let fits = answers.list-as k n l most true (sym (c .before .before .list-fits .ensures) ∙ not-false _ (c .before .if2 .left)) in
@@ -62,9 +65,10 @@ slice-aggregate-solve c = sym (laws.prefix-length (c .before .before .before .be
 
 solve-requires : tie.Need-solve-requires
 solve-requires c κs =
-    let l = c .before .before .before .before .before .before .before .before .args .list .now in
-    let n = c .before .before .before .before .before .before .before .before .args .variables in
-    let k = c .before .before .before .before .before .before .before .before .args .most in
+    let the-args = c .before .before .before .before .before .before .before .before .args in
+    let l = the-args .list .now in
+    let n = the-args .variables in
+    let k = the-args .most in
     let most = c .before .before .before .before .before .if1 .left in
     let room = laws.room most (c .before .before .before .before .before .before .before .before .pre) in
     let fits = answers.list-as k n l most true (sym (c .before .before .before .before .list-fits .ensures) ∙ not-false _ (c .before .before .before .if2 .left)) in
@@ -76,35 +80,41 @@ enum-known-ending c = search needs
 
 array-share-prefix-values : tie.Need-array-share-prefix-values
 array-share-prefix-values c =
-    let n = c .before .before .before .before .before .before .before .before .before .before .before .before .before .args .variables in
-    let k = c .before .before .before .before .before .before .before .before .before .before .before .before .before .args .most in
+    let the-solve = c .before .before .before .before .solve in
+    let the-args = c .before .before .before .before .before .before .before .before .before .before .before .before .before .args in
+    let n = the-args .variables in
+    let k = the-args .most in
     let most = c .before .before .before .before .before .before .before .before .before .before .if1 .left in
     let room = laws.room most (c .before .before .before .before .before .before .before .before .before .before .before .before .before .pre) in
     let none = c .before .before .before .before .before .before .none-set .ensures in
-    let v = c .before .before .before .before .solve .last .1 .1 .0 in
-    let long = c .before .before .before .before .solve .kept .1 .1 .0 in
+    let v = the-solve .last .1 .1 .0 in
+    let long = the-solve .kept .1 .1 .0 in
     laws.prefix-room n room none v long
 
 slice-aggregate-copy : tie.Need-slice-aggregate-copy
 slice-aggregate-copy c =
-    let n = c .before .before .before .before .before .before .before .before .before .before .before .before .before .before .args .variables in
-    let k = c .before .before .before .before .before .before .before .before .before .before .before .before .before .before .args .most in
+    let the-solve = c .before .before .before .before .before .solve in
+    let the-args = c .before .before .before .before .before .before .before .before .before .before .before .before .before .before .args in
+    let n = the-args .variables in
+    let k = the-args .most in
     let most = c .before .before .before .before .before .before .before .before .before .before .before .if1 .left in
     let room = laws.room most (c .before .before .before .before .before .before .before .before .before .before .before .before .before .before .pre) in
     let none = c .before .before .before .before .before .before .before .none-set .ensures in
-    let v = c .before .before .before .before .before .solve .last .1 .1 .0 in
-    let long = c .before .before .before .before .before .solve .kept .1 .1 .0 in
+    let v = the-solve .last .1 .1 .0 in
+    let long = the-solve .kept .1 .1 .0 in
     sym (laws.prefix-size n room none v long)
 
 copy-requires : tie.Need-copy-requires
 copy-requires c κs =
-    let n = c .before .before .before .before .before .before .before .before .before .before .before .before .before .before .before .args .variables in
-    let k = c .before .before .before .before .before .before .before .before .before .before .before .before .before .before .before .args .most in
+    let the-solve = c .before .before .before .before .before .before .solve in
+    let the-args = c .before .before .before .before .before .before .before .before .before .before .before .before .before .before .before .args in
+    let n = the-args .variables in
+    let k = the-args .most in
     let most = c .before .before .before .before .before .before .before .before .before .before .before .before .if1 .left in
     let room = laws.room most (c .before .before .before .before .before .before .before .before .before .before .before .before .before .before .before .pre) in
     let none = c .before .before .before .before .before .before .before .before .none-set .ensures in
-    let v = c .before .before .before .before .before .before .solve .last .1 .1 .0 in
-    let long = c .before .before .before .before .before .before .solve .kept .1 .1 .0 in
+    let v = the-solve .last .1 .1 .0 in
+    let long = the-solve .kept .1 .1 .0 in
     omega (arith, laws.prefix-size n room none v long, c .before .before .before .before .before .before .before .before .before .if3 .left)
 
 enum-told : tie.Need-enum-told
@@ -118,52 +128,59 @@ same-length c = search needs
 
 returns-4 : tie.Need-returns-4
 returns-4 c =
-    let l = c .before .before .before .before .before .before .before .before .before .before .before .before .before .before .before .before .before .before .args .list .now in
-    let n = c .before .before .before .before .before .before .before .before .before .before .before .before .before .before .before .before .before .before .args .variables in
-    let k = c .before .before .before .before .before .before .before .before .before .before .before .before .before .before .before .before .before .before .args .most in
-    let b = c .before .before .before .before .before .before .before .before .before .before .before .before .before .before .before .before .before .before .args .budget in
-    let a = c .before .before .before .before .before .before .before .before .before .before .before .before .before .before .before .before .before .before .args .answer .now in
+    let the-solve = c .before .before .before .before .before .before .before .before .before .solve in
+    let the-none-set = c .before .before .before .before .before .before .before .before .before .before .before .none-set in
+    let the-args = c .before .before .before .before .before .before .before .before .before .before .before .before .before .before .before .before .before .before .args in
+    let l = the-args .list .now in
+    let n = the-args .variables in
+    let k = the-args .most in
+    let b = the-args .budget in
+    let a = the-args .answer .now in
     let most = c .before .before .before .before .before .before .before .before .before .before .before .before .before .before .before .if1 .left in
     let room = laws.room most (c .before .before .before .before .before .before .before .before .before .before .before .before .before .before .before .before .before .before .pre) in
     let fits = answers.list-as k n l most true (sym (c .before .before .before .before .before .before .before .before .before .before .before .before .before .before .list-fits .ensures) ∙ not-false _ (c .before .before .before .before .before .before .before .before .before .before .before .before .before .if2 .left)) in
-    let none = c .before .before .before .before .before .before .before .before .before .before .before .none-set .ensures in
-    let v = c .before .before .before .before .before .before .before .before .before .solve .last .1 .1 .0 in
-    let long = c .before .before .before .before .before .before .before .before .before .solve .kept .1 .1 .0 in
+    let none = the-none-set .ensures in
+    let v = the-solve .last .1 .1 .0 in
+    let long = the-solve .kept .1 .1 .0 in
     let size = laws.prefix-length n room none in
-    let found = laws.is-found l n b (c .before .before .before .before .before .before .before .before .before .solve .result .ending) v (c .before .before .before .before .before .before .before .before .before .solve .result .ceiling) size (c .before .before .before .before .before .before .before .before .before .solve .ensures) (c .before .before .before .before .before .before .ending .given .1) in
-    let written = copied (take n (c .before .before .before .before .before .before .before .before .before .solve .last .1 .1 .0 ++ drop n (c .before .before .before .before .before .before .before .before .before .before .before .none-set .result))) a (c .before .before .copy .ensures .1) ∙ ap (λ (u : List ℕ). over u a) (laws.prefix-values n room none v long) in
+    let found = laws.is-found l n b (the-solve .result .ending) v (the-solve .result .ceiling) size (the-solve .ensures) (c .before .before .before .before .before .before .ending .given .1) in
+    let written = copied (take n (the-solve .last .1 .1 .0 ++ drop n (the-none-set .result))) a (c .before .before .copy .ensures .1) ∙ ap (λ (u : List ℕ). over u a) (laws.prefix-values n room none v long) in
     answers.promised k l n b a (answers.answer-found k l n b a fits (c .before .before .before .before .before .before .before .before .before .before .before .before .if3 .left) found written)
 
 returns-5 : tie.Need-returns-5
 returns-5 c =
-    let l = c .before .before .before .before .before .before .before .before .before .before .before .before .args .list .now in
-    let n = c .before .before .before .before .before .before .before .before .before .before .before .before .args .variables in
-    let k = c .before .before .before .before .before .before .before .before .before .before .before .before .args .most in
-    let b = c .before .before .before .before .before .before .before .before .before .before .before .before .args .budget in
-    let a = c .before .before .before .before .before .before .before .before .before .before .before .before .args .answer .now in
+    let the-solve = c .before .before .before .solve in
+    let the-args = c .before .before .before .before .before .before .before .before .before .before .before .before .args in
+    let l = the-args .list .now in
+    let n = the-args .variables in
+    let k = the-args .most in
+    let b = the-args .budget in
+    let a = the-args .answer .now in
     let most = c .before .before .before .before .before .before .before .before .before .if1 .left in
     let room = laws.room most (c .before .before .before .before .before .before .before .before .before .before .before .before .pre) in
     let fits = answers.list-as k n l most true (sym (c .before .before .before .before .before .before .before .before .list-fits .ensures) ∙ not-false _ (c .before .before .before .before .before .before .before .if2 .left)) in
     let none = c .before .before .before .before .before .none-set .ensures in
-    let v = c .before .before .before .solve .last .1 .1 .0 in
+    let v = the-solve .last .1 .1 .0 in
     let size = laws.prefix-length n room none in
-    let absent = laws.is-absent l n b (c .before .before .before .solve .result .ending) v (c .before .before .before .solve .result .ceiling) size (c .before .before .before .solve .ensures) (c .enum-told .given .1) in
+    let absent = laws.is-absent l n b (the-solve .result .ending) v (the-solve .result .ceiling) size (the-solve .ensures) (c .enum-told .given .1) in
     answers.promised k l n b a (answers.answer-absent k l n b a fits (c .before .before .before .before .before .before .if3 .left) absent)
 
 returns-6 : tie.Need-returns-6
 returns-6 c =
-    let l = c .before .before .before .before .before .before .before .before .before .before .before .before .args .list .now in
-    let n = c .before .before .before .before .before .before .before .before .before .before .before .before .args .variables in
-    let k = c .before .before .before .before .before .before .before .before .before .before .before .before .args .most in
-    let b = c .before .before .before .before .before .before .before .before .before .before .before .before .args .budget in
-    let a = c .before .before .before .before .before .before .before .before .before .before .before .before .args .answer .now in
+    let the-solve = c .before .before .before .solve in
+    let the-args = c .before .before .before .before .before .before .before .before .before .before .before .before .args in
+    let l = the-args .list .now in
+    let n = the-args .variables in
+    let k = the-args .most in
+    let b = the-args .budget in
+    let a = the-args .answer .now in
     let most = c .before .before .before .before .before .before .before .before .before .if1 .left in
     let room = laws.room most (c .before .before .before .before .before .before .before .before .before .before .before .before .pre) in
     let fits = answers.list-as k n l most true (sym (c .before .before .before .before .before .before .before .before .list-fits .ensures) ∙ not-false _ (c .before .before .before .before .before .before .before .if2 .left)) in
     let none = c .before .before .before .before .before .none-set .ensures in
-    let v = c .before .before .before .solve .last .1 .1 .0 in
+    let v = the-solve .last .1 .1 .0 in
     let size = laws.prefix-length n room none in
-    let spent = laws.is-spent l n b (c .before .before .before .solve .result .ending) v (c .before .before .before .solve .result .ceiling) size (c .before .before .before .solve .ensures) (c .enum-told2 .given .1) in
+    let spent = laws.is-spent l n b (the-solve .result .ending) v (the-solve .result .ceiling) size (the-solve .ensures) (c .enum-told2 .given .1) in
     answers.promised k l n b a (answers.answer-spent k l n b a fits (c .before .before .before .before .before .before .if3 .left) spent)
 
 pub search-at-spec : {M : Type 1} → statement M

@@ -25,8 +25,9 @@ same-length c = search needs
 
 returns-2 : tie.Need-returns-2
 returns-2 c =
+    let the-search-at = c .before .before .search-at in
     let fit = sym (c .before .before .before .before .before .before .limits-fit .ensures) ∙ not-false _ (c .before .before .before .before .before .if1 .left) in
-    answers.within _ _ _ _ _ fit (c .before .before .before .before .most-variables .ensures) (c .before .before .search-at .ensures .0) (c .before .before .search-at .ensures .1)
+    answers.within _ _ _ _ _ fit (c .before .before .before .before .most-variables .ensures) (the-search-at .ensures .0) (the-search-at .ensures .1)
 
 pub search-within-spec : {M : Type 1} → statement M
 search-within-spec = tie.close (tie.spec limits-fit-requires returns most-variables-requires search-at-requires same-length returns-2)

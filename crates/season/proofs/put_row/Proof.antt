@@ -45,16 +45,22 @@ numbers-less c = search needs
 
 numbers-again : tie.Need-numbers-again Inv-numbers μ-numbers
 numbers-again c =
-    let d = c .before .before .args .values .now in
-    let at = 8 * c .before .before .args .i in
-    let row = c .before .before .args .t3 in
-    let k = c .before .numbers .k in
-    let h : at + k < length d = omega (arith, c .before .before .pre .0, c .before .before .pre .1, c .numbers-test .taken) in
-    let l : k < length row = omega (arith, c .before .before .pre .2, c .numbers-test .taken) in
-    (search needs, ap (λ (v : List ℕ). set v (at + k) (getD row k 0)) (c .before .numbers .inv .1) ∙ paste-suc d at row k 0 h l ∙ ap (paste d at row) (sym (add-one k)))
+    let the-numbers = c .before .numbers in
+    let the-args = c .before .before .args in
+    let the-pre = c .before .before .pre in
+    let d = the-args .values .now in
+    let at = 8 * the-args .i in
+    let row = the-args .t3 in
+    let k = the-numbers .k in
+    let h : at + k < length d = omega (arith, the-pre .0, the-pre .1, c .numbers-test .taken) in
+    let l : k < length row = omega (arith, the-pre .2, c .numbers-test .taken) in
+    (search needs, ap (λ (v : List ℕ). set v (at + k) (getD row k 0)) (the-numbers .inv .1) ∙ paste-suc d at row k 0 h l ∙ ap (paste d at row) (sym (add-one k)))
 
 returns : tie.Need-returns Inv-numbers μ-numbers
-returns c = let e : c .before .numbers .k ≡ 8 = omega (arith, c .before .numbers .inv .0, c .numbers-test .left) in c .before .numbers .inv .1 ∙ ap (paste (c .before .before .args .values .now) (8 * c .before .before .args .i) (c .before .before .args .t3)) e
+returns c =
+    let the-numbers = c .before .numbers in
+    let the-args = c .before .before .args in
+    let e : the-numbers .k ≡ 8 = omega (arith, the-numbers .inv .0, c .numbers-test .left) in the-numbers .inv .1 ∙ ap (paste (the-args .values .now) (8 * the-args .i) (the-args .t3)) e
 
 pub put-row-spec : {M : Type 1} → statement M
 put-row-spec =

@@ -65,7 +65,10 @@ take-turn-requires : tie.Need-take-turn-requires Inv-tables μ-tables
 take-turn-requires c κs = search needs
 
 put-row-requires : tie.Need-put-row-requires Inv-tables μ-tables
-put-row-requires c κs = (omega (arith, (c .before .before .before .before .before .before .before .before .before .before .before .before .before .before .before .tables .inv) .few, (c .before .before .before .before .before .before .before .before .before .before .before .before .before .before .tables-test .taken)), (c .before .before .before .before .before .before .before .before .before .before .before .before .before .before .before .tables .inv) .values-long, turn-row-long _ _ _ _ _ _ _ (c .before .before .before .before .before .before .before .before .before .before .before .before .before .before .before .tables .inv) (c .before .before .before .before .before .before .before .before .before .before .before .before .before .before .tables-test .taken) (turn-of (c .before .before .before .before .before .before .before .before)))
+put-row-requires c κs =
+    let the-tables-test = c .before .before .before .before .before .before .before .before .before .before .before .before .before .before .tables-test in
+    let the-tables = c .before .before .before .before .before .before .before .before .before .before .before .before .before .before .before .tables in
+    (omega (arith, (the-tables .inv) .few, (the-tables-test .taken)), (the-tables .inv) .values-long, turn-row-long _ _ _ _ _ _ _ (the-tables .inv) (the-tables-test .taken) (turn-of (c .before .before .before .before .before .before .before .before)))
 
 add-saved : tie.Need-add-saved Inv-tables μ-tables
 add-saved c = let h = allowed-fits _ _ _ _ _ _ _ (c .before .before .before .before .before .before .before .before .before .before .before .before .before .before .before .before .tables .inv) (c .before .before .before .before .before .before .before .before .before .before .before .before .before .before .before .tables-test .taken) in search needs

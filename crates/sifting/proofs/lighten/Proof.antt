@@ -23,10 +23,14 @@ returns : tie.Need-returns Inv-places μ-places
 returns c = λ h. absurd (omega (arith, h))
 
 put-units-requires : tie.Need-put-units-requires Inv-places μ-places
-put-units-requires c κs = ((c .before .before .before .before .before .before .before .pre .most, omega (arith, c .before .if1 .left)), c .before .before .before .before .before .before .before .pre .set-in)
+put-units-requires c κs =
+    let the-pre = c .before .before .before .before .before .before .before .pre in
+    ((the-pre .most, omega (arith, c .before .if1 .left)), the-pre .set-in)
 
 places-holds : tie.Need-places-holds Inv-places μ-places
-places-holds c = (laws.lightening {m = length (c .before .before .before .before .before .before .before .before .before .before .args .out .now)} (omega (arith, c .before .before .put-units .ensures .0, c .before .before .before .before .if1 .left)) (search needs) (c .before .before .put-units .ensures .1), search needs)
+places-holds c =
+    let the-put-units = c .before .before .put-units in
+    (laws.lightening {m = length (c .before .before .before .before .before .before .before .before .before .before .args .out .now)} (omega (arith, the-put-units .ensures .0, c .before .before .before .before .if1 .left)) (search needs) (the-put-units .ensures .1), search needs)
 
 mul-wide : tie.Need-mul-wide Inv-places μ-places
 mul-wide c = search needs
@@ -68,18 +72,24 @@ part-holds-end : tie.Need-part-holds-end Inv-places μ-places
 part-holds-end c = let s = c .before .before .before .before .before .before .before .before .before .before .before .before .before .before .before .before .pre .places _ (getD-mem (c .before .before .before .before .before .before .before .before .before .before .before .before .before .before .before .before .args .places .now) _ 0 (c .before .before .before .before .places-test .taken)) in laws.lent-ends (c .before .before .wide .ensures) s (c .wide2 .ensures)
 
 holds-requires : tie.Need-holds-requires Inv-places μ-places
-holds-requires c κs = let s = c .before .before .before .before .before .before .before .before .before .before .before .before .before .before .before .before .before .pre .places _ (getD-mem (c .before .before .before .before .before .before .before .before .before .before .before .before .before .before .before .before .before .args .places .now) _ 0 (c .before .before .before .before .before .places-test .taken)) in laws.lent-formed (c .before .before .before .wide .ensures) s (c .before .wide2 .ensures) (c .before .before .before .before .before .before .before .before .before .before .before .before .before .before .before .before .before .pre .formed)
+holds-requires c κs =
+    let the-pre = c .before .before .before .before .before .before .before .before .before .before .before .before .before .before .before .before .before .pre in
+    let s = the-pre .places _ (getD-mem (c .before .before .before .before .before .before .before .before .before .before .before .before .before .before .before .before .before .args .places .now) _ 0 (c .before .before .before .before .before .places-test .taken)) in laws.lent-formed (c .before .before .before .wide .ensures) s (c .before .wide2 .ensures) (the-pre .formed)
 
 places-less : tie.Need-places-less Inv-places μ-places
 places-less c = search needs
 
 places-again : tie.Need-places-again Inv-places μ-places
 places-again c =
-    let s = c .before .before .before .before .before .before .before .before .before .before .before .before .before .before .before .before .before .before .before .pre .places _ (getD-mem (c .before .before .before .before .before .before .before .before .before .before .before .before .before .before .before .before .before .before .before .args .places .now) _ 0 (c .before .before .before .before .before .before .before .places-test .taken)) in
-    (laws.lighten-holding (c .before .before .before .before .before .before .before .before .places .inv .0) (c .before .before .before .before .before .before .before .places-test .taken) (laws.lent-held (c .before .before .before .before .before .wide .ensures) s (c .before .before .before .wide2 .ensures) _ (sym (c .if2 .taken) ∙ c .before .holds .ensures)), c .before .before .before .before .before .before .before .before .places .inv .1)
+    let the-places-test = c .before .before .before .before .before .before .before .places-test in
+    let the-places = c .before .before .before .before .before .before .before .before .places in
+    let s = c .before .before .before .before .before .before .before .before .before .before .before .before .before .before .before .before .before .before .before .pre .places _ (getD-mem (c .before .before .before .before .before .before .before .before .before .before .before .before .before .before .before .before .before .before .before .args .places .now) _ 0 (the-places-test .taken)) in
+    (laws.lighten-holding (the-places .inv .0) (the-places-test .taken) (laws.lent-held (c .before .before .before .before .before .wide .ensures) s (c .before .before .before .wide2 .ensures) _ (sym (c .if2 .taken) ∙ c .before .holds .ensures)), the-places .inv .1)
 
 sub-if3 : tie.Need-sub-if3 Inv-places μ-places
-sub-if3 c = omega (arith, c .before .before .before .before .before .before .before .before .places .inv .0 .room, c .before .before .before .before .before .before .before .before .places .inv .1)
+sub-if3 c =
+    let the-places = c .before .before .before .before .before .before .before .before .places in
+    omega (arith, the-places .inv .0 .room, the-places .inv .1)
 
 sub-if3-2 : tie.Need-sub-if3-2 Inv-places μ-places
 sub-if3-2 c = search needs
@@ -112,10 +122,14 @@ places-less-2 c = search needs
 
 places-again-2 : tie.Need-places-again-2 Inv-places μ-places
 places-again-2 c =
-    let s = c .before .before .before .before .before .before .before .before .before .before .before .before .before .before .before .before .before .before .before .before .before .before .before .before .before .pre .places _ (getD-mem (c .before .before .before .before .before .before .before .before .before .before .before .before .before .before .before .before .before .before .before .before .before .before .before .before .before .args .places .now) _ 0 (c .before .before .before .before .before .before .before .before .before .before .before .before .before .places-test .taken)) in
+    let the-wide2 = c .before .before .before .before .before .before .before .before .before .wide2 in
+    let the-wide = c .before .before .before .before .before .before .before .before .before .before .before .wide in
+    let the-places-test = c .before .before .before .before .before .before .before .before .before .before .before .before .before .places-test in
+    let the-places = c .before .before .before .before .before .before .before .before .before .before .before .before .before .before .places in
+    let s = c .before .before .before .before .before .before .before .before .before .before .before .before .before .before .before .before .before .before .before .before .before .before .before .before .before .pre .places _ (getD-mem (c .before .before .before .before .before .before .before .before .before .before .before .before .before .before .before .before .before .before .before .before .before .before .before .before .before .args .places .now) _ 0 (the-places-test .taken)) in
     let put = c .before .before .put-words .ensures in
-    let open-still = laws.lent-held (c .before .before .before .before .before .before .before .before .before .before .before .wide .ensures) s (c .before .before .before .before .before .before .before .before .before .wide2 .ensures) _ (sym (c .before .before .before .before .before .before .if2 .left) ∙ c .before .before .before .before .before .before .before .holds .ensures) in
-    (laws.lighten-put (c .before .before .before .before .before .before .before .before .before .before .before .before .before .before .places .inv .0) (c .before .before .before .before .before .before .before .before .before .before .before .before .before .places-test .taken) open-still (omega (arith, put .0, laws.lent-size (c .before .before .before .before .before .before .before .before .before .before .before .wide .ensures) s (c .before .before .before .before .before .before .before .before .before .wide2 .ensures), c .before .before .before .before .before .if3 .left, c .before .before .before .before .before .before .before .before .before .before .before .before .before .before .places .inv .0 .room)) (put .1) (laws.lent-words (c .before .before .before .before .before .before .before .before .before .before .before .wide .ensures) s (c .before .before .before .before .before .before .before .before .before .wide2 .ensures)), search needs)
+    let open-still = laws.lent-held (the-wide .ensures) s (the-wide2 .ensures) _ (sym (c .before .before .before .before .before .before .if2 .left) ∙ c .before .before .before .before .before .before .before .holds .ensures) in
+    (laws.lighten-put (the-places .inv .0) (the-places-test .taken) open-still (omega (arith, put .0, laws.lent-size (the-wide .ensures) s (the-wide2 .ensures), c .before .before .before .before .before .if3 .left, the-places .inv .0 .room)) (put .1) (laws.lent-words (the-wide .ensures) s (the-wide2 .ensures)), search needs)
 
 same-length-2 : tie.Need-same-length-2 Inv-places μ-places
 same-length-2 c = c .before .places .inv .1 ∙ search needs

@@ -25,7 +25,9 @@ shared-slice-read-right-literal : tie.Need-shared-slice-read-right-literal Inv-v
 shared-slice-read-right-literal c = search needs
 
 right-literal-requires : tie.Need-right-literal-requires Inv-variables μ-variables
-right-literal-requires c κs = (c .before .before .before .before .before .before .pre .0 .0, c .before .before .before .before .before .before .pre .1 _ (getD-mem _ _ _ (c .before .variables-test .taken)))
+right-literal-requires c κs =
+    let the-pre = c .before .before .before .before .before .before .pre in
+    (the-pre .0 .0, the-pre .1 _ (getD-mem _ _ _ (c .before .variables-test .taken)))
 
 add-i : tie.Need-add-i Inv-variables μ-variables
 add-i c = search needs
@@ -34,7 +36,9 @@ slice-aggregate-put-words : tie.Need-slice-aggregate-put-words Inv-variables μ-
 slice-aggregate-put-words c = search needs
 
 put-words-requires : tie.Need-put-words-requires Inv-variables μ-variables
-put-words-requires c κs = omega (arith, c .before .before .before .before .before .before .before .before .before .pre .0 .1, c .before .before .before .before .before .variables .inv .0 .place, c .before .before .before .before .before .variables .inv .1, c .before .before .before .before .variables-test .taken)
+put-words-requires c κs =
+    let the-variables = c .before .before .before .before .before .variables in
+    omega (arith, c .before .before .before .before .before .before .before .before .before .pre .0 .1, the-variables .inv .0 .place, the-variables .inv .1, c .before .before .before .before .variables-test .taken)
 
 variables-less : tie.Need-variables-less Inv-variables μ-variables
 variables-less c = search needs

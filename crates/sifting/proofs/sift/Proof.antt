@@ -21,7 +21,9 @@ abbrev μ-clauses : tie.MeasureT-clauses
 μ-clauses list n table values₀ trail₀ joined₀ apart₀ places₀ count₀ kept₀ at₀ values trail joined apart places count kept at = length list - at
 
 clauses-holds : tie.Need-clauses-holds Inv-clauses μ-clauses
-clauses-holds c = (laws.sifting (c .before .before .before .before .before .pre .1 .0) _ (c .before .before .before .before .before .pre .0 .0), c .before .before .before .before .before .pre .1 .1 .1, refl)
+clauses-holds c =
+    let the-pre = c .before .before .before .before .before .pre in
+    (laws.sifting (the-pre .1 .0) _ (the-pre .0 .0), the-pre .1 .1 .1, refl)
 
 add-first : tie.Need-add-first Inv-clauses μ-clauses
 add-first c = search needs
@@ -63,8 +65,10 @@ clauses-less c = omega (arith, c .before .before .before .before .before .before
 
 clauses-again : tie.Need-clauses-again Inv-clauses μ-clauses
 clauses-again c =
-    let held = lent-told (c .before .before .before .before .before .before .before .before .before .before .before .before .before .before .args .list .now) (c .before .before .before .before .before .before .before .before .clauses .at) (c .before .before .before .before .before .wide .ensures) _ (c .before .before .ask .ensures .1) (c .enum-told .given .1) .1 in
-    (rw (c .before .before .before .before .before .wide .ensures) (laws.sift-holding (c .before .before .before .before .before .before .before .before .before .before .before .before .before .before .pre .1 .0) (c .before .before .before .before .before .before .before .before .clauses .inv .0) (c .before .before .before .before .before .before .before .clauses-test .taken) held), c .before .before .before .before .before .before .before .before .clauses .inv .1, c .before .before .before .before .before .before .before .before .clauses .inv .2)
+    let the-wide = c .before .before .before .before .before .wide in
+    let the-clauses = c .before .before .before .before .before .before .before .before .clauses in
+    let held = lent-told (c .before .before .before .before .before .before .before .before .before .before .before .before .before .before .args .list .now) (the-clauses .at) (the-wide .ensures) _ (c .before .before .ask .ensures .1) (c .enum-told .given .1) .1 in
+    (rw (the-wide .ensures) (laws.sift-holding (c .before .before .before .before .before .before .before .before .before .before .before .before .before .before .pre .1 .0) (the-clauses .inv .0) (c .before .before .before .before .before .before .before .clauses-test .taken) held), the-clauses .inv .1, the-clauses .inv .2)
 
 enum-told-2 : tie.Need-enum-told-2 Inv-clauses μ-clauses
 enum-told-2 c = search needs
@@ -80,35 +84,58 @@ same-length-3 c = c .before .before .before .before .before .before .before .bef
 
 returns : tie.Need-returns Inv-clauses μ-clauses
 returns c =
+    let the-clauses = c .before .before .before .before .before .before .before .before .clauses in
     let said = lent-seen _ _ (c .before .before .before .before .before .wide .ensures) _ (c .before .before .ask .ensures .0) (c .enum-told2 .given .1) in
-    (laws.sift-broken (c .before .before .before .before .before .before .before .before .before .before .before .before .before .before .pre .1 .0) (c .before .before .before .before .before .before .before .before .clauses .inv .0) (c .before .before .before .before .before .before .before .clauses-test .taken) said, c .before .before .before .before .before .before .before .before .clauses .inv .1)
+    (laws.sift-broken (c .before .before .before .before .before .before .before .before .before .before .before .before .before .before .pre .1 .0) (the-clauses .inv .0) (c .before .before .before .before .before .before .before .clauses-test .taken) said, the-clauses .inv .1)
 
 enum-known-said : tie.Need-enum-known-said Inv-clauses μ-clauses
 enum-known-said c = search needs
 
 add-force : tie.Need-add-force Inv-clauses μ-clauses
-add-force c = omega (arith, literal-place (c .before .before .before .before .before .before .before .before .before .before .before .before .before .before .before .args .list .now) (c .before .before .before .before .before .before .before .before .before .clauses .at) (end-inside (c .before .before .before .before .before .before .before .before .before .clauses .inv .0 .before) (c .before .before .before .before .before .before .before .before .clauses-test .taken)) (lent-told (c .before .before .before .before .before .before .before .before .before .before .before .before .before .before .before .args .list .now) (c .before .before .before .before .before .before .before .before .before .clauses .at) (c .before .before .before .before .before .before .wide .ensures) (c .before .before .before .before .before .before .before .before .before .clauses .values) (c .before .before .before .ask .ensures .1) (c .before .said .given .1)), c .before .before .before .before .before .before .before .before .before .before .before .before .before .before .before .good .0)
+add-force c =
+    let the-clauses = c .before .before .before .before .before .before .before .before .before .clauses in
+    let the-args = c .before .before .before .before .before .before .before .before .before .before .before .before .before .before .before .args in
+    omega (arith, literal-place (the-args .list .now) (the-clauses .at) (end-inside (the-clauses .inv .0 .before) (c .before .before .before .before .before .before .before .before .clauses-test .taken)) (lent-told (the-args .list .now) (the-clauses .at) (c .before .before .before .before .before .before .wide .ensures) (the-clauses .values) (c .before .before .before .ask .ensures .1) (c .before .said .given .1)), c .before .before .before .before .before .before .before .before .before .before .before .before .before .before .before .good .0)
 
 mul-force : tie.Need-mul-force Inv-clauses μ-clauses
-mul-force c = omega (arith, literal-place (c .before .before .before .before .before .before .before .before .before .before .before .before .before .before .before .args .list .now) (c .before .before .before .before .before .before .before .before .before .clauses .at) (end-inside (c .before .before .before .before .before .before .before .before .before .clauses .inv .0 .before) (c .before .before .before .before .before .before .before .before .clauses-test .taken)) (lent-told (c .before .before .before .before .before .before .before .before .before .before .before .before .before .before .before .args .list .now) (c .before .before .before .before .before .before .before .before .before .clauses .at) (c .before .before .before .before .before .before .wide .ensures) (c .before .before .before .before .before .before .before .before .before .clauses .values) (c .before .before .before .ask .ensures .1) (c .before .said .given .1)), c .before .before .before .before .before .before .before .before .before .before .before .before .before .before .before .good .0, c .before .before .before .before .before .before .before .before .before .before .before .before .before .before .before .pre .0 .1)
+mul-force c =
+    let the-clauses = c .before .before .before .before .before .before .before .before .before .clauses in
+    let the-args = c .before .before .before .before .before .before .before .before .before .before .before .before .before .before .before .args in
+    omega (arith, literal-place (the-args .list .now) (the-clauses .at) (end-inside (the-clauses .inv .0 .before) (c .before .before .before .before .before .before .before .before .clauses-test .taken)) (lent-told (the-args .list .now) (the-clauses .at) (c .before .before .before .before .before .before .wide .ensures) (the-clauses .values) (c .before .before .before .ask .ensures .1) (c .before .said .given .1)), c .before .before .before .before .before .before .before .before .before .before .before .before .before .before .before .good .0, c .before .before .before .before .before .before .before .before .before .before .before .before .before .before .before .pre .0 .1)
 
 shared-slice-read-force : tie.Need-shared-slice-read-force Inv-clauses μ-clauses
-shared-slice-read-force c = literal-place (c .before .before .before .before .before .before .before .before .before .before .before .before .before .before .before .before .args .list .now) (c .before .before .before .before .before .before .before .before .before .before .clauses .at) (end-inside (c .before .before .before .before .before .before .before .before .before .before .clauses .inv .0 .before) (c .before .before .before .before .before .before .before .before .before .clauses-test .taken)) (lent-told (c .before .before .before .before .before .before .before .before .before .before .before .before .before .before .before .before .args .list .now) (c .before .before .before .before .before .before .before .before .before .before .clauses .at) (c .before .before .before .before .before .before .before .wide .ensures) (c .before .before .before .before .before .before .before .before .before .before .clauses .values) (c .before .before .before .before .ask .ensures .1) (c .before .before .said .given .1))
+shared-slice-read-force c =
+    let the-clauses = c .before .before .before .before .before .before .before .before .before .before .clauses in
+    let the-args = c .before .before .before .before .before .before .before .before .before .before .before .before .before .before .before .before .args in
+    literal-place (the-args .list .now) (the-clauses .at) (end-inside (the-clauses .inv .0 .before) (c .before .before .before .before .before .before .before .before .before .clauses-test .taken)) (lent-told (the-args .list .now) (the-clauses .at) (c .before .before .before .before .before .before .before .wide .ensures) (the-clauses .values) (c .before .before .before .before .ask .ensures .1) (c .before .before .said .given .1))
 
 force-requires : tie.Need-force-requires Inv-clauses μ-clauses
 force-requires c κs =
-    let i = c .before .before .before .before .before .before .before .before .before .before .before .before .before .before .clauses .inv .0 in
-    let said = literal-forced (c .before .before .before .before .before .before .before .before .before .before .before .before .before .before .before .before .before .before .before .before .args .list .now) (c .before .before .before .before .before .before .before .before .before .before .before .before .before .before .clauses .at) (end-inside (c .before .before .before .before .before .before .before .before .before .before .before .before .before .before .clauses .inv .0 .before) (c .before .before .before .before .before .before .before .before .before .before .before .before .before .clauses-test .taken)) (lent-told (c .before .before .before .before .before .before .before .before .before .before .before .before .before .before .before .before .before .before .before .before .args .list .now) (c .before .before .before .before .before .before .before .before .before .before .before .before .before .before .clauses .at) (c .before .before .before .before .before .before .before .before .before .before .before .wide .ensures) (c .before .before .before .before .before .before .before .before .before .before .before .before .before .before .clauses .values) (c .before .before .before .before .before .before .before .before .ask .ensures .1) (c .before .before .before .before .before .before .said .given .1)) _ (lent-seen _ _ (c .before .before .before .before .before .before .before .before .before .before .before .wide .ensures) _ (c .before .before .before .before .before .before .before .before .ask .ensures .0) (c .before .before .before .before .before .before .said .given .1)) in
-    (c .before .before .before .before .before .before .before .before .before .before .before .before .before .before .before .before .before .before .before .before .pre .1 .1 .0, can-force (c .before .before .before .before .before .before .before .before .before .before .before .before .before .before .before .before .before .before .before .before .pre .1 .0) (i .worked) (clause-in (i .before) (c .before .before .before .before .before .before .before .before .before .before .before .before .before .clauses-test .taken)) said (c .before .before .before .before .before .before .before .before .before .before .before .before .before .before .clauses .inv .1))
+    let the-said = c .before .before .before .before .before .before .said in
+    let the-ask = c .before .before .before .before .before .before .before .before .ask in
+    let the-wide = c .before .before .before .before .before .before .before .before .before .before .before .wide in
+    let the-clauses-test = c .before .before .before .before .before .before .before .before .before .before .before .before .before .clauses-test in
+    let the-clauses = c .before .before .before .before .before .before .before .before .before .before .before .before .before .before .clauses in
+    let the-args = c .before .before .before .before .before .before .before .before .before .before .before .before .before .before .before .before .before .before .before .before .args in
+    let the-pre = c .before .before .before .before .before .before .before .before .before .before .before .before .before .before .before .before .before .before .before .before .pre in
+    let i = the-clauses .inv .0 in
+    let said = literal-forced (the-args .list .now) (the-clauses .at) (end-inside (the-clauses .inv .0 .before) (the-clauses-test .taken)) (lent-told (the-args .list .now) (the-clauses .at) (the-wide .ensures) (the-clauses .values) (the-ask .ensures .1) (the-said .given .1)) _ (lent-seen _ _ (the-wide .ensures) _ (the-ask .ensures .0) (the-said .given .1)) in
+    (the-pre .1 .1 .0, can-force (the-pre .1 .0) (i .worked) (clause-in (i .before) (the-clauses-test .taken)) said (the-clauses .inv .1))
 
 clauses-less-2 : tie.Need-clauses-less-2 Inv-clauses μ-clauses
 clauses-less-2 c = omega (arith, c .before .before .before .before .before .before .before .before .before .before .before .before .before .before .before .before .before .before .clauses-test .taken)
 
 clauses-again-2 : tie.Need-clauses-again-2 Inv-clauses μ-clauses
 clauses-again-2 c =
-    let said = literal-forced (c .before .before .before .before .before .before .before .before .before .before .before .before .before .before .before .before .before .before .before .before .before .before .before .before .before .args .list .now) (c .before .before .before .before .before .before .before .before .before .before .before .before .before .before .before .before .before .before .before .clauses .at) (end-inside (c .before .before .before .before .before .before .before .before .before .before .before .before .before .before .before .before .before .before .before .clauses .inv .0 .before) (c .before .before .before .before .before .before .before .before .before .before .before .before .before .before .before .before .before .before .clauses-test .taken)) (lent-told (c .before .before .before .before .before .before .before .before .before .before .before .before .before .before .before .before .before .before .before .before .before .before .before .before .before .args .list .now) (c .before .before .before .before .before .before .before .before .before .before .before .before .before .before .before .before .before .before .before .clauses .at) (c .before .before .before .before .before .before .before .before .before .before .before .before .before .before .before .before .wide .ensures) (c .before .before .before .before .before .before .before .before .before .before .before .before .before .before .before .before .before .before .before .clauses .values) (c .before .before .before .before .before .before .before .before .before .before .before .before .before .ask .ensures .1) (c .before .before .before .before .before .before .before .before .before .before .before .said .given .1)) _ (lent-seen _ _ (c .before .before .before .before .before .before .before .before .before .before .before .before .before .before .before .before .wide .ensures) _ (c .before .before .before .before .before .before .before .before .before .before .before .before .before .ask .ensures .0) (c .before .before .before .before .before .before .before .before .before .before .before .said .given .1)) in
+    let the-said = c .before .before .before .before .before .before .before .before .before .before .before .said in
+    let the-ask = c .before .before .before .before .before .before .before .before .before .before .before .before .before .ask in
+    let the-wide = c .before .before .before .before .before .before .before .before .before .before .before .before .before .before .before .before .wide in
+    let the-clauses-test = c .before .before .before .before .before .before .before .before .before .before .before .before .before .before .before .before .before .before .clauses-test in
+    let the-clauses = c .before .before .before .before .before .before .before .before .before .before .before .before .before .before .before .before .before .before .before .clauses in
+    let the-args = c .before .before .before .before .before .before .before .before .before .before .before .before .before .before .before .before .before .before .before .before .before .before .before .before .before .args in
+    let said = literal-forced (the-args .list .now) (the-clauses .at) (end-inside (the-clauses .inv .0 .before) (the-clauses-test .taken)) (lent-told (the-args .list .now) (the-clauses .at) (the-wide .ensures) (the-clauses .values) (the-ask .ensures .1) (the-said .given .1)) _ (lent-seen _ _ (the-wide .ensures) _ (the-ask .ensures .0) (the-said .given .1)) in
     let f = c .before .before .before .before .force .ensures in
-    (rw (c .before .before .before .before .before .before .before .before .before .before .before .before .before .before .before .before .wide .ensures) (laws.sift-forced (c .before .before .before .before .before .before .before .before .before .before .before .before .before .before .before .before .before .before .before .before .before .before .before .before .before .pre .1 .0) (c .before .before .before .before .before .before .before .before .before .before .before .before .before .before .before .before .before .before .before .clauses .inv .0) (c .before .before .before .before .before .before .before .before .before .before .before .before .before .before .before .before .before .before .clauses-test .taken) said f), f .assigned .rows, c .before .before .before .before .before .before .before .before .before .before .before .before .before .before .before .before .before .before .before .clauses .inv .2)
+    (rw (the-wide .ensures) (laws.sift-forced (c .before .before .before .before .before .before .before .before .before .before .before .before .before .before .before .before .before .before .before .before .before .before .before .before .before .pre .1 .0) (the-clauses .inv .0) (the-clauses-test .taken) said f), f .assigned .rows, the-clauses .inv .2)
 
 enum-told-3 : tie.Need-enum-told-3 Inv-clauses μ-clauses
 enum-told-3 c = search needs
@@ -130,11 +157,14 @@ clauses-less-3 c = omega (arith, c .before .before .before .before .before .befo
 
 clauses-again-3 : tie.Need-clauses-again-3 Inv-clauses μ-clauses
 clauses-again-3 c =
+    let the-wide = c .before .before .before .before .before .before .wide in
+    let the-clauses-test = c .before .before .before .before .before .before .before .before .clauses-test in
+    let the-pre = c .before .before .before .before .before .before .before .before .before .before .before .before .before .before .before .pre in
     let i = c .before .before .before .before .before .before .before .before .before .clauses .inv in
     laws.by-way
     (c .if1 .came)
-    (λ a. let p = laws.sift-put (c .before .before .before .before .before .before .before .before .before .before .before .before .before .before .before .pre .1 .0) (i .0) (c .before .before .before .before .before .before .before .before .clauses-test .taken) (a .1) in (rw (c .before .before .before .before .before .before .wide .ensures) (p .0), i .1, p .1 ∙ i .2))
-    (λ a. (rw (c .before .before .before .before .before .before .wide .ensures) (laws.sift-kept (c .before .before .before .before .before .before .before .before .before .before .before .before .before .before .before .pre .1 .0) (i .0) (c .before .before .before .before .before .before .before .before .clauses-test .taken) (ap length (a .1)) (λ h. absurd (omega (arith, a .0 .left, h)))), i .1, ap length (a .1) ∙ i .2))
+    (λ a. let p = laws.sift-put (the-pre .1 .0) (i .0) (the-clauses-test .taken) (a .1) in (rw (the-wide .ensures) (p .0), i .1, p .1 ∙ i .2))
+    (λ a. (rw (the-wide .ensures) (laws.sift-kept (the-pre .1 .0) (i .0) (the-clauses-test .taken) (ap length (a .1)) (λ h. absurd (omega (arith, a .0 .left, h)))), i .1, ap length (a .1) ∙ i .2))
 
 same-length-4 : tie.Need-same-length-4 Inv-clauses μ-clauses
 same-length-4 c = worked-length (c .before .before .before .before .before .before .before .pre .1 .0) (c .before .clauses .inv .0 .worked)
@@ -146,7 +176,9 @@ same-length-6 : tie.Need-same-length-6 Inv-clauses μ-clauses
 same-length-6 c = c .before .clauses .inv .2
 
 returns-2 : tie.Need-returns-2 Inv-clauses μ-clauses
-returns-2 c = (laws.sift-end (c .before .before .before .before .before .before .before .pre .1 .0) (c .before .clauses .inv .0) (c .clauses-test .left), c .before .clauses .inv .1)
+returns-2 c =
+    let the-clauses = c .before .clauses in
+    (laws.sift-end (c .before .before .before .before .before .before .before .pre .1 .0) (the-clauses .inv .0) (c .clauses-test .left), the-clauses .inv .1)
 
 pub sift-spec : {M : Type 1} → statement M
 sift-spec = tie.close (tie.spec Inv-clauses μ-clauses clauses-holds add-first mul-wide shared-slice-read-wide wide-requires add-at mul-ask sub-ask part-ask-start part-ask-end ask-requires enum-told clauses-less clauses-again enum-told-2 same-length same-length-2 same-length-3 returns enum-known-said add-force mul-force shared-slice-read-force force-requires clauses-less-2 clauses-again-2 enum-told-3 cast-places mul-places slice-write-places add-kept clauses-less-3 clauses-again-3 same-length-4 same-length-5 same-length-6 returns-2)

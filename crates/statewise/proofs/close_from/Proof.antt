@@ -18,7 +18,9 @@ add-q : tie.Need-add-q Inv-states μ-states
 add-q c = search needs
 
 states-holds : tie.Need-states-holds Inv-states μ-states
-states-holds c = over-past _ _ _ _ (c .before .pre .0) (c .before .pre .1)
+states-holds c =
+    let the-pre = c .before .pre in
+    over-past _ _ _ _ (the-pre .0) (the-pre .1)
 
 close-over-requires : tie.Need-close-over-requires Inv-states μ-states
 close-over-requires c κs = (c .before .states-test .taken, c .before .before .states .inv .coming .ordered)

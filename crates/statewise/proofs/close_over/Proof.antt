@@ -18,7 +18,9 @@ add-s : tie.Need-add-s Inv-states μ-states
 add-s c = search needs
 
 states-holds : tie.Need-states-holds Inv-states μ-states
-states-holds c = over-past _ _ _ _ (c .before .pre .0) (c .before .pre .1)
+states-holds c =
+    let the-pre = c .before .pre in
+    over-past _ _ _ _ (the-pre .0) (the-pre .1)
 
 close-requires : tie.Need-close-requires Inv-states μ-states
 close-requires c κs = c .before .before .states .inv .coming .ordered

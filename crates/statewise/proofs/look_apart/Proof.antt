@@ -30,10 +30,14 @@ no-literals-requires : tie.Need-no-literals-requires
 no-literals-requires c κs = search needs
 
 mul-with-literal : tie.Need-mul-with-literal
-mul-with-literal c = omega (arith, c .before .before .before .before .before .before .before .before .before .before .pre .2, most-pairs (length (c .before .before .before .before .before .before .before .before .before .before .args .states .now)) (c .before .before .before .before .before .before .before .before .before .before .pre .0))
+mul-with-literal c =
+    let the-pre = c .before .before .before .before .before .before .before .before .before .before .pre in
+    omega (arith, the-pre .2, most-pairs (length (c .before .before .before .before .before .before .before .before .before .before .args .states .now)) (the-pre .0))
 
 add-with-literal : tie.Need-add-with-literal
-add-with-literal c = omega (arith, c .before .before .before .before .before .before .before .before .before .before .pre .2, most-pairs (length (c .before .before .before .before .before .before .before .before .before .before .args .states .now)) (c .before .before .before .before .before .before .before .before .before .before .pre .0))
+add-with-literal c =
+    let the-pre = c .before .before .before .before .before .before .before .before .before .before .pre in
+    omega (arith, the-pre .2, most-pairs (length (c .before .before .before .before .before .before .before .before .before .before .args .states .now)) (the-pre .0))
 
 with-literal-requires : tie.Need-with-literal-requires
 with-literal-requires c κs = search needs

@@ -2,17 +2,18 @@
 use Prim.Native.Nat.{_-_}
 use native.Mathlib.Omega.{arith}
 use borrow.Author.Needs.{needs}
+use Rattle.format.specs.File.{ofStates}
 use Rattle.lists.specs.Lists.{gather, upto}
 use Rattle.pairs.specs.Pairs.{pairOf}
 use Rattle.emit.specs.Emit.{state}
-use Rattle.statewise.specs.Alone.{statesOnly, lookClause}
+use Rattle.statewise.specs.Alone.{lookClause}
 use Rattle.emit.proofs.Stepping.{Over, over-all, over-on, over-done}
 use Rattle.statewise.proofs.Pairwise.{looked}
 use Rattle.statewise.proofs.looks_apart.Statement.{statement}
 use Rattle.statewise.proofs.looks_apart.Tie as tie
 
 abbrev Inv-variables : tie.InvT-variables
-Inv-variables states list₀ table end at₀ v₀ list at v = Over (λ v. lookClause (statesOnly states) (pairOf v .low) (pairOf v .high)) end (gather (λ v. lookClause (statesOnly states) (pairOf v .low) (pairOf v .high)) (upto end)) (state at₀ list₀) v (state at list)
+Inv-variables states list₀ table end at₀ v₀ list at v = Over (λ v. lookClause (ofStates states) (pairOf v .low) (pairOf v .high)) end (gather (λ v. lookClause (ofStates states) (pairOf v .low) (pairOf v .high)) (upto end)) (state at₀ list₀) v (state at list)
 
 abbrev μ-variables : tie.MeasureT-variables
 μ-variables states list₀ table end at₀ v₀ list at v = end - v

@@ -17,7 +17,9 @@ returns : tie.Need-returns Inv-records μ-records
 returns c = too-few _ _ (c .if1 .taken)
 
 number-at-requires : tie.Need-number-at-requires Inv-records μ-records
-number-at-requires c κs = (c .before .before .pre .0, c .before .before .pre .1, omega (arith, c .if1 .left))
+number-at-requires c κs =
+    let the-pre = c .before .before .pre in
+    (the-pre .0, the-pre .1, omega (arith, c .if1 .left))
 
 records-holds : tie.Need-records-holds Inv-records μ-records
 records-holds c = rising _ _ (c .before .if1 .left) (c .number-at .ensures)
@@ -26,7 +28,9 @@ sub-records : tie.Need-sub-records Inv-records μ-records
 sub-records c = search needs
 
 number-at-requires-2 : tie.Need-number-at-requires-2 Inv-records μ-records
-number-at-requires-2 c κs = (c .before .before .before .before .before .pre .0, c .before .before .before .before .before .pre .1, omega (arith, c .before .records .inv, c .records-test .taken))
+number-at-requires-2 c κs =
+    let the-pre = c .before .before .before .before .before .pre in
+    (the-pre .0, the-pre .1, omega (arith, c .before .records .inv, c .records-test .taken))
 
 returns-2 : tie.Need-returns-2 Inv-records μ-records
 returns-2 c = falls (c .before .before .before .before .before .before .before .pre .0) (c .before .before .before .records .inv) (λ i. c .before .before .before .before .before .before .shared-slice-known .given i .fits) (c .before .before .records-test .taken) (c .before .number-at2 .ensures) (c .if2 .taken)

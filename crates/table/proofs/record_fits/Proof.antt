@@ -30,7 +30,9 @@ shared-slice-read-if4 : tie.Need-shared-slice-read-if4
 shared-slice-read-if4 c = search needs
 
 returns-4 : tie.Need-returns-4
-returns-4 c = fits.other-kind _ _ _ _ (c .before .before .before .before .before .before .before .before .if1 .left) (rw (c .before .before .before .before .before .before .wide .ensures) at (c .before .before .before .before .before .if2 .left)) (rw (c .before .before .before .wide2 .ensures) at (c .before .before .if3 .left)) (rw (c .before .before .before .wide2 .ensures) at (c .if4 .taken))
+returns-4 c =
+    let the-wide2 = c .before .before .before .wide2 in
+    fits.other-kind _ _ _ _ (c .before .before .before .before .before .before .before .before .if1 .left) (rw (c .before .before .before .before .before .before .wide .ensures) at (c .before .before .before .before .before .if2 .left)) (rw (the-wide2 .ensures) at (c .before .before .if3 .left)) (rw (the-wide2 .ensures) at (c .if4 .taken))
 
 sub-all-below : tie.Need-sub-all-below
 sub-all-below c = search needs
@@ -45,7 +47,9 @@ all-below-requires : tie.Need-all-below-requires
 all-below-requires c κs = search needs
 
 returns-5 : tie.Need-returns-5
-returns-5 c = (c .all-below .ensures) ∙ fits.by-others _ _ _ _ (c .before .before .before .before .before .before .before .before .before .before .if1 .left) (rw (c .before .before .before .before .before .before .before .before .wide .ensures) at (c .before .before .before .before .before .before .before .if2 .left)) (rw (c .before .before .before .before .before .wide2 .ensures) at (c .before .before .before .before .if3 .left)) (rw (c .before .before .before .before .before .wide2 .ensures) at (c .before .before .if4 .left))
+returns-5 c =
+    let the-wide2 = c .before .before .before .before .before .wide2 in
+    (c .all-below .ensures) ∙ fits.by-others _ _ _ _ (c .before .before .before .before .before .before .before .before .before .before .if1 .left) (rw (c .before .before .before .before .before .before .before .before .wide .ensures) at (c .before .before .before .before .before .before .before .if2 .left)) (rw (the-wide2 .ensures) at (c .before .before .before .before .if3 .left)) (rw (the-wide2 .ensures) at (c .before .before .if4 .left))
 
 pub record-fits-spec : {M : Type 1} → statement M
 record-fits-spec =

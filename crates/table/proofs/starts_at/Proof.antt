@@ -9,7 +9,9 @@ word-at-requires : tie.Need-word-at-requires
 word-at-requires c κs = search needs
 
 sub-t4 : tie.Need-sub-t4
-sub-t4 c = omega (arith, (c .word-at .ensures), numbers.within _ _ ((c .before .before .pre) .0) ((c .before .before .pre) .1) .within-0)
+sub-t4 c =
+    let the-pre = c .before .before .pre in
+    omega (arith, (c .word-at .ensures), numbers.within _ _ ((the-pre) .0) ((the-pre) .1) .within-0)
 
 add-word-at : tie.Need-add-word-at
 add-word-at c = search needs
@@ -18,7 +20,9 @@ word-at-requires-2 : tie.Need-word-at-requires-2
 word-at-requires-2 c κs = search needs
 
 sub-t7 : tie.Need-sub-t7
-sub-t7 c = omega (arith, (c .word-at2 .ensures), numbers.within _ _ ((c .before .before .before .pre) .0) ((c .before .before .before .pre) .1) .within-1)
+sub-t7 c =
+    let the-pre = c .before .before .before .pre in
+    omega (arith, (c .word-at2 .ensures), numbers.within _ _ ((the-pre) .0) ((the-pre) .1) .within-1)
 
 add-word-at-2 : tie.Need-add-word-at-2
 add-word-at-2 c = search needs
@@ -27,7 +31,9 @@ word-at-requires-3 : tie.Need-word-at-requires-3
 word-at-requires-3 c κs = search needs
 
 sub-t10 : tie.Need-sub-t10
-sub-t10 c = omega (arith, (c .word-at3 .ensures), numbers.within _ _ ((c .before .before .before .before .pre) .0) ((c .before .before .before .before .pre) .1) .within-2)
+sub-t10 c =
+    let the-pre = c .before .before .before .before .pre in
+    omega (arith, (c .word-at3 .ensures), numbers.within _ _ ((the-pre) .0) ((the-pre) .1) .within-2)
 
 add-word-at-3 : tie.Need-add-word-at-3
 add-word-at-3 c = search needs
@@ -36,7 +42,9 @@ word-at-requires-4 : tie.Need-word-at-requires-4
 word-at-requires-4 c κs = search needs
 
 sub-t13 : tie.Need-sub-t13
-sub-t13 c = omega (arith, (c .word-at4 .ensures), numbers.within _ _ ((c .before .before .before .before .before .pre) .0) ((c .before .before .before .before .before .pre) .1) .within-3)
+sub-t13 c =
+    let the-pre = c .before .before .before .before .before .pre in
+    omega (arith, (c .word-at4 .ensures), numbers.within _ _ ((the-pre) .0) ((the-pre) .1) .within-3)
 
 add-word-at-4 : tie.Need-add-word-at-4
 add-word-at-4 c = search needs
@@ -45,7 +53,9 @@ word-at-requires-5 : tie.Need-word-at-requires-5
 word-at-requires-5 c κs = search needs
 
 sub-t16 : tie.Need-sub-t16
-sub-t16 c = omega (arith, (c .word-at5 .ensures), numbers.within _ _ ((c .before .before .before .before .before .before .pre) .0) ((c .before .before .before .before .before .before .pre) .1) .within-4)
+sub-t16 c =
+    let the-pre = c .before .before .before .before .before .before .pre in
+    omega (arith, (c .word-at5 .ensures), numbers.within _ _ ((the-pre) .0) ((the-pre) .1) .within-4)
 
 returns : tie.Need-returns
 returns c = numbers.starts-are (record { at-end = (c .before .before .before .before .before .before .pre) .0; word-0 = (c .before .before .before .before .word-at .ensures); word-1 = (c .before .before .before .word-at2 .ensures); word-2 = (c .before .before .word-at3 .ensures); word-3 = (c .before .word-at4 .ensures); word-4 = (c .word-at5 .ensures) })

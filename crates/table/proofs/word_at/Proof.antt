@@ -25,7 +25,9 @@ mul-result : tie.Need-mul-result
 mul-result c = omega (arith, (c .wide2 .ensures), (c .before .shared-slice-known3 .given) ((c .before .before .before .before .before .args .at) + 1))
 
 add-result : tie.Need-add-result
-add-result c = omega (arith, (c .wide2 .ensures), (c .before .before .wide .ensures), (c .before .shared-slice-known3 .given) ((c .before .before .before .before .before .args .at) + 1), (c .before .before .before .shared-slice-known2 .given) (c .before .before .before .before .before .args .at))
+add-result c =
+    let the-args = c .before .before .before .before .before .args in
+    omega (arith, (c .wide2 .ensures), (c .before .before .wide .ensures), (c .before .shared-slice-known3 .given) ((the-args .at) + 1), (c .before .before .before .shared-slice-known2 .given) (the-args .at))
 
 returns : tie.Need-returns
 returns c = unfold word16 in search needs

@@ -26,7 +26,9 @@ shared-slice-read-sum : tie.Need-shared-slice-read-sum Inv-words μ-words
 shared-slice-read-sum c = let h = c .before .before .before .pre .long in search needs
 
 add-sum : tie.Need-add-sum Inv-words μ-words
-add-sum c = record { fits = let p = c .before .before .before .pre in let w = p .each (c .before .before .words .q) in let h = sum-fits (c .before .before .words .inv) (omega arith) (c .before .words-test .taken) refl (omega arith) in omega arith }
+add-sum c =
+    let the-words = c .before .before .words in
+    record { fits = let p = c .before .before .before .pre in let w = p .each (the-words .q) in let h = sum-fits (the-words .inv) (omega arith) (c .before .words-test .taken) refl (omega arith) in omega arith }
 
 add-q : tie.Need-add-q Inv-words μ-words
 add-q c = search needs
@@ -35,7 +37,9 @@ words-less : tie.Need-words-less Inv-words μ-words
 words-less c = search needs
 
 words-again : tie.Need-words-again Inv-words μ-words
-words-again c = sum-on (c .before .before .words .inv) (c .before .words-test .taken) refl (let h = c .before .before .before .pre .each (c .before .before .words .q) in omega arith)
+words-again c =
+    let the-words = c .before .before .words in
+    sum-on (the-words .inv) (c .before .words-test .taken) refl (let h = c .before .before .before .pre .each (the-words .q) in omega arith)
 
 returns : tie.Need-returns Inv-words μ-words
 returns c = summed (c .before .words .inv) (c .words-test .left) ∙ ap sumOf (take-all stateMost (c .before .before .args .words .now) (let h = c .before .before .pre .long in omega arith))

@@ -8,14 +8,14 @@ use Rattle.tops.proofs.words_of.Tie as tie
 start-words-requires : tie.Need-start-words-requires
 start-words-requires c κs = let p = c .before .before .before .before .before .before .pre in (p .0 .few, p .1)
 
-rest-requires : tie.Need-rest-requires
-rest-requires c κs = let p = c .before .before .before .before .before .before .before .before .before .before .pre .0 in (p, start-small _ (p .few) (c .before .before .before .start-words .ensures))
+fixpoint-requires : tie.Need-fixpoint-requires
+fixpoint-requires c κs = let p = c .before .before .before .before .before .before .before .before .before .before .pre .0 in (p, start-small _ (p .few) (c .before .before .before .start-words .ensures))
 
 same-length : tie.Need-same-length
 same-length c = search needs
 
 returns : tie.Need-returns
-returns c = words-made (c .before .before .before .before .before .before .before .before .before .before .before .before .before .pre .0) (c .before .before .before .before .before .before .start-words .ensures) (c .before .before .rest .ensures)
+returns c = words-made (c .before .before .before .before .before .before .before .before .before .before .before .before .before .pre .0) (c .before .before .before .before .before .before .start-words .ensures) (c .before .before .fixpoint .ensures)
 
 pub words-of-spec : {M : Type 1} → statement M
-words-of-spec = tie.close (tie.spec start-words-requires rest-requires same-length returns)
+words-of-spec = tie.close (tie.spec start-words-requires fixpoint-requires same-length returns)

@@ -12,10 +12,16 @@ shared-slice-read-if1 : tie.Need-shared-slice-read-if1
 shared-slice-read-if1 c = search needs
 
 returns : tie.Need-returns
-returns c = laws.literal-true (c .before .before .before .before .args .values .now) (c .before .before .before .before .args .l) (c .before .before .wide .ensures) (omega (arith, c .before .before .before .before .pre, c .before .before .wide .ensures)) (c .if1 .taken)
+returns c =
+    let the-wide = c .before .before .wide in
+    let the-args = c .before .before .before .before .args in
+    laws.literal-true (the-args .values .now) (the-args .l) (the-wide .ensures) (omega (arith, c .before .before .before .before .pre, the-wide .ensures)) (c .if1 .taken)
 
 returns-2 : tie.Need-returns-2
-returns-2 c = laws.literal-other (c .before .before .before .before .args .values .now) (c .before .before .before .before .args .l) (c .before .before .wide .ensures) (omega (arith, c .before .before .before .before .pre, c .before .before .wide .ensures)) (c .if1 .left)
+returns-2 c =
+    let the-wide = c .before .before .wide in
+    let the-args = c .before .before .before .before .args in
+    laws.literal-other (the-args .values .now) (the-args .l) (the-wide .ensures) (omega (arith, c .before .before .before .before .pre, the-wide .ensures)) (c .if1 .left)
 
 pub literal-holds-spec : {M : Type 1} → statement M
 literal-holds-spec = tie.close (tie.spec wide-requires shared-slice-read-if1 returns returns-2)

@@ -48,13 +48,17 @@ part-clause-holds-end : tie.Need-part-clause-holds-end Inv-clauses μ-clauses
 part-clause-holds-end c = omega (arith, end-inside (c .before .before .before .clauses .inv .before) (c .before .before .clauses-test .taken), c .wide .ensures)
 
 clause-holds-requires : tie.Need-clause-holds-requires Inv-clauses μ-clauses
-clause-holds-requires c κs = lent-over _ (c .before .before .before .before .clauses .at) (c .before .wide .ensures) _ (laws.try-over (c .before .before .before .before .clauses .inv) (c .before .before .before .clauses-test .taken) (c .before .before .before .before .before .before .before .pre .1))
+clause-holds-requires c κs =
+    let the-clauses = c .before .before .before .before .clauses in
+    lent-over _ (the-clauses .at) (c .before .wide .ensures) _ (laws.try-over (the-clauses .inv) (c .before .before .before .clauses-test .taken) (c .before .before .before .before .before .before .before .pre .1))
 
 returns : tie.Need-returns Inv-clauses μ-clauses
 returns c = laws.try-broken (c .before .before .before .before .before .before .clauses .inv) (c .before .before .before .before .before .clauses-test .taken) (c .before .before .before .wide .ensures) (c .before .clause-holds .ensures) (not-true _ (c .if1 .taken))
 
 clauses-less : tie.Need-clauses-less Inv-clauses μ-clauses
-clauses-less c = omega (arith, end-inside (c .before .before .before .before .before .before .clauses .inv .before) (c .before .before .before .before .before .clauses-test .taken), c .before .before .before .before .before .clauses-test .taken, c .before .before .before .wide .ensures)
+clauses-less c =
+    let the-clauses-test = c .before .before .before .before .before .clauses-test in
+    omega (arith, end-inside (c .before .before .before .before .before .before .clauses .inv .before) (the-clauses-test .taken), the-clauses-test .taken, c .before .before .before .wide .ensures)
 
 clauses-again : tie.Need-clauses-again Inv-clauses μ-clauses
 clauses-again c = laws.try-on (c .before .before .before .before .before .before .clauses .inv) (c .before .before .before .before .before .clauses-test .taken) (c .before .before .before .wide .ensures) (c .before .clause-holds .ensures) (not-false _ (c .if1 .left))

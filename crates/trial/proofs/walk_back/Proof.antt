@@ -17,10 +17,14 @@ abbrev μ-guesses : tie.MeasureT-guesses
 μ-guesses list n table values₀ trail joined₀ apart₀ marks guesses start depth₀ count₀ values joined apart depth count = depth
 
 guesses-holds : tie.Need-guesses-holds Inv-guesses μ-guesses
-guesses-holds c = (laws.retracing (c .before .before .before .before .pre .1 .1), c .before .before .before .before .pre .1 .0 .1)
+guesses-holds c =
+    let the-pre = c .before .before .before .before .pre in
+    (laws.retracing (the-pre .1 .1), the-pre .1 .0 .1)
 
 trial-holds-requires : tie.Need-trial-holds-requires Inv-guesses μ-guesses
-trial-holds-requires c κs = (c .before .before .before .before .before .before .pre .0 .0, rw (c .before .guesses .inv .0 .size) (c .before .before .before .before .before .before .pre .0 .1))
+trial-holds-requires c κs =
+    let the-pre = c .before .before .before .before .before .before .pre in
+    (the-pre .0 .0, rw (c .before .guesses .inv .0 .size) (the-pre .0 .1))
 
 hold-requires : tie.Need-hold-requires Inv-guesses μ-guesses
 hold-requires c κs = search needs
@@ -53,13 +57,18 @@ wide-requires : tie.Need-wide-requires Inv-guesses μ-guesses
 wide-requires c κs = search needs
 
 unwind-requires : tie.Need-unwind-requires Inv-guesses μ-guesses
-unwind-requires c κs = (c .before .before .before .before .before .before .before .before .before .before .before .before .before .before .pre .1 .0 .0, laws.can-retrace (c .before .before .before .before .before .before .before .before .before .guesses .inv .0) (sym (c .before .before .before .before .before .before .before .trial-holds .ensures) ∙ c .before .before .before .before .before .before .if1 .left) (c .before .before .before .before .before .before .before .before .before .guesses .depth - 1) (omega (arith, c .before .before .before .before .before .if2 .left)) (c .before .before .before .wide .ensures), c .before .before .before .before .before .before .before .before .before .guesses .inv .1)
+unwind-requires c κs =
+    let the-guesses = c .before .before .before .before .before .before .before .before .before .guesses in
+    (c .before .before .before .before .before .before .before .before .before .before .before .before .before .before .pre .1 .0 .0, laws.can-retrace (the-guesses .inv .0) (sym (c .before .before .before .before .before .before .before .trial-holds .ensures) ∙ c .before .before .before .before .before .before .if1 .left) (the-guesses .depth - 1) (omega (arith, c .before .before .before .before .before .if2 .left)) (c .before .before .before .wide .ensures), the-guesses .inv .1)
 
 guesses-less : tie.Need-guesses-less Inv-guesses μ-guesses
 guesses-less c = search needs
 
 guesses-again : tie.Need-guesses-again Inv-guesses μ-guesses
-guesses-again c = (laws.retrace-on (c .before .before .before .before .before .before .before .before .before .before .before .before .guesses .inv .0) (sym (c .before .before .before .before .before .before .before .before .before .before .trial-holds .ensures) ∙ c .before .before .before .before .before .before .before .before .before .if1 .left) (c .before .before .before .before .before .before .before .before .before .before .before .before .guesses .depth - 1) (omega (arith, c .before .before .before .before .before .before .before .before .if2 .left)) (c .before .before .before .before .before .before .wide .ensures) (c .before .before .unwind .ensures .values), c .before .before .unwind .ensures .rows)
+guesses-again c =
+    let the-unwind = c .before .before .unwind in
+    let the-guesses = c .before .before .before .before .before .before .before .before .before .before .before .before .guesses in
+    (laws.retrace-on (the-guesses .inv .0) (sym (c .before .before .before .before .before .before .before .before .before .before .trial-holds .ensures) ∙ c .before .before .before .before .before .before .before .before .before .if1 .left) (the-guesses .depth - 1) (omega (arith, c .before .before .before .before .before .before .before .before .if2 .left)) (c .before .before .before .before .before .before .wide .ensures) (the-unwind .ensures .values), the-unwind .ensures .rows)
 
 pub walk-back-spec : {M : Type 1} → statement M
 walk-back-spec =

@@ -11,10 +11,15 @@ use Rattle.turns.proofs.close.Statement.{statement}
 use Rattle.turns.proofs.close.Tie as tie
 
 returns : tie.Need-returns
-returns c = ((drained-settles (c .before .before .before .before .before .before .before .pre .1 .0) (queue-end (queueing (c .before .before .before .before .before .before .before .pre .1 .0) (c .before .before .before .before .before .before .before .pre .1 .1 .0 .0)) (omega (arith, c .if1 .taken))), c .before .before .before .before .before .before .before .pre .1 .1 .1 .1), c .before .before .before .before .before .before .before .pre .0)
+returns c =
+    let the-pre = c .before .before .before .before .before .before .before .pre in
+    ((drained-settles (the-pre .1 .0) (queue-end (queueing (the-pre .1 .0) (the-pre .1 .1 .0 .0)) (omega (arith, c .if1 .taken))), the-pre .1 .1 .1 .1), the-pre .0)
 
 settle-indexed-requires : tie.Need-settle-indexed-requires
-settle-indexed-requires c κs = ((c .before .before .before .before .before .before .before .before .before .before .before .before .before .pre .0 .indexed (c .before .before .before .before .before .if2 .taken), c .before .before .before .before .before .before .before .before .before .before .before .before .before .pre .0 .hinted (c .before .before .before .before .before .if2 .taken)), c .before .before .before .before .before .before .before .before .before .before .before .before .before .pre .1)
+settle-indexed-requires c κs =
+    let the-if2 = c .before .before .before .before .before .if2 in
+    let the-pre = c .before .before .before .before .before .before .before .before .before .before .before .before .before .pre in
+    ((the-pre .0 .indexed (the-if2 .taken), the-pre .0 .hinted (the-if2 .taken)), the-pre .1)
 
 same-length : tie.Need-same-length
 same-length c = search needs
@@ -26,10 +31,16 @@ same-length-3 : tie.Need-same-length-3
 same-length-3 c = search needs
 
 returns-2 : tie.Need-returns-2
-returns-2 c = (c .before .before .before .before .before .before .settle-indexed .ensures .0, prepared (c .before .before .before .before .before .before .before .before .before .before .before .before .before .before .before .before .before .before .before .before .pre .0 .all-there) (c .before .before .before .before .before .before .before .before .before .before .before .before .before .before .before .before .before .before .before .before .pre .0 .indexed (c .before .before .before .before .before .before .before .before .before .before .before .before .if2 .taken)) (c .before .before .before .before .before .before .settle-indexed .ensures .1))
+returns-2 c =
+    let the-settle-indexed = c .before .before .before .before .before .before .settle-indexed in
+    let the-pre = c .before .before .before .before .before .before .before .before .before .before .before .before .before .before .before .before .before .before .before .before .pre in
+    (the-settle-indexed .ensures .0, prepared (the-pre .0 .all-there) (the-pre .0 .indexed (c .before .before .before .before .before .before .before .before .before .before .before .before .if2 .taken)) (the-settle-indexed .ensures .1))
 
 settle-requires : tie.Need-settle-requires
-settle-requires c κs = (c .before .before .before .before .before .before .before .before .before .before .before .before .pre .0 .all-there, ((c .before .before .before .before .before .before .before .before .before .before .before .before .pre .1 .0, queue-part (triangles (c .before .before .before .before .before .before .before .before .before .before .before .before .args .n)) _ (to-ds (clausesIn (c .before .before .before .before .before .before .before .before .before .before .before .before .args .list .now)) _) (c .before .before .before .before .before .before .before .before .before .before .before .before .pre .1 .1 .0 .0)), c .before .before .before .before .before .before .before .before .before .before .before .before .pre .1 .1 .1))
+settle-requires c κs =
+    let the-pre = c .before .before .before .before .before .before .before .before .before .before .before .before .pre in
+    let the-args = c .before .before .before .before .before .before .before .before .before .before .before .before .args in
+    (the-pre .0 .all-there, ((the-pre .1 .0, queue-part (triangles (the-args .n)) _ (to-ds (clausesIn (the-args .list .now)) _) (the-pre .1 .1 .0 .0)), the-pre .1 .1 .1))
 
 same-length-4 : tie.Need-same-length-4
 same-length-4 c = search needs

@@ -26,10 +26,14 @@ places-requires : tie.Need-places-requires Inv-turns μ-turns
 places-requires c κs = search needs
 
 turns-holds : tie.Need-turns-holds Inv-turns μ-turns
-turns-holds c = (laws.turning _ _ (c .before .before .before .before .before .before .before .pre .1 .0) (c .places .ensures), c .before .before .before .before .before .before .before .pre .1 .1 .1, c .before .before .before .before .before .before .before .pre .0, refl)
+turns-holds c =
+    let the-pre = c .before .before .before .before .before .before .before .pre in
+    (laws.turning _ _ (the-pre .1 .0) (c .places .ensures), the-pre .1 .1 .1, the-pre .0, refl)
 
 close-requires : tie.Need-close-requires Inv-turns μ-turns
-close-requires c κs = let i = c .before .before .before .before .before .turns .inv .0 in (c .before .before .before .before .before .turns .inv .2, (i .ready, ((i .queue, omega (arith, i .size, i .most)), (c .before .before .before .before .before .before .before .before .before .before .before .before .before .pre .1 .1 .0, c .before .before .before .before .before .turns .inv .1))))
+close-requires c κs =
+    let the-turns = c .before .before .before .before .before .turns in
+    let i = the-turns .inv .0 in (the-turns .inv .2, (i .ready, ((i .queue, omega (arith, i .size, i .most)), (c .before .before .before .before .before .before .before .before .before .before .before .before .before .pre .1 .1 .0, the-turns .inv .1))))
 
 same-length : tie.Need-same-length Inv-turns μ-turns
 same-length c = search (needs, c .before .before .before .before .before .before .before .before .before .before .before .before .before .before .turns .inv .3)
@@ -62,27 +66,38 @@ wide-requires : tie.Need-wide-requires Inv-turns μ-turns
 wide-requires c κs = search needs
 
 undo-requires : tie.Need-undo-requires Inv-turns μ-turns
-undo-requires c κs = (c .before .before .before .before .before .before .before .before .before .before .before .before .before .before .before .before .before .before .before .before .before .before .before .before .before .before .before .pre .1 .1 .0, laws.can-undo (c .before .before .before .before .before .before .before .before .before .before .before .before .before .before .before .before .before .before .before .turns .inv .0) (c .before .before .before .before .before .before .before .before .before .before .before .before .before .close .ensures .0 .0) (c .before .before .before .before .before .before .if1 .taken) (c .before .before .before .before .before .before .before .before .before .before .before .before .before .before .before .before .before .before .before .turns .depth - 1) (omega (arith, c .before .before .before .before .before .if2 .left)) (c .before .before .before .before .wide .ensures), c .before .before .before .before .before .before .before .before .before .before .before .before .before .close .ensures .0 .1)
+undo-requires c κs =
+    let the-close = c .before .before .before .before .before .before .before .before .before .before .before .before .before .close in
+    let the-turns = c .before .before .before .before .before .before .before .before .before .before .before .before .before .before .before .before .before .before .before .turns in
+    (c .before .before .before .before .before .before .before .before .before .before .before .before .before .before .before .before .before .before .before .before .before .before .before .before .before .before .before .pre .1 .1 .0, laws.can-undo (the-turns .inv .0) (the-close .ensures .0 .0) (c .before .before .before .before .before .before .if1 .taken) (the-turns .depth - 1) (omega (arith, c .before .before .before .before .before .if2 .left)) (c .before .before .before .before .wide .ensures), the-close .ensures .0 .1)
 
 add-low : tie.Need-add-low Inv-turns μ-turns
 add-low c =
-    let i = c .before .before .before .before .before .before .before .before .before .before .before .before .before .before .before .before .before .before .before .before .before .before .turns .inv .0 in
-    omega (arith, laws.inside i (c .before .before .before .before .before .before .before .before .before .before .before .before .before .before .before .before .close .ensures .0 .0) (c .before .before .before .before .before .before .before .before .before .if1 .taken) (c .before .before .before .before .before .before .before .before .before .before .before .before .before .before .before .before .before .before .before .before .before .before .turns .depth - 1) (omega (arith, c .before .before .before .before .before .before .before .before .if2 .left)) (c .before .before .before .before .before .before .before .wide .ensures) (c .before .before .undo .ensures .0), i .most)
+    let the-turns = c .before .before .before .before .before .before .before .before .before .before .before .before .before .before .before .before .before .before .before .before .before .before .turns in
+    let i = the-turns .inv .0 in
+    omega (arith, laws.inside i (c .before .before .before .before .before .before .before .before .before .before .before .before .before .before .before .before .close .ensures .0 .0) (c .before .before .before .before .before .before .before .before .before .if1 .taken) (the-turns .depth - 1) (omega (arith, c .before .before .before .before .before .before .before .before .if2 .left)) (c .before .before .before .before .before .before .before .wide .ensures) (c .before .before .undo .ensures .0), i .most)
 
 add-count : tie.Need-add-count Inv-turns μ-turns
 add-count c =
-    let i = c .before .before .before .before .before .before .before .before .before .before .before .before .before .before .before .before .before .before .before .before .before .before .turns .inv .0 in
+    let the-turns = c .before .before .before .before .before .before .before .before .before .before .before .before .before .before .before .before .before .before .before .before .before .before .turns in
+    let i = the-turns .inv .0 in
     let s = c .before .before .before .before .before .before .before .before .before .before .before .before .before .before .before .before .close .ensures .0 .0 in
-    omega (arith, laws.place i s (c .before .before .before .before .before .before .before .before .before .if1 .taken) (c .before .before .before .before .before .before .before .before .before .before .before .before .before .before .before .before .before .before .before .before .before .before .turns .depth - 1) (omega (arith, c .before .before .before .before .before .before .before .before .if2 .left)) (c .before .before .before .before .before .before .before .wide .ensures), laws.after-count i s, i .most)
+    omega (arith, laws.place i s (c .before .before .before .before .before .before .before .before .before .if1 .taken) (the-turns .depth - 1) (omega (arith, c .before .before .before .before .before .before .before .before .if2 .left)) (c .before .before .before .before .before .before .before .wide .ensures), laws.after-count i s, i .most)
 
 turns-less : tie.Need-turns-less Inv-turns μ-turns
 turns-less c = search needs
 
 turns-again : tie.Need-turns-again Inv-turns μ-turns
-turns-again c = (laws.turn-undo (c .before .before .before .before .before .before .before .before .before .before .before .before .before .before .before .before .before .before .before .before .before .before .turns .inv .0) (c .before .before .before .before .before .before .before .before .before .before .before .before .before .before .before .before .close .ensures .0 .0) (c .before .before .before .before .before .before .before .before .before .if1 .taken) (c .before .before .before .before .before .before .before .before .before .before .before .before .before .before .before .before .before .before .before .before .before .before .turns .depth - 1) (omega (arith, c .before .before .before .before .before .before .before .before .if2 .left)) (c .before .before .before .before .before .before .before .wide .ensures) (c .before .before .undo .ensures .0), c .before .before .undo .ensures .1, c .before .before .before .before .before .before .before .before .before .before .before .before .before .before .before .before .close .ensures .1, search (needs, c .before .before .before .before .before .before .before .before .before .before .before .before .before .before .before .before .before .before .before .before .before .before .turns .inv .3))
+turns-again c =
+    let the-undo = c .before .before .undo in
+    let the-close = c .before .before .before .before .before .before .before .before .before .before .before .before .before .before .before .before .close in
+    let the-turns = c .before .before .before .before .before .before .before .before .before .before .before .before .before .before .before .before .before .before .before .before .before .before .turns in
+    (laws.turn-undo (the-turns .inv .0) (the-close .ensures .0 .0) (c .before .before .before .before .before .before .before .before .before .if1 .taken) (the-turns .depth - 1) (omega (arith, c .before .before .before .before .before .before .before .before .if2 .left)) (c .before .before .before .before .before .before .before .wide .ensures) (the-undo .ensures .0), the-undo .ensures .1, the-close .ensures .1, search (needs, the-turns .inv .3))
 
 next-unset-requires : tie.Need-next-unset-requires Inv-turns μ-turns
-next-unset-requires c κs = omega (arith, c .before .before .before .before .before .before .before .before .before .before .before .before .before .before .turns .inv .0 .low-in, laws.after-size (c .before .before .before .before .before .before .before .before .before .before .before .before .before .before .turns .inv .0) (c .before .before .before .before .before .before .before .before .close .ensures .0 .0))
+next-unset-requires c κs =
+    let the-turns = c .before .before .before .before .before .before .before .before .before .before .before .before .before .before .turns in
+    omega (arith, the-turns .inv .0 .low-in, laws.after-size (the-turns .inv .0) (c .before .before .before .before .before .before .before .before .close .ensures .0 .0))
 
 same-length-4 : tie.Need-same-length-4 Inv-turns μ-turns
 same-length-4 c = search (needs, c .before .before .before .before .before .before .before .before .before .before .before .before .before .before .before .before .turns .inv .3)
@@ -98,9 +113,11 @@ returns-2 c = laws.turn-solved (c .before .before .before .before .before .befor
 
 walk-back-requires : tie.Need-walk-back-requires Inv-turns μ-turns
 walk-back-requires c κs =
+    let the-pre = c .before .before .before .before .before .before .before .before .before .before .before .before .before .before .before .before .before .before .before .before .before .before .before .before .before .before .before .before .before .before .pre in
+    let the-args = c .before .before .before .before .before .before .before .before .before .before .before .before .before .before .before .before .before .before .before .before .before .before .before .before .before .before .before .before .before .before .args in
     let i = c .before .before .before .before .before .before .before .before .before .before .before .before .before .before .before .before .before .before .before .before .before .before .turns .inv .0 in
     let e = c .before .before .before .before .before .before .before .before .before .before .before .before .before .before .before .before .close .ensures .0 in
-    ((c .before .before .before .before .before .before .before .before .before .before .before .before .before .before .before .before .before .before .before .before .before .before .before .before .before .before .before .before .before .before .pre .0 .all-there, rw (laws.after-size i (e .0)) (laws.list-formed (c .before .before .before .before .before .before .before .before .before .before .before .before .before .before .before .before .before .before .before .before .before .before .before .before .before .before .before .before .before .before .args .list .now) (c .before .before .before .before .before .before .before .before .before .before .before .before .before .before .before .before .before .before .before .before .before .before .before .before .before .before .before .before .before .before .args .n) (c .before .before .before .before .before .before .before .before .before .before .before .before .before .before .before .before .before .before .before .before .before .before .before .before .before .before .before .before .before .before .pre .1 .0 .formed))), ((c .before .before .before .before .before .before .before .before .before .before .before .before .before .before .before .before .before .before .before .before .before .before .before .before .before .before .before .before .before .before .pre .1 .1 .0, e .1), laws.can-retrace i (e .0) (c .before .before .before .before .before .before .before .before .before .if1 .left) (c .before .before .before .before .before .before .before .next-unset .ensures) (c .before .before .before .before .before .before .if3 .left)))
+    ((the-pre .0 .all-there, rw (laws.after-size i (e .0)) (laws.list-formed (the-args .list .now) (the-args .n) (the-pre .1 .0 .formed))), ((the-pre .1 .1 .0, e .1), laws.can-retrace i (e .0) (c .before .before .before .before .before .before .before .before .before .if1 .left) (c .before .before .before .before .before .before .before .next-unset .ensures) (c .before .before .before .before .before .before .if3 .left)))
 
 same-length-7 : tie.Need-same-length-7 Inv-turns μ-turns
 same-length-7 c = search (needs, c .before .before .before .before .before .before .before .before .before .before .before .before .before .before .before .before .before .before .before .before .before .before .before .before .before .turns .inv .3)
@@ -113,8 +130,9 @@ same-length-9 c = laws.after-long (c .before .before .before .before .before .be
 
 returns-3 : tie.Need-returns-3 Inv-turns μ-turns
 returns-3 c =
-    laws.turn-spent (c .before .before .before .before .before .before .before .before .before .before .before .before .before .before .before .before .before .before .before .before .before .before .before .before .before .turns .inv .0) (c .before .before .before .before .before .before .before .before .before .before .before .before .before .before .before .before .before .before .before .close .ensures .0 .0) (c .before .before .before .before .before .before .before .before .before .before .before .before .if1 .left) (c .before .before .before .before .before .before .before .before .before .before .next-unset .ensures) (c .before .before .before .before .before .before .before .before .before .if3 .left) (clausesIn (c .before .before .before .before .before .before .before .before .before .before .before .before .before .before .before .before .before .before .before .before .before .before .before .before .before .before .before .before .before .before .before .before .before .args .list .now))
-    (laws.short-trial (c .before .before .before .before .before .before .before .before .before .before .before .before .before .before .before .before .before .before .before .before .before .before .before .before .before .before .before .before .before .before .before .before .before .args .list .now) (c .before .before .before .before .before .before .before .before .before .before .before .before .before .before .before .before .before .before .before .before .before .before .before .before .before .before .before .before .before .before .before .before .before .args .n) (c .before .before .before .before .before .before .before .before .before .before .before .before .before .before .before .before .before .before .before .before .before .before .before .before .before .before .before .before .before .before .before .before .before .pre .1 .0 .formed)) (c .before .before .before .before .before .before .before .before .if4 .taken) (c .before .before .walk-back .ensures)
+    let the-args = c .before .before .before .before .before .before .before .before .before .before .before .before .before .before .before .before .before .before .before .before .before .before .before .before .before .before .before .before .before .before .before .before .before .args in
+    laws.turn-spent (c .before .before .before .before .before .before .before .before .before .before .before .before .before .before .before .before .before .before .before .before .before .before .before .before .before .turns .inv .0) (c .before .before .before .before .before .before .before .before .before .before .before .before .before .before .before .before .before .before .before .close .ensures .0 .0) (c .before .before .before .before .before .before .before .before .before .before .before .before .if1 .left) (c .before .before .before .before .before .before .before .before .before .before .next-unset .ensures) (c .before .before .before .before .before .before .before .before .before .if3 .left) (clausesIn (the-args .list .now))
+    (laws.short-trial (the-args .list .now) (the-args .n) (c .before .before .before .before .before .before .before .before .before .before .before .before .before .before .before .before .before .before .before .before .before .before .before .before .before .before .before .before .before .before .before .before .before .pre .1 .0 .formed)) (c .before .before .before .before .before .before .before .before .if4 .taken) (c .before .before .walk-back .ensures)
 
 cast-marks : tie.Need-cast-marks Inv-turns μ-turns
 cast-marks c =
@@ -149,7 +167,9 @@ cast-force : tie.Need-cast-force Inv-turns μ-turns
 cast-force c = search needs
 
 force-requires : tie.Need-force-requires Inv-turns μ-turns
-force-requires c κs = (c .before .before .before .before .before .before .before .before .before .before .before .before .before .before .before .before .before .before .before .before .before .before .before .before .before .before .before .before .before .pre .1 .1 .0, laws.can-guess (c .before .before .before .before .before .before .before .before .before .before .before .before .before .before .before .before .before .before .before .before .before .turns .inv .0) (c .before .before .before .before .before .before .before .before .before .before .before .before .before .before .before .close .ensures .0 .0) (c .before .before .before .before .before .before .before .before .if1 .left) (c .before .before .before .before .before .before .next-unset .ensures) (c .before .before .before .before .before .if3 .left) refl (c .before .before .before .before .before .before .before .before .before .before .before .before .before .before .before .close .ensures .0 .1))
+force-requires c κs =
+    let the-close = c .before .before .before .before .before .before .before .before .before .before .before .before .before .before .before .close in
+    (c .before .before .before .before .before .before .before .before .before .before .before .before .before .before .before .before .before .before .before .before .before .before .before .before .before .before .before .before .before .pre .1 .1 .0, laws.can-guess (c .before .before .before .before .before .before .before .before .before .before .before .before .before .before .before .before .before .before .before .before .before .turns .inv .0) (the-close .ensures .0 .0) (c .before .before .before .before .before .before .before .before .if1 .left) (c .before .before .before .before .before .before .next-unset .ensures) (c .before .before .before .before .before .if3 .left) refl (the-close .ensures .0 .1))
 
 add-low-2 : tie.Need-add-low-2 Inv-turns μ-turns
 add-low-2 c = search needs
@@ -159,8 +179,10 @@ turns-less-2 c = search needs
 
 turns-again-2 : tie.Need-turns-again-2 Inv-turns μ-turns
 turns-again-2 c =
+    let the-close = c .before .before .before .before .before .before .before .before .before .before .before .before .before .before .before .before .before .before .before .before .close in
+    let the-turns = c .before .before .before .before .before .before .before .before .before .before .before .before .before .before .before .before .before .before .before .before .before .before .before .before .before .before .turns in
     let f = c .before .before .before .before .force .ensures in
-    (laws.turn-guess (c .before .before .before .before .before .before .before .before .before .before .before .before .before .before .before .before .before .before .before .before .before .before .before .before .before .before .turns .inv .0) (c .before .before .before .before .before .before .before .before .before .before .before .before .before .before .before .before .before .before .before .before .close .ensures .0 .0) (c .before .before .before .before .before .before .before .before .before .before .before .before .before .if1 .left) (c .before .before .before .before .before .before .before .before .before .before .before .next-unset .ensures) (c .before .before .before .before .before .before .before .before .before .before .if3 .left) (c .before .before .before .before .before .before .before .before .before .if4 .left) refl f, f .assigned .rows, c .before .before .before .before .before .before .before .before .before .before .before .before .before .before .before .before .before .before .before .before .close .ensures .1, search (needs, c .before .before .before .before .before .before .before .before .before .before .before .before .before .before .before .before .before .before .before .before .before .before .before .before .before .before .turns .inv .3))
+    (laws.turn-guess (the-turns .inv .0) (the-close .ensures .0 .0) (c .before .before .before .before .before .before .before .before .before .before .before .before .before .if1 .left) (c .before .before .before .before .before .before .before .before .before .before .before .next-unset .ensures) (c .before .before .before .before .before .before .before .before .before .before .if3 .left) (c .before .before .before .before .before .before .before .before .before .if4 .left) refl f, f .assigned .rows, the-close .ensures .1, search (needs, the-turns .inv .3))
 
 pub turns-spec : {M : Type 1} → statement M
 turns-spec = tie.close (tie.spec Inv-turns μ-turns places-requires turns-holds close-requires same-length same-length-2 same-length-3 returns sub-depth mul-wide array-read-wide wide-requires undo-requires add-low add-count turns-less turns-again next-unset-requires same-length-4 same-length-5 same-length-6 returns-2 walk-back-requires same-length-7 same-length-8 same-length-9 returns-3 cast-marks mul-marks array-write-marks add-depth add-made mul-force cast-force force-requires add-low-2 turns-less-2 turns-again-2)

@@ -78,11 +78,14 @@ lines-less c = search needs
 
 lines-again : tie.Need-lines-again Inv-lines μ-lines
 lines-again c =
-    added (c .before .before .before .before .before .before .before .lines .inv) (c .before .before .before .before .before .before .lines-test .taken) (small c) (c .before .before .before .before .uses-in .ensures .1) (c .before .before .before .before .uses-in .ensures .0)
+    let the-uses-in = c .before .before .before .before .uses-in in
+    added (c .before .before .before .before .before .before .before .lines .inv) (c .before .before .before .before .before .before .lines-test .taken) (small c) (the-uses-in .ensures .1) (the-uses-in .ensures .0)
     (c .index .ensures ∙ c .before .class-of .ensures ∙ ap (classOf (c .before .before .before .before .before .before .before .before .before .before .args .map .now)) (c .before .before .state-in .ensures))
 
 returns : tie.Need-returns Inv-lines μ-lines
-returns c = (added-all (c .before .lines .inv) (c .lines-test .left), added-fits (c .before .lines .inv) (c .lines-test .left))
+returns c =
+    let the-lines = c .before .lines in
+    (added-all (the-lines .inv) (c .lines-test .left), added-fits (the-lines .inv) (c .lines-test .left))
 
 pub add-lines-spec : {M : Type 1} → statement M
 add-lines-spec =

@@ -9,13 +9,19 @@ use Rattle.visits.proofs.visit.Statement.{statement}
 use Rattle.visits.proofs.visit.Tie as tie
 
 mul-one : tie.Need-mul-one
-mul-one c = omega (arith, c .before .before .before .before .pre .inside, c .before .before .before .before .pre .few, c .before .before .before .before .pre .short, laws.one-room (c .before .before .before .before .pre))
+mul-one c =
+    let the-pre = c .before .before .before .before .pre in
+    omega (arith, the-pre .inside, the-pre .few, the-pre .short, laws.one-room (the-pre))
 
 mul-one-2 : tie.Need-mul-one-2
-mul-one-2 c = omega (arith, c .before .before .before .before .pre .inside, c .before .before .before .before .pre .few, c .before .before .before .before .pre .short, laws.one-room (c .before .before .before .before .pre))
+mul-one-2 c =
+    let the-pre = c .before .before .before .before .pre in
+    omega (arith, the-pre .inside, the-pre .few, the-pre .short, laws.one-room (the-pre))
 
 slice-read-one : tie.Need-slice-read-one
-slice-read-one c = omega (arith, c .before .before .before .before .before .pre .inside, c .before .before .before .before .before .pre .few, c .before .before .before .before .before .pre .short, laws.one-room (c .before .before .before .before .before .pre))
+slice-read-one c =
+    let the-pre = c .before .before .before .before .before .pre in
+    omega (arith, the-pre .inside, the-pre .few, the-pre .short, laws.one-room (the-pre))
 
 is-right-requires : tie.Need-is-right-requires
 is-right-requires c κs = laws.one-over (c .before .before .before .before .before .pre)
@@ -24,54 +30,81 @@ returns : tie.Need-returns
 returns c = (right-tells _ _ _ (c .before .before .before .before .before .before .before .pre .noted .one) (sym (c .before .is-right .ensures) ∙ c .if1 .taken), laws.keeps-none)
 
 mul-other : tie.Need-mul-other
-mul-other c = omega (arith, c .before .before .before .before .before .before .before .pre .inside, c .before .before .before .before .before .before .before .pre .few, c .before .before .before .before .before .before .before .pre .short, laws.one-room (c .before .before .before .before .before .before .before .pre))
+mul-other c =
+    let the-pre = c .before .before .before .before .before .before .before .pre in
+    omega (arith, the-pre .inside, the-pre .few, the-pre .short, laws.one-room (the-pre))
 
 add-other : tie.Need-add-other
-add-other c = omega (arith, c .before .before .before .before .before .before .before .pre .inside, c .before .before .before .before .before .before .before .pre .few, c .before .before .before .before .before .before .before .pre .short, laws.one-room (c .before .before .before .before .before .before .before .pre))
+add-other c =
+    let the-pre = c .before .before .before .before .before .before .before .pre in
+    omega (arith, the-pre .inside, the-pre .few, the-pre .short, laws.one-room (the-pre))
 
 mul-other-2 : tie.Need-mul-other-2
-mul-other-2 c = omega (arith, c .before .before .before .before .before .before .before .pre .inside, c .before .before .before .before .before .before .before .pre .few, c .before .before .before .before .before .before .before .pre .short, laws.one-room (c .before .before .before .before .before .before .before .pre))
+mul-other-2 c =
+    let the-pre = c .before .before .before .before .before .before .before .pre in
+    omega (arith, the-pre .inside, the-pre .few, the-pre .short, laws.one-room (the-pre))
 
 slice-read-other : tie.Need-slice-read-other
-slice-read-other c = omega (arith, c .before .before .before .before .before .before .before .before .pre .inside, c .before .before .before .before .before .before .before .before .pre .few, c .before .before .before .before .before .before .before .before .pre .short, laws.one-room (c .before .before .before .before .before .before .before .before .pre))
+slice-read-other c =
+    let the-pre = c .before .before .before .before .before .before .before .before .pre in
+    omega (arith, the-pre .inside, the-pre .few, the-pre .short, laws.one-room (the-pre))
 
 is-right-requires-2 : tie.Need-is-right-requires-2
 is-right-requires-2 c κs = laws.other-over (c .before .before .before .before .before .before .before .before .pre)
 
 mul-hints : tie.Need-mul-hints
-mul-hints c = omega (arith, c .before .before .before .before .before .before .before .before .before .before .pre .inside, c .before .before .before .before .before .before .before .before .before .before .pre .few, c .before .before .before .before .before .before .before .before .before .before .pre .short, laws.one-room (c .before .before .before .before .before .before .before .before .before .before .pre))
+mul-hints c =
+    let the-pre = c .before .before .before .before .before .before .before .before .before .before .pre in
+    omega (arith, the-pre .inside, the-pre .few, the-pre .short, laws.one-room (the-pre))
 
 mul-hints-2 : tie.Need-mul-hints-2
-mul-hints-2 c = omega (arith, c .before .before .before .before .before .before .before .before .before .before .pre .inside, c .before .before .before .before .before .before .before .before .before .before .pre .few, c .before .before .before .before .before .before .before .before .before .before .pre .short, laws.one-room (c .before .before .before .before .before .before .before .before .before .before .pre))
+mul-hints-2 c =
+    let the-pre = c .before .before .before .before .before .before .before .before .before .before .pre in
+    omega (arith, the-pre .inside, the-pre .few, the-pre .short, laws.one-room (the-pre))
 
 slice-write-hints : tie.Need-slice-write-hints
-slice-write-hints c = omega (arith, c .before .before .before .before .before .before .before .before .before .before .pre .inside, c .before .before .before .before .before .before .before .before .before .before .pre .few, c .before .before .before .before .before .before .before .before .before .before .pre .short, laws.one-room (c .before .before .before .before .before .before .before .before .before .before .pre))
+slice-write-hints c =
+    let the-pre = c .before .before .before .before .before .before .before .before .before .before .pre in
+    omega (arith, the-pre .inside, the-pre .few, the-pre .short, laws.one-room (the-pre))
 
 mul-hints-3 : tie.Need-mul-hints-3
-mul-hints-3 c = omega (arith, c .before .before .before .before .before .before .before .before .before .before .pre .inside, c .before .before .before .before .before .before .before .before .before .before .pre .few, c .before .before .before .before .before .before .before .before .before .before .pre .short, laws.one-room (c .before .before .before .before .before .before .before .before .before .before .pre))
+mul-hints-3 c =
+    let the-pre = c .before .before .before .before .before .before .before .before .before .before .pre in
+    omega (arith, the-pre .inside, the-pre .few, the-pre .short, laws.one-room (the-pre))
 
 add-hints : tie.Need-add-hints
-add-hints c = omega (arith, c .before .before .before .before .before .before .before .before .before .before .pre .inside, c .before .before .before .before .before .before .before .before .before .before .pre .few, c .before .before .before .before .before .before .before .before .before .before .pre .short, laws.one-room (c .before .before .before .before .before .before .before .before .before .before .pre))
+add-hints c =
+    let the-pre = c .before .before .before .before .before .before .before .before .before .before .pre in
+    omega (arith, the-pre .inside, the-pre .few, the-pre .short, laws.one-room (the-pre))
 
 mul-hints-4 : tie.Need-mul-hints-4
-mul-hints-4 c = omega (arith, c .before .before .before .before .before .before .before .before .before .before .pre .inside, c .before .before .before .before .before .before .before .before .before .before .pre .few, c .before .before .before .before .before .before .before .before .before .before .pre .short, laws.one-room (c .before .before .before .before .before .before .before .before .before .before .pre))
+mul-hints-4 c =
+    let the-pre = c .before .before .before .before .before .before .before .before .before .before .pre in
+    omega (arith, the-pre .inside, the-pre .few, the-pre .short, laws.one-room (the-pre))
 
 slice-write-hints-2 : tie.Need-slice-write-hints-2
-slice-write-hints-2 c = simp length-set (omega (arith, c .before .before .before .before .before .before .before .before .before .before .pre .inside, c .before .before .before .before .before .before .before .before .before .before .pre .few, c .before .before .before .before .before .before .before .before .before .before .pre .short, laws.one-room (c .before .before .before .before .before .before .before .before .before .before .pre)))
+slice-write-hints-2 c =
+    let the-pre = c .before .before .before .before .before .before .before .before .before .before .pre in
+    simp length-set (omega (arith, the-pre .inside, the-pre .few, the-pre .short, laws.one-room (the-pre)))
 
 same-length : tie.Need-same-length
 same-length c = search needs
 
 returns-2 : tie.Need-returns-2
-returns-2 c = (right-tells _ _ _ (c .before .before .before .before .before .before .before .before .before .before .pre .noted .other) (sym (c .before .is-right2 .ensures) ∙ c .if2 .taken), laws.swapped (c .before .before .before .before .before .before .before .before .before .before .pre))
+returns-2 c =
+    let the-pre = c .before .before .before .before .before .before .before .before .before .before .pre in
+    (right-tells _ _ _ (the-pre .noted .other) (sym (c .before .is-right2 .ensures) ∙ c .if2 .taken), laws.swapped (the-pre))
 
 both-unset-requires : tie.Need-both-unset-requires
-both-unset-requires c κs = (laws.one-over (c .before .before .before .before .before .before .before .before .before .before .pre), laws.other-over (c .before .before .before .before .before .before .before .before .before .before .pre))
+both-unset-requires c κs =
+    let the-pre = c .before .before .before .before .before .before .before .before .before .before .pre in
+    (laws.one-over (the-pre), laws.other-over (the-pre))
 
 returns-3 : tie.Need-returns-3
 returns-3 c =
+    let the-pre = c .before .before .before .before .before .before .before .before .before .before .before .before .pre in
     let u = c .before .both-unset .ensures (c .if3 .taken) in
-    (unset-tell _ _ _ _ (c .before .before .before .before .before .before .before .before .before .before .before .before .pre .noted .one) (c .before .before .before .before .before .before .before .before .before .before .before .before .pre .noted .other) (u .0) (u .1) (u .2), laws.keeps-none)
+    (unset-tell _ _ _ _ (the-pre .noted .one) (the-pre .noted .other) (u .0) (u .1) (u .2), laws.keeps-none)
 
 scan-requires : tie.Need-scan-requires
 scan-requires c κs = (c .before .before .before .before .before .before .before .before .before .before .before .before .before .pre)

@@ -18,7 +18,9 @@ add-width : tie.Need-add-width Inv-pairs μ-pairs
 add-width c = search needs
 
 mul-pairs : tie.Need-mul-pairs Inv-pairs μ-pairs
-mul-pairs c = let h = few-pairs (c .before .before .pre .0 .few) (c .before .before .pre .0 .pushes-go .few) in search needs
+mul-pairs c =
+    let the-pre = c .before .before .pre in
+    let h = few-pairs (the-pre .0 .few) (the-pre .0 .pushes-go .few) in search needs
 
 pairs-holds : tie.Need-pairs-holds Inv-pairs μ-pairs
 pairs-holds c = looking _ _ _ _ _ _ _ _
@@ -93,7 +95,9 @@ rem-look : tie.Need-rem-look Inv-pairs μ-pairs
 rem-look c = search needs
 
 look-requires : tie.Need-look-requires Inv-pairs μ-pairs
-look-requires c κs = let p = c .before .before .before .before .before .before .before .before .before .before .before .before .pre in (p .0, p .1 .each _, p .2 .each _, first-there (c .before .before .before .before .before .before .before .before .before .before .before .before .args .n) (c .before .before .before .before .before .before .before .before .pairs-test .taken), second-there (c .before .before .before .before .before .before .before .before .before .before .before .before .args .n) _)
+look-requires c κs =
+    let the-args = c .before .before .before .before .before .before .before .before .before .before .before .before .args in
+    let p = c .before .before .before .before .before .before .before .before .before .before .before .before .pre in (p .0, p .1 .each _, p .2 .each _, first-there (the-args .n) (c .before .before .before .before .before .before .before .before .pairs-test .taken), second-there (the-args .n) _)
 
 add-u-2 : tie.Need-add-u-2 Inv-pairs μ-pairs
 add-u-2 c =

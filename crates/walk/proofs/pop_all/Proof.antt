@@ -23,7 +23,9 @@ add-pairs : tie.Need-add-pairs Inv-tops μ-tops
 add-pairs c = search needs
 
 mul-pairs : tie.Need-mul-pairs Inv-tops μ-tops
-mul-pairs c = let h = few-pairs (c .before .before .pre .5) (c .before .before .pre .2 .few) in search needs
+mul-pairs c =
+    let the-pre = c .before .before .pre in
+    let h = few-pairs (the-pre .5) (the-pre .2 .few) in search needs
 
 tops-holds : tie.Need-tops-holds Inv-tops μ-tops
 tops-holds c = popping-on _ _ _ _ _ _ _ _

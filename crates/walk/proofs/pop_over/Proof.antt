@@ -84,8 +84,9 @@ wide-requires-4 c κs = search needs
 
 after-return-requires : tie.Need-after-return-requires Inv-records μ-records
 after-return-requires c κs =
+    let the-args = c .before .before .before .before .before .before .before .before .before .before .before .before .before .args in
     let pre = c .before .before .before .before .before .before .before .before .before .before .before .before .before .pre in
-    (pre .2, pre .4, return-small (c .before .before .before .before .before .before .before .before .before .before .before .records .inv .place) (c .before .before .before .before .before .before .before .before .before .before .records-test .taken) (sym (c .before .before .before .before .before .before .before .if1 .left) ∙ c .before .before .before .before .before .before .before .before .wide .ensures) (c .before .before .wide3 .ensures) (c .before .before .before .before .before .wide2 .ensures) (c .wide4 .ensures) (pre .1) .1, below (c .before .before .before .before .before .before .before .before .before .before .before .before .before .args .y) (c .before .before .before .before .before .before .before .before .before .before .before .before .before .args .n))
+    (pre .2, pre .4, return-small (c .before .before .before .before .before .before .before .before .before .before .before .records .inv .place) (c .before .before .before .before .before .before .before .before .before .before .records-test .taken) (sym (c .before .before .before .before .before .before .before .if1 .left) ∙ c .before .before .before .before .before .before .before .before .wide .ensures) (c .before .before .wide3 .ensures) (c .before .before .before .before .before .wide2 .ensures) (c .wide4 .ensures) (pre .1) .1, below (the-args .y) (the-args .n))
 
 pair-requires : tie.Need-pair-requires Inv-records μ-records
 pair-requires c κs =
@@ -103,6 +104,7 @@ records-less-2 c = omega (arith, c .before .before .before .before .before .befo
 
 records-again-2 : tie.Need-records-again-2 Inv-records μ-records
 records-again-2 c =
+    let the-args = c .before .before .before .before .before .before .before .before .before .before .before .before .before .before .before .before .before .before .before .args in
     let pre = c .before .before .before .before .before .before .before .before .before .before .before .before .before .before .before .before .before .before .before .pre in
     let inv = c .before .before .before .before .before .before .before .before .before .before .before .before .before .before .before .before .before .records .inv in
     let inside = c .before .before .before .before .before .before .before .before .before .before .before .before .before .before .before .before .records-test .taken in
@@ -112,7 +114,7 @@ records-again-2 c =
     let wide3-gave = c .before .before .before .before .before .before .before .before .wide3 .ensures in
     let wide4-gave = c .before .before .before .before .before .before .wide4 .ensures in
     let after-return-gave = c .before .before .before .before .before .after-return .ensures in
-    pop-on inv inside (sym if1-told ∙ wide-gave) wide3-gave wide2-gave wide4-gave (back (c .before .before .before .before .before .before .before .before .before .before .before .before .before .before .before .before .before .before .before .args .y) (c .before .before .before .before .before .before .before .before .before .before .before .before .before .before .before .before .before .before .before .args .n) (c .before .before .before .before .before .before .before .before .before .before .if2 .left)) (after-return-gave .0) (c .before .before .before .before .pair .ensures .0) (pre .4) (return-small (inv .place) inside (sym if1-told ∙ wide-gave) wide3-gave wide2-gave wide4-gave (pre .1) .1) (below (c .before .before .before .before .before .before .before .before .before .before .before .before .before .before .before .before .before .before .before .args .y) (c .before .before .before .before .before .before .before .before .before .before .before .before .before .before .before .before .before .before .before .args .n)) (after-return-gave .1) (c .link .ensures)
+    pop-on inv inside (sym if1-told ∙ wide-gave) wide3-gave wide2-gave wide4-gave (back (the-args .y) (the-args .n) (c .before .before .before .before .before .before .before .before .before .before .if2 .left)) (after-return-gave .0) (c .before .before .before .before .pair .ensures .0) (pre .4) (return-small (inv .place) inside (sym if1-told ∙ wide-gave) wide3-gave wide2-gave wide4-gave (pre .1) .1) (below (the-args .y) (the-args .n)) (after-return-gave .1) (c .link .ensures)
 
 returns-2 : tie.Need-returns-2 Inv-records μ-records
 returns-2 c = c .before .records .inv .kept

@@ -5,7 +5,7 @@ use Prim.Native.Nat.{_*_, _%_, _^_, _<_}
 use native.Mathlib.Omega.{arith}
 use lib.Pow.{shl-exact}
 use lib.Count.{trailingZeros}
-use Rattle.lists.proofs.Lowest.{Lowest, trailing-lowest, bit-le}
+use Rattle.lists.proofs.Lowest.{LowestBit, trailing-lowest, bit-le}
 use Rattle.words.proofs.later_states.Statement.{statement}
 use Rattle.words.proofs.later_states.Tie as tie
 use Rattle.words.proofs.later_states.Reads as reads
@@ -14,7 +14,7 @@ use Rattle.words.proofs.later_states.Lts as lts
 abbrev Start : Type 0
 Start = lts.Start reads.Pre reads.Post
 
-lowest : (c : Start) → c .args .word ≢ 0 → (trailingZeros 64 (c .args .word) < 64) × Lowest (c .args .word) (trailingZeros 64 (c .args .word))
+lowest : (c : Start) → c .args .word ≢ 0 → (trailingZeros 64 (c .args .word) < 64) × LowestBit (c .args .word) (trailingZeros 64 (c .args .word))
 lowest c n = trailing-lowest 64 (c .args .word) (c .good .0 .1) n
 
 power : (c : Start) → c .args .word ≢ 0 → 1 * 2 ^ trailingZeros 64 (c .args .word) % 18446744073709551616 ≡ 2 ^ trailingZeros 64 (c .args .word)
@@ -30,7 +30,9 @@ shl-result : tie.Need-shl-result
 shl-result c = lowest (c .before) (c .if1 .left) .0
 
 sub-result : tie.Need-sub-result
-sub-result c = rw (power (c .before) (c .if1 .left)) (bit-le (c .before .args .word) (trailingZeros 64 (c .before .args .word)) (lowest (c .before) (c .if1 .left) .1 .own))
+sub-result c =
+    let the-args = c .before .args in
+    rw (power (c .before) (c .if1 .left)) (bit-le (the-args .word) (trailingZeros 64 (the-args .word)) (lowest (c .before) (c .if1 .left) .1 .own))
 
 returns-2 : tie.Need-returns-2
 returns-2 c = rw (power (c .before) (c .if1 .left))

@@ -1,5 +1,5 @@
 -- `writing::put_keys` meets its contract: the records of the keys from here on are still to be written. Assumes nothing.
-use Rattle.writing.specs.Keys.{lastBytes}
+use Rattle.writing.specs.Keys.{recordOf}
 use Rattle.writing.proofs.Keys.{length-last}
 use Rattle.writing.proofs.Writing.{Listing, listing, key-room, key-listed, listed, part-put, same-long}
 use mathlib.Core.Path.{ap, _∙_}
@@ -13,7 +13,7 @@ use Rattle.writing.proofs.put_keys.Statement.{statement}
 use Rattle.writing.proofs.put_keys.Tie as tie
 
 abbrev Inv-keys : tie.InvT-keys
-Inv-keys width keys out₀ at₀ i₀ out at i = Listing (lastBytes width) keys (over (gather (lastBytes width) keys) out₀) out at i
+Inv-keys width keys out₀ at₀ i₀ out at i = Listing (recordOf width) keys (over (gather (recordOf width) keys) out₀) out at i
 
 abbrev μ-keys : tie.MeasureT-keys
 μ-keys width keys out₀ at₀ i₀ out at i = length keys - i
@@ -41,10 +41,11 @@ put-key-requires c κs = let h = key-room (c .before .before .before .keys .inv)
 
 add-at : tie.Need-add-at Inv-keys μ-keys
 add-at c =
+    let the-keys = c .before .before .before .before .before .before .keys in
     let a = c .before .before .before .before .before .before .before .before .before in
-    let h = key-room (c .before .before .before .before .before .before .keys .inv) (λ k. length-last (a .args .width) k (a .pre .0)) (c .before .before .before .before .before .keys-test .taken) in
-    let k = same-long (c .before .before .before .before .before .before .keys .inv .rest) in
-    omega (arith, h, k, length-over (gather (lastBytes (a .args .width)) (a .args .keys .now)) (a .args .out .now) (a .pre .1), a .good .1 .1 .0 .0)
+    let h = key-room (the-keys .inv) (λ k. length-last (a .args .width) k (a .pre .0)) (c .before .before .before .before .before .keys-test .taken) in
+    let k = same-long (the-keys .inv .rest) in
+    omega (arith, h, k, length-over (gather (recordOf (a .args .width)) (a .args .keys .now)) (a .args .out .now) (a .pre .1), a .good .1 .1 .0 .0)
 
 add-i : tie.Need-add-i Inv-keys μ-keys
 add-i c = search needs
@@ -53,7 +54,9 @@ keys-less : tie.Need-keys-less Inv-keys μ-keys
 keys-less c = search needs
 
 keys-again : tie.Need-keys-again Inv-keys μ-keys
-keys-again c = key-listed (c .before .before .before .before .before .before .keys .inv) (λ k. length-last (c .before .before .before .before .before .before .before .before .before .args .width) k (c .before .before .before .before .before .before .before .before .before .pre .0)) (c .before .before .before .before .before .keys-test .taken) (part-put _ (c .before .before .before .before .before .before .keys .out) (c .before .before .before .before .before .before .keys .at) (c .before .before .put-key .ensures))
+keys-again c =
+    let the-keys = c .before .before .before .before .before .before .keys in
+    key-listed (the-keys .inv) (λ k. length-last (c .before .before .before .before .before .before .before .before .before .args .width) k (c .before .before .before .before .before .before .before .before .before .pre .0)) (c .before .before .before .before .before .keys-test .taken) (part-put _ (the-keys .out) (the-keys .at) (c .before .before .put-key .ensures))
 
 same-length : tie.Need-same-length Inv-keys μ-keys
 same-length c = ap length (listed (c .before .keys .inv) (c .keys-test .left)) ∙ length-over _ _ (c .before .before .before .before .pre .1)

@@ -1,5 +1,5 @@
 -- `writing::put_table` meets its contract: what is still to be written behind each section. Assumes nothing.
-use Rattle.writing.specs.Keys.{lastBytes}
+use Rattle.writing.specs.Keys.{recordOf}
 use Rattle.writing.specs.Tables.{keyedTable, trailerFrom}
 use Rattle.writing.proofs.Whole.{gather-long, behindReturns, behindCalls, behindInternals, behindStates, behindSymbols, bytes-apart, length-trailer, bytes-long}
 use Rattle.writing.proofs.Writing.{Writing, begun, written, part-room, finished, part-put, same-long}
@@ -61,10 +61,14 @@ abbrev at3 : tie.After-slice-known3 → ℕ
 at3 c = at2 (c .before .before .before .before) + length (start3 c .args .states .now)
 
 abbrev out3 : tie.After-slice-known3 → List ℕ
-out3 c = back (out2 (c .before .before .before .before)) (at2 (c .before .before .before .before)) (c .before .before .put-bytes2 .last .1 .0)
+out3 c =
+    let the-before = c .before .before .before .before in
+    back (out2 (the-before)) (at2 (the-before)) (c .before .before .put-bytes2 .last .1 .0)
 
 states-put : (c : tie.After-slice-known3) → Writing (behind (start3 c) behindStates) (end (start3 c)) (out3 c) (at3 c)
-states-put c = let a = start3 c in written (states a) (symbols-put (c .before .before .before .before)) refl refl (part-put _ _ (at2 (c .before .before .before .before)) (c .before .before .put-bytes2 .ensures))
+states-put c =
+    let the-before = c .before .before .before .before in
+    let a = start3 c in written (states a) (symbols-put (the-before)) refl refl (part-put _ _ (at2 (the-before)) (c .before .before .put-bytes2 .ensures))
 
 abbrev start4 : tie.After-slice-known4 → tie.Start
 start4 c = c .before .before .before .before .before .before .before .before .before .before .before .before .before .before .before .before .before .before
@@ -73,10 +77,14 @@ abbrev at4 : tie.After-slice-known4 → ℕ
 at4 c = at3 (c .before .before .before .before) + 3 * length (start4 c .args .internals .now)
 
 abbrev out4 : tie.After-slice-known4 → List ℕ
-out4 c = back (out3 (c .before .before .before .before)) (at3 (c .before .before .before .before)) (c .before .before .put-keys .last .1 .1 .0)
+out4 c =
+    let the-before = c .before .before .before .before in
+    back (out3 (the-before)) (at3 (the-before)) (c .before .before .put-keys .last .1 .1 .0)
 
 internals-put : (c : tie.After-slice-known4) → Writing (behind (start4 c) behindInternals) (end (start4 c)) (out4 c) (at4 c)
-internals-put c = let a = start4 c in written (gather (lastBytes 3) (a .args .internals .now)) (states-put (c .before .before .before .before)) refl (gather-long 3 (lastBytes 3) (λ k. length-last 3 k (omega arith)) (a .args .internals .now)) (part-put _ _ (at3 (c .before .before .before .before)) (c .before .before .put-keys .ensures))
+internals-put c =
+    let the-before = c .before .before .before .before in
+    let a = start4 c in written (gather (recordOf 3) (a .args .internals .now)) (states-put (the-before)) refl (gather-long 3 (recordOf 3) (λ k. length-last 3 k (omega arith)) (a .args .internals .now)) (part-put _ _ (at3 (the-before)) (c .before .before .put-keys .ensures))
 
 abbrev start5 : tie.After-slice-known5 → tie.Start
 start5 c = c .before .before .before .before .before .before .before .before .before .before .before .before .before .before .before .before .before .before .before .before .before .before
@@ -85,10 +93,14 @@ abbrev at5 : tie.After-slice-known5 → ℕ
 at5 c = at4 (c .before .before .before .before) + 3 * length (start5 c .args .calls .now)
 
 abbrev out5 : tie.After-slice-known5 → List ℕ
-out5 c = back (out4 (c .before .before .before .before)) (at4 (c .before .before .before .before)) (c .before .before .put-keys2 .last .1 .1 .0)
+out5 c =
+    let the-before = c .before .before .before .before in
+    back (out4 (the-before)) (at4 (the-before)) (c .before .before .put-keys2 .last .1 .1 .0)
 
 calls-put : (c : tie.After-slice-known5) → Writing (behind (start5 c) behindCalls) (end (start5 c)) (out5 c) (at5 c)
-calls-put c = let a = start5 c in written (gather (lastBytes 3) (a .args .calls .now)) (internals-put (c .before .before .before .before)) refl (gather-long 3 (lastBytes 3) (λ k. length-last 3 k (omega arith)) (a .args .calls .now)) (part-put _ _ (at4 (c .before .before .before .before)) (c .before .before .put-keys2 .ensures))
+calls-put c =
+    let the-before = c .before .before .before .before in
+    let a = start5 c in written (gather (recordOf 3) (a .args .calls .now)) (internals-put (the-before)) refl (gather-long 3 (recordOf 3) (λ k. length-last 3 k (omega arith)) (a .args .calls .now)) (part-put _ _ (at4 (the-before)) (c .before .before .put-keys2 .ensures))
 
 abbrev start6 : tie.After-slice-known6 → tie.Start
 start6 c = c .before .before .before .before .before .before .before .before .before .before .before .before .before .before .before .before .before .before .before .before .before .before .before .before .before .before
@@ -97,10 +109,14 @@ abbrev at6 : tie.After-slice-known6 → ℕ
 at6 c = at5 (c .before .before .before .before) + 4 * length (start6 c .args .returns .now)
 
 abbrev out6 : tie.After-slice-known6 → List ℕ
-out6 c = back (out5 (c .before .before .before .before)) (at5 (c .before .before .before .before)) (c .before .before .put-keys3 .last .1 .1 .0)
+out6 c =
+    let the-before = c .before .before .before .before in
+    back (out5 (the-before)) (at5 (the-before)) (c .before .before .put-keys3 .last .1 .1 .0)
 
 returns-put : (c : tie.After-slice-known6) → Writing (behind (start6 c) behindReturns) (end (start6 c)) (out6 c) (at6 c)
-returns-put c = let a = start6 c in written (gather (lastBytes 4) (a .args .returns .now)) (calls-put (c .before .before .before .before)) refl (gather-long 4 (lastBytes 4) (λ k. length-last 4 k (omega arith)) (a .args .returns .now)) (part-put _ _ (at5 (c .before .before .before .before)) (c .before .before .put-keys3 .ensures))
+returns-put c =
+    let the-before = c .before .before .before .before in
+    let a = start6 c in written (gather (recordOf 4) (a .args .returns .now)) (calls-put (the-before)) refl (gather-long 4 (recordOf 4) (λ k. length-last 4 k (omega arith)) (a .args .returns .now)) (part-put _ _ (at5 (the-before)) (c .before .before .put-keys3 .ensures))
 
 abbrev start7 : tie.After-slice-known7 → tie.Start
 start7 c = c .before .before .before .before .before .before .before .before .before .before .before .before .before .before .before .before .before .before .before .before .before .before .before .before .before .before .before .before .before .before
@@ -109,13 +125,16 @@ abbrev at7 : tie.After-slice-known7 → ℕ
 at7 c = at6 (c .before .before .before .before) + 12
 
 abbrev out7 : tie.After-slice-known7 → List ℕ
-out7 c = back (out6 (c .before .before .before .before)) (at6 (c .before .before .before .before)) (c .before .before .put-trailer .last .1 .1 .1 .1 .1 .1 .0)
+out7 c =
+    let the-before = c .before .before .before .before in
+    back (out6 (the-before)) (at6 (the-before)) (c .before .before .put-trailer .last .1 .1 .1 .1 .1 .1 .0)
 
 all-put : (c : tie.After-slice-known7) → Writing [] (end (start7 c)) (out7 c) (at7 c)
 all-put c =
+    let the-before = c .before .before .before .before in
     let a = start7 c in
     let t = trailerFrom (a .args .version) (length (a .args .symbols .now)) (length (states a)) (length (a .args .internals .now)) (length (a .args .calls .now)) (length (a .args .returns .now)) in
-    written (behind a behindReturns) (returns-put (c .before .before .before .before)) (sym (append-nil (behind a behindReturns))) (length-trailer (a .args .version) (a .args .symbols .now) (states a) (a .args .internals .now) (a .args .calls .now) (a .args .returns .now)) (part-put t (out6 (c .before .before .before .before)) (at6 (c .before .before .before .before)) (c .before .before .put-trailer .ensures))
+    written (behind a behindReturns) (returns-put (the-before)) (sym (append-nil (behind a behindReturns))) (length-trailer (a .args .version) (a .args .symbols .now) (states a) (a .args .internals .now) (a .args .calls .now) (a .args .returns .now)) (part-put t (out6 (the-before)) (at6 (the-before)) (c .before .before .put-trailer .ensures))
 
 -- ---- the needs
 
@@ -147,7 +166,7 @@ part-put-keys-end : tie.Need-part-put-keys-end
 part-put-keys-end c = search needs
 
 put-keys-requires : tie.Need-put-keys-requires
-put-keys-requires c κs = let a = c .before .before .before .before .before .before .before .before .before .before .before .before .before .before .before in (omega arith, part-room (gather (lastBytes 3) (a .args .internals .now)) (behind a behindInternals) (states-put (c .before)) refl)
+put-keys-requires c κs = let a = c .before .before .before .before .before .before .before .before .before .before .before .before .before .before .before in (omega arith, part-room (gather (recordOf 3) (a .args .internals .now)) (behind a behindInternals) (states-put (c .before)) refl)
 
 mul-at : tie.Need-mul-at
 mul-at c = omega (arith, internals-put c .room, same-long (internals-put c), end-long (start4 c))
@@ -165,7 +184,7 @@ part-put-keys-end-2 : tie.Need-part-put-keys-end-2
 part-put-keys-end-2 c = search needs
 
 put-keys-requires-2 : tie.Need-put-keys-requires-2
-put-keys-requires-2 c κs = let a = c .before .before .before .before .before .before .before .before .before .before .before .before .before .before .before .before .before .before .before in (omega arith, part-room (gather (lastBytes 3) (a .args .calls .now)) (behind a behindCalls) (internals-put (c .before)) refl)
+put-keys-requires-2 c κs = let a = c .before .before .before .before .before .before .before .before .before .before .before .before .before .before .before .before .before .before .before in (omega arith, part-room (gather (recordOf 3) (a .args .calls .now)) (behind a behindCalls) (internals-put (c .before)) refl)
 
 mul-at-2 : tie.Need-mul-at-2
 mul-at-2 c = omega (arith, calls-put c .room, same-long (calls-put c), end-long (start5 c))
@@ -183,7 +202,7 @@ part-put-keys-end-3 : tie.Need-part-put-keys-end-3
 part-put-keys-end-3 c = search needs
 
 put-keys-requires-3 : tie.Need-put-keys-requires-3
-put-keys-requires-3 c κs = let a = c .before .before .before .before .before .before .before .before .before .before .before .before .before .before .before .before .before .before .before .before .before .before .before in (omega arith, part-room (gather (lastBytes 4) (a .args .returns .now)) (behind a behindReturns) (calls-put (c .before)) refl)
+put-keys-requires-3 c κs = let a = c .before .before .before .before .before .before .before .before .before .before .before .before .before .before .before .before .before .before .before .before .before .before .before in (omega arith, part-room (gather (recordOf 4) (a .args .returns .now)) (behind a behindReturns) (calls-put (c .before)) refl)
 
 mul-at-3 : tie.Need-mul-at-3
 mul-at-3 c = omega (arith, returns-put c .room, same-long (returns-put c), end-long (start6 c))

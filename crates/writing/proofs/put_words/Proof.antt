@@ -40,9 +40,10 @@ put-word-requires c κs = let h = key-room (c .before .before .before .words .in
 
 add-at : tie.Need-add-at Inv-words μ-words
 add-at c =
+    let the-words = c .before .before .before .before .before .before .words in
     let a = c .before .before .before .before .before .before .before .before .before in
-    let h = key-room (c .before .before .before .before .before .before .words .inv) length-word (c .before .before .before .before .before .words-test .taken) in
-    let k = same-long (c .before .before .before .before .before .before .words .inv .rest) in
+    let h = key-room (the-words .inv) length-word (c .before .before .before .before .before .words-test .taken) in
+    let k = same-long (the-words .inv .rest) in
     omega (arith, h, k, length-over (gather bytes16 (a .args .words .now)) (a .args .out .now) (a .pre), a .good .1 .0 .0)
 
 add-i : tie.Need-add-i Inv-words μ-words
@@ -52,7 +53,9 @@ words-less : tie.Need-words-less Inv-words μ-words
 words-less c = search needs
 
 words-again : tie.Need-words-again Inv-words μ-words
-words-again c = key-listed (c .before .before .before .before .before .before .words .inv) length-word (c .before .before .before .before .before .words-test .taken) (part-put _ (c .before .before .before .before .before .before .words .out) (c .before .before .before .before .before .before .words .at) (c .before .before .put-word .ensures))
+words-again c =
+    let the-words = c .before .before .before .before .before .before .words in
+    key-listed (the-words .inv) length-word (c .before .before .before .before .before .words-test .taken) (part-put _ (the-words .out) (the-words .at) (c .before .before .put-word .ensures))
 
 same-length : tie.Need-same-length Inv-words μ-words
 same-length c = ap length (listed (c .before .words .inv) (c .words-test .left)) ∙ length-over _ _ (c .before .before .before .before .pre)

@@ -13,10 +13,14 @@ held-requires : tie.Need-held-requires
 held-requires c κs = search needs
 
 returns : tie.Need-returns
-returns c = λ F h. c .held .ensures F h ∙ ap (λ (b : Bool). b && has F (c .before .before .before .args .u) (c .before .before .before .args .bottom)) (sym (c .before .if1 .taken) ∙ c .before .before .accepts .ensures)
+returns c =
+    let the-args = c .before .before .before .args in
+    λ F h. c .held .ensures F h ∙ ap (λ (b : Bool). b && has F (the-args .u) (the-args .bottom)) (sym (c .before .if1 .taken) ∙ c .before .before .accepts .ensures)
 
 returns-2 : tie.Need-returns-2
-returns-2 c = λ F h. ap (λ (b : Bool). b && has F (c .before .before .args .u) (c .before .before .args .bottom)) (sym (c .if1 .left) ∙ c .before .accepts .ensures)
+returns-2 c =
+    let the-args = c .before .before .args in
+    λ F h. ap (λ (b : Bool). b && has F (the-args .u) (the-args .bottom)) (sym (c .if1 .left) ∙ c .before .accepts .ensures)
 
 pub ends-at-spec : {M : Type 1} → statement M
 ends-at-spec = tie.close (tie.spec accepts-requires held-requires returns returns-2)

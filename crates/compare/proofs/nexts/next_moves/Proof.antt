@@ -40,13 +40,16 @@ moves-less : tie.Need-moves-less Inv-moves μ-moves
 moves-less c = search needs
 
 moves-again : tie.Need-moves-again Inv-moves μ-moves
-moves-again c = fill-on (c .before .before .before .before .before .moves .inv) (c .before .before .before .before .moves-test .taken) (c .target-of .ensures _ (c .before .move-key .ensures) ∙ (λ j. after (records 3 (c .before .before .before .before .before .before .before .args .section .now)) (c .before .before .before .before .before .before .before .args .sink) (c .before .before .before .narrow .ensures j ∷ c .before .before .narrow2 .ensures j ∷ [])))
+moves-again c =
+    let the-args = c .before .before .before .before .before .before .before .args in
+    fill-on (c .before .before .before .before .before .moves .inv) (c .before .before .before .before .moves-test .taken) (c .target-of .ensures _ (c .before .move-key .ensures) ∙ (λ j. after (records 3 (the-args .section .now)) (the-args .sink) (c .before .before .before .narrow .ensures j ∷ c .before .before .narrow2 .ensures j ∷ [])))
 
 returns : tie.Need-returns Inv-moves μ-moves
 returns c =
+    let the-moves = c .before .moves in
     let p = c .before .before .before .pre in
-    let d = filled (c .before .moves .inv) (c .moves-test .left) in
-    (next-moves (p .few) d, moves-most p (c .before .moves .inv .long) d)
+    let d = filled (the-moves .inv) (c .moves-test .left) in
+    (next-moves (p .few) d, moves-most p (the-moves .inv .long) d)
 
 pub next-moves-spec : {M : Type 1} → statement M
 next-moves-spec =

@@ -43,13 +43,16 @@ returns-less : tie.Need-returns-less Inv-returns μ-returns
 returns-less c = search needs
 
 returns-again : tie.Need-returns-again Inv-returns μ-returns
-returns-again c = fill-on (c .before .before .before .before .before .before .returns .inv) (c .before .before .before .before .before .returns-test .taken) (c .target-of .ensures _ (c .before .return-key .ensures) ∙ (λ j. after (records 4 (c .before .before .before .before .before .before .before .before .args .section .now)) (c .before .before .before .before .before .before .before .before .args .sink) (c .before .before .before .before .narrow .ensures j ∷ c .before .before .before .narrow2 .ensures j ∷ c .before .before .narrow3 .ensures j ∷ [])))
+returns-again c =
+    let the-args = c .before .before .before .before .before .before .before .before .args in
+    fill-on (c .before .before .before .before .before .before .returns .inv) (c .before .before .before .before .before .returns-test .taken) (c .target-of .ensures _ (c .before .return-key .ensures) ∙ (λ j. after (records 4 (the-args .section .now)) (the-args .sink) (c .before .before .before .before .narrow .ensures j ∷ c .before .before .before .narrow2 .ensures j ∷ c .before .before .narrow3 .ensures j ∷ [])))
 
 returns : tie.Need-returns Inv-returns μ-returns
 returns c =
+    let the-returns = c .before .returns in
     let p = c .before .before .before .pre in
-    let d = filled (c .before .returns .inv) (c .returns-test .left) in
-    (next-returns (p .few) d, returns-most p (c .before .returns .inv .long) d)
+    let d = filled (the-returns .inv) (c .returns-test .left) in
+    (next-returns (p .few) d, returns-most p (the-returns .inv .long) d)
 
 pub next-returns-spec : {M : Type 1} → statement M
 next-returns-spec =

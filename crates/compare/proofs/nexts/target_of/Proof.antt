@@ -9,7 +9,10 @@ starting-requires : tie.Need-starting-requires
 starting-requires c κs = search needs
 
 returns : tie.Need-returns
-returns c = λ k d. no-target (c .before .before .before .args .section .now) k (c .before .starting .result .now) (d .long) (c .before .starting .ensures k d (c .before .before .before .pre .1)) (c .before .before .before .args .sink) (c .if1 .taken)
+returns c =
+    let the-starting = c .before .starting in
+    let the-args = c .before .before .before .args in
+    λ k d. no-target (the-args .section .now) k (the-starting .result .now) (d .long) (the-starting .ensures k d (c .before .before .before .pre .1)) (the-args .sink) (c .if1 .taken)
 
 sub-result : tie.Need-sub-result
 sub-result c = search needs
@@ -18,7 +21,10 @@ shared-slice-read-result : tie.Need-shared-slice-read-result
 shared-slice-read-result c = search needs
 
 returns-2 : tie.Need-returns-2
-returns-2 c = λ k d. a-target (c .before .before .before .before .args .section .now) k (c .before .before .starting .result .now) (d .long) (c .before .before .starting .ensures k d (c .before .before .before .before .pre .1)) (c .before .before .before .before .args .sink) (omega (arith, c .before .if1 .left))
+returns-2 c =
+    let the-starting = c .before .before .starting in
+    let the-args = c .before .before .before .before .args in
+    λ k d. a-target (the-args .section .now) k (the-starting .result .now) (d .long) (the-starting .ensures k d (c .before .before .before .before .pre .1)) (the-args .sink) (omega (arith, c .before .if1 .left))
 
 pub target-of-spec : {M : Type 1} → statement M
 target-of-spec =

@@ -16,16 +16,24 @@ add-pairs : tie.Need-add-pairs Inv-rounds μ-rounds
 add-pairs c = search needs
 
 mul-pairs : tie.Need-mul-pairs Inv-rounds μ-rounds
-mul-pairs c = let h = few-pairs (c .before .before .before .pre .6) (c .before .before .before .pre .3 .few) in search needs
+mul-pairs c =
+    let the-pre = c .before .before .before .pre in
+    let h = few-pairs (the-pre .6) (the-pre .3 .few) in search needs
 
 add-left : tie.Need-add-left Inv-rounds μ-rounds
-add-left c = let h = few-pairs (c .before .before .before .pre .6) (c .before .before .before .pre .3 .few) in search needs
+add-left c =
+    let the-pre = c .before .before .before .pre in
+    let h = few-pairs (the-pre .6) (the-pre .3 .few) in search needs
 
 mul-left : tie.Need-mul-left Inv-rounds μ-rounds
-mul-left c = let h = few-pairs (c .before .before .before .pre .6) (c .before .before .before .pre .3 .few) in let r = few-rounds h in search needs
+mul-left c =
+    let the-pre = c .before .before .before .pre in
+    let h = few-pairs (the-pre .6) (the-pre .3 .few) in let r = few-rounds h in search needs
 
 add-left-2 : tie.Need-add-left-2 Inv-rounds μ-rounds
-add-left-2 c = let h = few-pairs (c .before .before .before .pre .6) (c .before .before .before .pre .3 .few) in let r = few-rounds h in search needs
+add-left-2 c =
+    let the-pre = c .before .before .before .pre in
+    let h = few-pairs (the-pre .6) (the-pre .3 .few) in let r = few-rounds h in search needs
 
 rounds-holds : tie.Need-rounds-holds Inv-rounds μ-rounds
 rounds-holds c = resting _ _ _ _ _ _ _ _ _
@@ -49,7 +57,9 @@ same-rows-requires : tie.Need-same-rows-requires Inv-rounds μ-rounds
 same-rows-requires c κs = search needs
 
 returns : tie.Need-returns Inv-rounds μ-rounds
-returns c = rested (c .before .before .before .before .before .before .before .before .before .before .before .rounds .inv) (c .before .before .before .before .before .before .before .before .before .before .rounds-test .taken) (λ s t d. round-turns d (c .before .before .before .before .before .before .before .by-moves .ensures (t .internals) (d .moves-are) (c .before .before .before .before .before .before .before .before .before .before .before .before .before .before .before .args .k) (d .internals-named)) (c .before .before .before .before .before .by-moves2 .ensures (t .calls) (d .pushes-are) (c .before .before .before .before .before .before .before .before .before .before .before .before .before .before .before .args .k) (d .calls-named)) (c .before .before .before .by-returns .ensures (t .returns) (d .pops-are) (c .before .before .before .before .before .before .before .before .before .before .before .before .before .before .before .args .k) (d .returns-named))) (sym (c .before .same-rows .ensures) ∙ c .if1 .taken)
+returns c =
+    let the-args = c .before .before .before .before .before .before .before .before .before .before .before .before .before .before .before .args in
+    rested (c .before .before .before .before .before .before .before .before .before .before .before .rounds .inv) (c .before .before .before .before .before .before .before .before .before .before .rounds-test .taken) (λ s t d. round-turns d (c .before .before .before .before .before .before .before .by-moves .ensures (t .internals) (d .moves-are) (the-args .k) (d .internals-named)) (c .before .before .before .before .before .by-moves2 .ensures (t .calls) (d .pushes-are) (the-args .k) (d .calls-named)) (c .before .before .before .by-returns .ensures (t .returns) (d .pops-are) (the-args .k) (d .returns-named))) (sym (c .before .same-rows .ensures) ∙ c .if1 .taken)
 
 sub-left : tie.Need-sub-left Inv-rounds μ-rounds
 sub-left c = search needs
@@ -58,7 +68,9 @@ rounds-less : tie.Need-rounds-less Inv-rounds μ-rounds
 rounds-less c = search needs
 
 rounds-again : tie.Need-rounds-again Inv-rounds μ-rounds
-rounds-again c = rest-on (c .before .before .before .before .before .before .before .before .before .before .before .rounds .inv) (c .before .before .before .before .before .before .before .before .before .before .rounds-test .taken) (λ s t d. round-turns d (c .before .before .before .before .before .before .before .by-moves .ensures (t .internals) (d .moves-are) (c .before .before .before .before .before .before .before .before .before .before .before .before .before .before .before .args .k) (d .internals-named)) (c .before .before .before .before .before .by-moves2 .ensures (t .calls) (d .pushes-are) (c .before .before .before .before .before .before .before .before .before .before .before .before .before .before .before .args .k) (d .calls-named)) (c .before .before .before .by-returns .ensures (t .returns) (d .pops-are) (c .before .before .before .before .before .before .before .before .before .before .before .before .before .before .before .args .k) (d .returns-named))) (sym (c .before .same-rows .ensures) ∙ c .if1 .left)
+rounds-again c =
+    let the-args = c .before .before .before .before .before .before .before .before .before .before .before .before .before .before .before .args in
+    rest-on (c .before .before .before .before .before .before .before .before .before .before .before .rounds .inv) (c .before .before .before .before .before .before .before .before .before .before .rounds-test .taken) (λ s t d. round-turns d (c .before .before .before .before .before .before .before .by-moves .ensures (t .internals) (d .moves-are) (the-args .k) (d .internals-named)) (c .before .before .before .before .before .by-moves2 .ensures (t .calls) (d .pushes-are) (the-args .k) (d .calls-named)) (c .before .before .before .by-returns .ensures (t .returns) (d .pops-are) (the-args .k) (d .returns-named))) (sym (c .before .same-rows .ensures) ∙ c .if1 .left)
 
 returns-2 : tie.Need-returns-2 Inv-rounds μ-rounds
 returns-2 c = spent (c .before .rounds .inv) (c .rounds-test .left)

@@ -9,7 +9,9 @@ contains-requires : tie.Need-contains-requires
 contains-requires c κs = search needs
 
 returns : tie.Need-returns
-returns c = (kept-literal _ _ (c .before .before .before .pre .1) (c .before .before .before .pre .0) (sym (c .before .contains .ensures) ∙ c .if1 .taken), c .before .before .before .pre .1)
+returns c =
+    let the-pre = c .before .before .before .pre in
+    (kept-literal _ _ (the-pre .1) (the-pre .0) (sym (c .before .contains .ensures) ∙ c .if1 .taken), the-pre .1)
 
 mul-words : tie.Need-mul-words
 mul-words c = search needs
@@ -21,7 +23,9 @@ add-result : tie.Need-add-result
 add-result c = search needs
 
 returns-2 : tie.Need-returns-2
-returns-2 c = (new-literal _ _ (c .before .before .before .pre .1) (c .before .before .before .pre .0) (sym (c .before .contains .ensures) ∙ c .if1 .left), search needs)
+returns-2 c =
+    let the-pre = c .before .before .before .pre in
+    (new-literal _ _ (the-pre .1) (the-pre .0) (sym (c .before .contains .ensures) ∙ c .if1 .left), search needs)
 
 pub add-literal-spec : {M : Type 1} → statement M
 add-literal-spec =

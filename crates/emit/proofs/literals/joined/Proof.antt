@@ -11,7 +11,9 @@ variable-of-requires c κs = search needs
 
 -- src/literals.rt:20:5
 mul-result : tie.Need-mul-result
-mul-result c = omega (arith, c .variable-of .ensures, variable-byte (c .before .args .p) (c .before .args .q) (search needs) (search needs))
+mul-result c =
+    let the-args = c .before .args in
+    omega (arith, c .variable-of .ensures, variable-byte (the-args .p) (the-args .q) (search needs) (search needs))
 
 -- src/literals.rt:17:1
 returns : tie.Need-returns

@@ -11,11 +11,15 @@ variable-of-requires c κs = search needs
 
 -- src/literals.rt:27:5
 mul-result : tie.Need-mul-result
-mul-result c = omega (arith, c .variable-of .ensures, variable-byte (c .before .args .p) (c .before .args .q) (search needs) (search needs))
+mul-result c =
+    let the-args = c .before .args in
+    omega (arith, c .variable-of .ensures, variable-byte (the-args .p) (the-args .q) (search needs) (search needs))
 
 -- src/literals.rt:27:5
 add-result : tie.Need-add-result
-add-result c = omega (arith, c .variable-of .ensures, variable-byte (c .before .args .p) (c .before .args .q) (search needs) (search needs))
+add-result c =
+    let the-args = c .before .args in
+    omega (arith, c .variable-of .ensures, variable-byte (the-args .p) (the-args .q) (search needs) (search needs))
 
 -- src/literals.rt:24:1
 returns : tie.Need-returns

@@ -64,7 +64,9 @@ records-less-2 : tie.Need-records-less-2 Inv-records μ-records
 records-less-2 c = omega (arith, c .before .before .before .before .records-test .taken)
 
 records-again-2 : tie.Need-records-again-2 Inv-records μ-records
-records-again-2 c = taken (c .before .before .before .before .before .records .inv) (omega (arith, c .before .before .before .before .records-test .taken, sizes (c .before .before .before .before .before .before) .all)) (c .before .before .before .step .ensures) (omega (arith, c .before .before .if1 .left)) (omega (arith, c .before .before .before .before .before .records .inv .few, c .before .if2 .left)) (c .key-at .ensures)
+records-again-2 c =
+    let the-records = c .before .before .before .before .before .records in
+    taken (the-records .inv) (omega (arith, c .before .before .before .before .records-test .taken, sizes (c .before .before .before .before .before .before) .all)) (c .before .before .before .step .ensures) (omega (arith, c .before .before .if1 .left)) (omega (arith, the-records .inv .few, c .before .if2 .left)) (c .key-at .ensures)
 
 same-length-2 : tie.Need-same-length-2 Inv-records μ-records
 same-length-2 c = c .before .records .inv .same-room

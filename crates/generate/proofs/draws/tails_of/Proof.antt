@@ -7,7 +7,9 @@ use Rattle.generate.proofs.draws.tails_of.Statement.{statement}
 use Rattle.generate.proofs.draws.tails_of.Tie as tie
 
 returns : tie.Need-returns
-returns c = sym (ap (λ w. tails w (c .before .args .states)) (c .if1 .taken) ∙ tails-move (c .before .args .states))
+returns c =
+    let the-args = c .before .args in
+    sym (ap (λ w. tails w (the-args .states)) (c .if1 .taken) ∙ tails-move (the-args .states))
 
 mul-result : tie.Need-mul-result
 mul-result c = omega (arith, square (c .before .pre))

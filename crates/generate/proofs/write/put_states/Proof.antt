@@ -22,7 +22,9 @@ state-byte-requires : tie.Need-state-byte-requires Inv-states μ-states
 state-byte-requires c κs = search needs
 
 slice-write-out : tie.Need-slice-write-out Inv-states μ-states
-slice-write-out c = let a = c .before .before .before .before in omega (arith, c .before .states-test .taken, length-states (a .args .states), c .before .before .states .inv .room, laws.same-length (c .before .before .states .inv))
+slice-write-out c =
+    let the-states = c .before .before .states in
+    let a = c .before .before .before .before in omega (arith, c .before .states-test .taken, length-states (a .args .states), the-states .inv .room, laws.same-length (the-states .inv))
 
 add-q : tie.Need-add-q Inv-states μ-states
 add-q c = search needs
@@ -31,7 +33,10 @@ states-less : tie.Need-states-less Inv-states μ-states
 states-less c = search needs
 
 states-again : tie.Need-states-again Inv-states μ-states
-states-again c = let a = c .before .before .before .before in rw (c .state-byte .ensures ∙ state-at (a .args .states) (c .before .before .states .q) (c .before .states-test .taken)) (laws.write-on (c .before .before .states .inv) (omega (arith, c .before .states-test .taken, length-states (a .args .states))))
+states-again c =
+    let the-states-test = c .before .states-test in
+    let the-states = c .before .before .states in
+    let a = c .before .before .before .before in rw (c .state-byte .ensures ∙ state-at (a .args .states) (the-states .q) (the-states-test .taken)) (laws.write-on (the-states .inv) (omega (arith, the-states-test .taken, length-states (a .args .states))))
 
 same-length : tie.Need-same-length Inv-states μ-states
 same-length c = laws.same-length (c .before .states .inv)

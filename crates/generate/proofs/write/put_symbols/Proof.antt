@@ -22,7 +22,9 @@ kind-of-requires : tie.Need-kind-of-requires Inv-symbols μ-symbols
 kind-of-requires c κs = c .before .before .before .pre .0
 
 slice-write-out : tie.Need-slice-write-out Inv-symbols μ-symbols
-slice-write-out c = let a = c .before .before .before .before in omega (arith, c .before .symbols-test .taken, length-symbols (a .args .internals) (a .args .calls) (a .args .symbols), c .before .before .symbols .inv .room, laws.same-length (c .before .before .symbols .inv))
+slice-write-out c =
+    let the-symbols = c .before .before .symbols in
+    let a = c .before .before .before .before in omega (arith, c .before .symbols-test .taken, length-symbols (a .args .internals) (a .args .calls) (a .args .symbols), the-symbols .inv .room, laws.same-length (the-symbols .inv))
 
 add-a : tie.Need-add-a Inv-symbols μ-symbols
 add-a c = search needs
@@ -31,7 +33,10 @@ symbols-less : tie.Need-symbols-less Inv-symbols μ-symbols
 symbols-less c = search needs
 
 symbols-again : tie.Need-symbols-again Inv-symbols μ-symbols
-symbols-again c = let a = c .before .before .before .before in rw (c .kind-of .ensures ∙ symbol-at (a .args .internals) (a .args .calls) (a .args .symbols) (c .before .before .symbols .a) (c .before .symbols-test .taken)) (laws.write-on (c .before .before .symbols .inv) (omega (arith, c .before .symbols-test .taken, length-symbols (a .args .internals) (a .args .calls) (a .args .symbols))))
+symbols-again c =
+    let the-symbols-test = c .before .symbols-test in
+    let the-symbols = c .before .before .symbols in
+    let a = c .before .before .before .before in rw (c .kind-of .ensures ∙ symbol-at (a .args .internals) (a .args .calls) (a .args .symbols) (the-symbols .a) (the-symbols-test .taken)) (laws.write-on (the-symbols .inv) (omega (arith, the-symbols-test .taken, length-symbols (a .args .internals) (a .args .calls) (a .args .symbols))))
 
 same-length : tie.Need-same-length Inv-symbols μ-symbols
 same-length c = laws.same-length (c .before .symbols .inv)

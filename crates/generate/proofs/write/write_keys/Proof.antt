@@ -9,28 +9,44 @@ use Rattle.generate.proofs.write.write_keys.Statement.{statement}
 use Rattle.generate.proofs.write.write_keys.Tie as tie
 
 mul-records : tie.Need-mul-records
-mul-records c = omega (arith, c .before .before .before .before .pre .0, c .before .before .before .before .pre .2)
+mul-records c =
+    let the-pre = c .before .before .before .before .pre in
+    omega (arith, the-pre .0, the-pre .2)
 
 mul-records-2 : tie.Need-mul-records-2
-mul-records-2 c = omega (arith, c .before .before .before .before .pre .0, c .before .before .before .before .pre .2)
+mul-records-2 c =
+    let the-pre = c .before .before .before .before .pre in
+    omega (arith, the-pre .0, the-pre .2)
 
 add-records : tie.Need-add-records
-add-records c = omega (arith, c .before .before .before .before .pre .0, c .before .before .before .before .pre .2)
+add-records c =
+    let the-pre = c .before .before .before .before .pre in
+    omega (arith, the-pre .0, the-pre .2)
 
 mul-records-3 : tie.Need-mul-records-3
-mul-records-3 c = omega (arith, c .before .before .before .before .pre .0, c .before .before .before .before .pre .2)
+mul-records-3 c =
+    let the-pre = c .before .before .before .before .pre in
+    omega (arith, the-pre .0, the-pre .2)
 
 add-records-2 : tie.Need-add-records-2
-add-records-2 c = omega (arith, c .before .before .before .before .pre .0, c .before .before .before .before .pre .2)
+add-records-2 c =
+    let the-pre = c .before .before .before .before .pre in
+    omega (arith, the-pre .0, the-pre .2)
 
 add-length : tie.Need-add-length
-add-length c = omega (arith, c .before .before .before .before .pre .0, c .before .before .before .before .pre .2)
+add-length c =
+    let the-pre = c .before .before .before .before .pre in
+    omega (arith, the-pre .0, the-pre .2)
 
 add-length-2 : tie.Need-add-length-2
-add-length-2 c = omega (arith, c .before .before .before .before .pre .0, c .before .before .before .before .pre .2)
+add-length-2 c =
+    let the-pre = c .before .before .before .before .pre in
+    omega (arith, the-pre .0, the-pre .2)
 
 add-length-3 : tie.Need-add-length-3
-add-length-3 c = omega (arith, c .before .before .before .before .pre .0, c .before .before .before .before .pre .2)
+add-length-3 c =
+    let the-pre = c .before .before .before .before .pre in
+    omega (arith, the-pre .0, the-pre .2)
 
 returns : tie.Need-returns
 returns c = let a = c .before .before .before .before .before in short (a .args .states) (a .args .internals) (a .args .calls) (a .args .symbols) (a .args .moves .now) (a .args .pushes .now) (a .args .pops .now) (a .args .out .now) (c .if1 .taken)

@@ -22,13 +22,20 @@ with-premise-requires : tie.Need-with-premise-requires
 with-premise-requires c κs = search needs
 
 matched-requires : tie.Need-matched-requires
-matched-requires c κs = (omega arith, move-room (c .before .before .before .before .before .before .before .before .args .section .now) (c .before .before .before .before .before .before .before .before .args .p) (c .before .before .before .before .before .before .before .before .args .a) (c .before .before .before .before .before .before .before .before .args .target) (c .before .before .before .before .before .before .before .before .args .q) (c .before .before .before .starting .result .now) (c .before .before .before .starting .ensures (c .before .before .before .before .before .before .before .before .args .q ∷ c .before .before .before .before .before .before .before .before .args .a ∷ []) (c .before .before .before .before .move-key .ensures) (c .before .before .before .before .before .before .before .before .pre .0 .ascends)) (c .before .before .no-literals .ensures) (c .before .with-premise .ensures) (c .before .before .before .before .before .before .before .before .pre .0), c .before .before .before .before .before .before .before .before .pre .1)
+matched-requires c κs =
+    let the-starting = c .before .before .before .starting in
+    let the-args = c .before .before .before .before .before .before .before .before .args in
+    let the-pre = c .before .before .before .before .before .before .before .before .pre in
+    (omega arith, move-room (the-args .section .now) (the-args .p) (the-args .a) (the-args .target) (the-args .q) (the-starting .result .now) (the-starting .ensures (the-args .q ∷ the-args .a ∷ []) (c .before .before .before .before .move-key .ensures) (the-pre .0 .ascends)) (c .before .before .no-literals .ensures) (c .before .with-premise .ensures) (the-pre .0), the-pre .1)
 
 same-length : tie.Need-same-length
 same-length c = search needs
 
 returns-2 : tie.Need-returns-2
-returns-2 c = move-other (c .before .before .before .before .before .before .before .before .before .before .before .args .section .now) (c .before .before .before .before .before .before .before .before .before .before .before .args .p) (c .before .before .before .before .before .before .before .before .before .before .before .args .a) (c .before .before .before .before .before .before .before .before .before .before .before .args .target) (c .before .before .before .before .before .before .before .before .before .before .before .args .q) (c .before .before .before .before .before .before .starting .result .now) (c .before .before .before .before .before .before .starting .ensures (c .before .before .before .before .before .before .before .before .before .before .before .args .q ∷ c .before .before .before .before .before .before .before .before .before .before .before .args .a ∷ []) (c .before .before .before .before .before .before .before .move-key .ensures) (c .before .before .before .before .before .before .before .before .before .before .before .pre .0 .ascends)) (c .before .before .before .before .before .no-literals .ensures) (c .before .before .before .before .with-premise .ensures) _ (c .before .before .before .before .before .before .before .before .if1 .left) (c .before .before .matched .ensures)
+returns-2 c =
+    let the-starting = c .before .before .before .before .before .before .starting in
+    let the-args = c .before .before .before .before .before .before .before .before .before .before .before .args in
+    move-other (the-args .section .now) (the-args .p) (the-args .a) (the-args .target) (the-args .q) (the-starting .result .now) (the-starting .ensures (the-args .q ∷ the-args .a ∷ []) (c .before .before .before .before .before .before .before .move-key .ensures) (c .before .before .before .before .before .before .before .before .before .before .before .pre .0 .ascends)) (c .before .before .before .before .before .no-literals .ensures) (c .before .before .before .before .with-premise .ensures) _ (c .before .before .before .before .before .before .before .before .if1 .left) (c .before .before .matched .ensures)
 
 pub move-clause-spec : {M : Type 1} → statement M
 move-clause-spec =

@@ -52,7 +52,11 @@ shared-slice-read-t20 : tie.Need-shared-slice-read-t20 Inv-records μ-records
 shared-slice-read-t20 c = search needs
 
 live-record-requires : tie.Need-live-record-requires Inv-records μ-records
-live-record-requires c κs = let u = under-few (c .before .before .before .before .before .before .before .before .records .inv) (c .before .before .before .before .before .before .before .records-test .taken) (c .before .before .before .before .before .before .before .before .before .before .before .pre .0) in (c .before .before .before .before .before .before .before .before .before .before .before .pre .0, from-few (c .before .before .before .before .before .before .before .before .records .inv) (c .before .before .before .before .before .before .before .records-test .taken) (c .before .before .before .before .before .before .before .before .before .before .before .pre .0), omega arith, c .before .before .before .before .before .before .before .before .before .before .before .pre .1, c .before .before .before .before .before .before .before .before .records .inv .coming .ordered)
+live-record-requires c κs =
+    let the-records-test = c .before .before .before .before .before .before .before .records-test in
+    let the-records = c .before .before .before .before .before .before .before .before .records in
+    let the-pre = c .before .before .before .before .before .before .before .before .before .before .before .pre in
+    let u = under-few (the-records .inv) (the-records-test .taken) (the-pre .0) in (the-pre .0, from-few (the-records .inv) (the-records-test .taken) (the-pre .0), omega arith, the-pre .1, the-records .inv .coming .ordered)
 
 add-at : tie.Need-add-at Inv-records μ-records
 add-at c = search needs
@@ -61,7 +65,9 @@ records-less : tie.Need-records-less Inv-records μ-records
 records-less c = search needs
 
 records-again : tie.Need-records-again Inv-records μ-records
-records-again c = return-turn (c .before .before .before .before .before .before .before .before .before .before .before .before .before .before .args .tops .now) (c .before .before .before .before .before .before .before .before .before .before .before .before .before .before .args .count) (c .before .before .before .before .before .before .before .before .before .before .before .records .inv) (c .before .before .before .before .before .before .before .before .before .before .records-test .taken) (c .before .before .live-record .ensures)
+records-again c =
+    let the-args = c .before .before .before .before .before .before .before .before .before .before .before .before .before .before .args in
+    return-turn (the-args .tops .now) (the-args .count) (c .before .before .before .before .before .before .before .before .before .before .before .records .inv) (c .before .before .before .before .before .before .before .before .before .before .records-test .taken) (c .before .before .live-record .ensures)
 
 same-length-2 : tie.Need-same-length-2 Inv-records μ-records
 same-length-2 c = c .before .records .inv .coming .long

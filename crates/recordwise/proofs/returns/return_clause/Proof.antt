@@ -26,16 +26,26 @@ with-premise-requires : tie.Need-with-premise-requires
 with-premise-requires c κs = search needs
 
 with-premise-requires-2 : tie.Need-with-premise-requires-2
-with-premise-requires-2 c κs = omega (arith, premise-more (c .before .no-literals .result) (c .before .before .before .before .before .before .before .before .args .x .from) (c .before .before .before .before .before .before .before .before .args .q) (c .with-premise .ensures), c .before .no-literals .ensures)
+with-premise-requires-2 c κs =
+    let the-no-literals = c .before .no-literals in
+    let the-args = c .before .before .before .before .before .before .before .before .args in
+    omega (arith, premise-more (the-no-literals .result) (the-args .x .from) (the-args .q) (c .with-premise .ensures), the-no-literals .ensures)
 
 matched-requires : tie.Need-matched-requires
-matched-requires c κs = (omega arith, return-room (c .before .before .before .before .before .before .before .before .before .before .args .section .now) (c .before .before .before .before .before .before .before .before .before .before .args .x) (c .before .before .before .before .before .before .before .before .before .before .args .q) (c .before .before .before .before .before .before .before .before .before .before .args .u) (c .before .before .before .before .starting .result .now) (c .before .before .before .before .starting .ensures (c .before .before .before .before .before .before .before .before .before .before .args .q ∷ c .before .before .before .before .before .before .before .before .before .before .args .x .symbol ∷ c .before .before .before .before .before .before .before .before .before .before .args .u ∷ []) (c .before .before .before .before .before .return-key .ensures) (c .before .before .before .before .before .before .before .before .before .before .pre .0 .ascends)) (c .before .before .before .no-literals .ensures) (c .before .before .with-premise .ensures) (c .before .with-premise2 .ensures) (c .before .before .before .before .before .before .before .before .before .before .pre .0), c .before .before .before .before .before .before .before .before .before .before .pre .1)
+matched-requires c κs =
+    let the-starting = c .before .before .before .before .starting in
+    let the-args = c .before .before .before .before .before .before .before .before .before .before .args in
+    let the-pre = c .before .before .before .before .before .before .before .before .before .before .pre in
+    (omega arith, return-room (the-args .section .now) (the-args .x) (the-args .q) (the-args .u) (the-starting .result .now) (the-starting .ensures (the-args .q ∷ the-args .x .symbol ∷ the-args .u ∷ []) (c .before .before .before .before .before .return-key .ensures) (the-pre .0 .ascends)) (c .before .before .before .no-literals .ensures) (c .before .before .with-premise .ensures) (c .before .with-premise2 .ensures) (the-pre .0), the-pre .1)
 
 same-length : tie.Need-same-length
 same-length c = search needs
 
 returns-2 : tie.Need-returns-2
-returns-2 c = return-other (c .before .before .before .before .before .before .before .before .before .before .before .before .before .args .section .now) (c .before .before .before .before .before .before .before .before .before .before .before .before .before .args .x) (c .before .before .before .before .before .before .before .before .before .before .before .before .before .args .q) (c .before .before .before .before .before .before .before .before .before .before .before .before .before .args .u) (c .before .before .before .before .before .before .before .starting .result .now) (c .before .before .before .before .before .before .before .starting .ensures (c .before .before .before .before .before .before .before .before .before .before .before .before .before .args .q ∷ c .before .before .before .before .before .before .before .before .before .before .before .before .before .args .x .symbol ∷ c .before .before .before .before .before .before .before .before .before .before .before .before .before .args .u ∷ []) (c .before .before .before .before .before .before .before .before .return-key .ensures) (c .before .before .before .before .before .before .before .before .before .before .before .before .before .pre .0 .ascends)) (c .before .before .before .before .before .before .no-literals .ensures) (c .before .before .before .before .before .with-premise .ensures) (c .before .before .before .before .with-premise2 .ensures) _ (c .before .before .before .before .before .before .before .before .before .before .same-place .ensures) (c .before .before .before .before .before .before .before .before .before .if1 .left) (c .before .before .matched .ensures)
+returns-2 c =
+    let the-starting = c .before .before .before .before .before .before .before .starting in
+    let the-args = c .before .before .before .before .before .before .before .before .before .before .before .before .before .args in
+    return-other (the-args .section .now) (the-args .x) (the-args .q) (the-args .u) (the-starting .result .now) (the-starting .ensures (the-args .q ∷ the-args .x .symbol ∷ the-args .u ∷ []) (c .before .before .before .before .before .before .before .before .return-key .ensures) (c .before .before .before .before .before .before .before .before .before .before .before .before .before .pre .0 .ascends)) (c .before .before .before .before .before .before .no-literals .ensures) (c .before .before .before .before .before .with-premise .ensures) (c .before .before .before .before .with-premise2 .ensures) _ (c .before .before .before .before .before .before .before .before .before .before .same-place .ensures) (c .before .before .before .before .before .before .before .before .before .if1 .left) (c .before .before .matched .ensures)
 
 pub return-clause-spec : {M : Type 1} → statement M
 return-clause-spec =

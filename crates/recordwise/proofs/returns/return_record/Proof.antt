@@ -39,7 +39,10 @@ states-less : tie.Need-states-less Inv-states μ-states
 states-less c = search needs
 
 states-again : tie.Need-states-again Inv-states μ-states
-states-again c = over-on (c .before .before .before .before .before .before .before .states .inv) (c .before .before .before .before .before .before .states-test .taken) (of-word (λ u. returnOf (records 4 (c .before .before .before .before .before .before .before .before .before .before .args .section .now)) (c .before .before .before .before .before .before .before .before .before .before .args .x) (c .before .before .before .before .before .before .before .states .q) u) (c .before .before .before .before .before .before .before .before .before .before .args .tops .now) (c .before .before .before .before .before .before .before .before .before .before .args .count) (c .before .before .before .before .before .before .before .states .q) _ (c .before .before .before .before .before .wide .ensures) (c .before .before .return-tops .ensures))
+states-again c =
+    let the-states = c .before .before .before .before .before .before .before .states in
+    let the-args = c .before .before .before .before .before .before .before .before .before .before .args in
+    over-on (the-states .inv) (c .before .before .before .before .before .before .states-test .taken) (of-word (λ u. returnOf (records 4 (the-args .section .now)) (the-args .x) (the-states .q) u) (the-args .tops .now) (the-args .count) (the-states .q) _ (c .before .before .before .before .before .wide .ensures) (c .before .before .return-tops .ensures))
 
 same-length : tie.Need-same-length Inv-states μ-states
 same-length c = c .before .states .inv .coming .long

@@ -52,8 +52,9 @@ add-move-pair-2 c =
 
 move-pair-requires : tie.Need-move-pair-requires Inv-seconds μ-seconds
 move-pair-requires c κs =
+    let the-wide = c .before .wide in
     let pre = c .before .before .before .before .before .pre in
-    (pair-fits (pre .0) (pre .3 .few) (c .before .before .before .seconds-test .taken), pair-fits {b = c .before .wide .result} (pre .2) (pre .3 .few) (omega (arith, c .before .wide .ensures, pre .3 .within (c .before .before .before .before .seconds .b * 32 + c .before .before .before .before .before .args .a))))
+    (pair-fits (pre .0) (pre .3 .few) (c .before .before .before .seconds-test .taken), pair-fits {b = the-wide .result} (pre .2) (pre .3 .few) (omega (arith, the-wide .ensures, pre .3 .within (c .before .before .before .before .seconds .b * 32 + c .before .before .before .before .before .args .a))))
 
 add-b : tie.Need-add-b Inv-seconds μ-seconds
 add-b c = search needs

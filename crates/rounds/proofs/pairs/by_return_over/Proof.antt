@@ -54,18 +54,22 @@ add-return-pair c =
 
 mul-return-pair-2 : tie.Need-mul-return-pair-2 Inv-unders μ-unders
 mul-return-pair-2 c =
+    let the-args = c .before .before .before .before .args in
     let pre = c .before .before .before .before .pre in
-    let h = pair-fits {b = c .wide .result} (pre .4) (pre .5 .few) (omega (arith, c .wide .ensures, pre .5 .within ((c .before .before .before .before .args .b * 32 + c .before .before .before .before .args .a) * 25 + c .before .before .before .unders .c))) in search needs
+    let h = pair-fits {b = c .wide .result} (pre .4) (pre .5 .few) (omega (arith, c .wide .ensures, pre .5 .within ((the-args .b * 32 + the-args .a) * 25 + c .before .before .before .unders .c))) in search needs
 
 add-return-pair-2 : tie.Need-add-return-pair-2 Inv-unders μ-unders
 add-return-pair-2 c =
+    let the-args = c .before .before .before .before .args in
     let pre = c .before .before .before .before .pre in
-    let h = pair-fits {b = c .wide .result} (pre .4) (pre .5 .few) (omega (arith, c .wide .ensures, pre .5 .within ((c .before .before .before .before .args .b * 32 + c .before .before .before .before .args .a) * 25 + c .before .before .before .unders .c))) in search needs
+    let h = pair-fits {b = c .wide .result} (pre .4) (pre .5 .few) (omega (arith, c .wide .ensures, pre .5 .within ((the-args .b * 32 + the-args .a) * 25 + c .before .before .before .unders .c))) in search needs
 
 return-pair-requires : tie.Need-return-pair-requires Inv-unders μ-unders
 return-pair-requires c κs =
+    let the-wide = c .before .wide in
+    let the-args = c .before .before .before .before .before .args in
     let pre = c .before .before .before .before .before .pre in
-    (pair-fits {b = c .before .before .before .before .before .args .b} (pre .0) (pre .5 .few) (omega (arith, pre .2)), pair-fits (pre .3) (pre .5 .few) (c .before .before .before .unders-test .taken), pair-fits {b = c .before .wide .result} (pre .4) (pre .5 .few) (omega (arith, c .before .wide .ensures, pre .5 .within ((c .before .before .before .before .before .args .b * 32 + c .before .before .before .before .before .args .a) * 25 + c .before .before .before .before .unders .c))))
+    (pair-fits {b = the-args .b} (pre .0) (pre .5 .few) (omega (arith, pre .2)), pair-fits (pre .3) (pre .5 .few) (c .before .before .before .unders-test .taken), pair-fits {b = the-wide .result} (pre .4) (pre .5 .few) (omega (arith, the-wide .ensures, pre .5 .within ((the-args .b * 32 + the-args .a) * 25 + c .before .before .before .before .unders .c))))
 
 add-c : tie.Need-add-c Inv-unders μ-unders
 add-c c = search needs

@@ -23,13 +23,19 @@ put-requires : tie.Need-put-requires
 put-requires c κs = search needs
 
 returns : tie.Need-returns
-returns c = λ k n lu lv. subst (λ (d : Kind). Turns k n (c .before .before .before .before .args .rows .now) (c .join .last .0) (stepKind d (c .before .before .before .before .args .u) (c .before .before .before .before .args .v))) (sym (c .before .before .enum-told .given .1)) (internal-turns (c .before .before .before .before .args .u) (c .before .before .before .before .args .v) (c .join .ensures) k n lu lv)
+returns c =
+    let the-args = c .before .before .before .before .args in
+    λ k n lu lv. subst (λ (d : Kind). Turns k n (the-args .rows .now) (c .join .last .0) (stepKind d (the-args .u) (the-args .v))) (sym (c .before .before .enum-told .given .1)) (internal-turns (the-args .u) (the-args .v) (c .join .ensures) k n lu lv)
 
 returns-2 : tie.Need-returns-2
-returns-2 c = λ k n lu lv. subst (λ (d : Kind). Turns k n (c .before .before .before .before .before .before .before .args .rows .now) (c .put .last .0) (stepKind d (c .before .before .before .before .before .before .before .args .u) (c .before .before .before .before .before .before .before .args .v))) (sym (c .before .before .before .before .before .enum-told2 .given .1)) (call-turns (c .before .before .before .before .before .before .before .args .u) (c .before .before .before .before .before .before .before .args .v) (λ F h. sym (c .before .before .if1 .taken) ∙ c .before .before .before .any .ensures F h) (c .put .ensures) k n lu lv)
+returns-2 c =
+    let the-args = c .before .before .before .before .before .before .before .args in
+    λ k n lu lv. subst (λ (d : Kind). Turns k n (the-args .rows .now) (c .put .last .0) (stepKind d (the-args .u) (the-args .v))) (sym (c .before .before .before .before .before .enum-told2 .given .1)) (call-turns (the-args .u) (the-args .v) (λ F h. sym (c .before .before .if1 .taken) ∙ c .before .before .before .any .ensures F h) (c .put .ensures) k n lu lv)
 
 returns-3 : tie.Need-returns-3
-returns-3 c = λ k n lu lv. subst (λ (d : Kind). Turns k n (c .before .before .before .before .before .args .rows .now) (c .before .before .before .before .before .args .rows .now) (stepKind d (c .before .before .before .before .before .args .u) (c .before .before .before .before .before .args .v))) (sym (c .before .before .before .enum-told2 .given .1)) (call-none (c .before .before .before .before .before .args .u) (c .before .before .before .before .before .args .v) (λ F h. sym (c .if1 .left) ∙ c .before .any .ensures F h) k n)
+returns-3 c =
+    let the-args = c .before .before .before .before .before .args in
+    λ k n lu lv. subst (λ (d : Kind). Turns k n (the-args .rows .now) (the-args .rows .now) (stepKind d (the-args .u) (the-args .v))) (sym (c .before .before .before .enum-told2 .given .1)) (call-none (the-args .u) (the-args .v) (λ F h. sym (c .if1 .left) ∙ c .before .any .ensures F h) k n)
 
 pub move-pair-spec : {M : Type 1} → statement M
 move-pair-spec =

@@ -20,7 +20,10 @@ shr-result : tie.Need-shr-result
 shr-result c = search needs
 
 returns : tie.Need-returns
-returns c = λ F h. held-is h (c .before .args .u) (c .before .args .x) (c .before .pre .0) (c .before .pre .1)
+returns c =
+    let the-args = c .before .args in
+    let the-pre = c .before .pre in
+    λ F h. held-is h (the-args .u) (the-args .x) (the-pre .0) (the-pre .1)
 
 pub held-spec : {M : Type 1} → statement M
 held-spec = tie.close (tie.spec mul-i add-i mul-result element-copy-out-result shr-result returns)

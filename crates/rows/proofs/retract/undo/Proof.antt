@@ -14,7 +14,9 @@ shared-slice-read-x : tie.Need-shared-slice-read-x
 shared-slice-read-x c = search needs
 
 assign-requires : tie.Need-assign-requires
-assign-requires c κs = (c .before .before .before .before .before .before .before .before .before .before .before .before .before .pre .0, laws.flippable (c .before .before .before .before .before .before .before .before .before .before .before .before .before .pre .1) (c .before .before .before .before .before .before .unwind .ensures))
+assign-requires c κs =
+    let the-pre = c .before .before .before .before .before .before .before .before .before .before .before .before .before .pre in
+    (the-pre .0, laws.flippable (the-pre .1) (c .before .before .before .before .before .before .unwind .ensures))
 
 wide-requires : tie.Need-wide-requires
 wide-requires c κs = search needs

@@ -13,7 +13,9 @@ abbrev μ-trail : tie.MeasureT-trail
 μ-trail n table values₀ trail joined₀ apart₀ mark count i₀ values joined apart i = i
 
 trail-holds : tie.Need-trail-holds Inv-trail μ-trail
-trail-holds c = laws.unwinding (c .before .before .before .pre .1) (c .before .before .before .pre .2)
+trail-holds c =
+    let the-pre = c .before .before .before .pre in
+    laws.unwinding (the-pre .1) (the-pre .2)
 
 sub-i : tie.Need-sub-i Inv-trail μ-trail
 sub-i c = search needs
@@ -25,7 +27,10 @@ shared-slice-read-unset : tie.Need-shared-slice-read-unset Inv-trail μ-trail
 shared-slice-read-unset c = laws.unwind-inside (c .before .before .before .before .before .before .pre .1) (c .before .before .trail .inv) (c .before .trail-test .taken)
 
 unset-requires : tie.Need-unset-requires Inv-trail μ-trail
-unset-requires c κs = (c .before .before .before .before .before .before .before .before .before .pre .0, c .before .before .before .before .before .trail .inv .rows, laws.unwind-below (c .before .before .before .before .before .before .before .before .before .pre .1) (c .before .before .before .before .before .trail .inv) (c .before .before .before .before .trail-test .taken) refl)
+unset-requires c κs =
+    let the-trail = c .before .before .before .before .before .trail in
+    let the-pre = c .before .before .before .before .before .before .before .before .before .pre in
+    (the-pre .0, the-trail .inv .rows, laws.unwind-below (the-pre .1) (the-trail .inv) (c .before .before .before .before .trail-test .taken) refl)
 
 trail-less : tie.Need-trail-less Inv-trail μ-trail
 trail-less c = search needs

@@ -20,13 +20,17 @@ pair-of-requires : tie.Need-pair-of-requires
 pair-of-requires c κs = search needs
 
 mark-pair-requires : tie.Need-mark-pair-requires
-mark-pair-requires c κs = laws.pair-states (c .before .before .before .before .before .before .before .pre .1 .rows) (c .before .before .before .before .wide .ensures) (laws.pair-of (c .before .before .before .before .before .before .before .pre .1 .rows) (c .before .before .before .before .before .before .before .pre .1 .inside) (c .before .before .before .if1 .left) (c .before .before .before .before .before .before .before .pre .0) (c .before .before .pair-of .ensures))
+mark-pair-requires c κs =
+    let the-pre = c .before .before .before .before .before .before .before .pre in
+    laws.pair-states (the-pre .1 .rows) (c .before .before .before .before .wide .ensures) (laws.pair-of (the-pre .1 .rows) (the-pre .1 .inside) (c .before .before .before .if1 .left) (the-pre .0) (c .before .before .pair-of .ensures))
 
 same-length-2 : tie.Need-same-length-2
 same-length-2 c = search needs
 
 returns-2 : tie.Need-returns-2
-returns-2 c = laws.assigned-marked (c .before .before .before .before .before .before .before .before .pre .1 .rows) (c .before .before .before .before .before .wide .ensures) (laws.pair-of (c .before .before .before .before .before .before .before .before .pre .1 .rows) (c .before .before .before .before .before .before .before .before .pre .1 .inside) (c .before .before .before .before .if1 .left) (c .before .before .before .before .before .before .before .before .pre .0) (c .before .before .before .pair-of .ensures)) (c .before .before .before .before .before .before .before .before .pre .1 .unset) (c .before .before .before .before .before .before .before .before .pre .1 .small) (c .mark-pair .ensures)
+returns-2 c =
+    let the-pre = c .before .before .before .before .before .before .before .before .pre in
+    laws.assigned-marked (the-pre .1 .rows) (c .before .before .before .before .before .wide .ensures) (laws.pair-of (the-pre .1 .rows) (the-pre .1 .inside) (c .before .before .before .before .if1 .left) (the-pre .0) (c .before .before .before .pair-of .ensures)) (the-pre .1 .unset) (the-pre .1 .small) (c .mark-pair .ensures)
 
 pub assign-spec : {M : Type 1} → statement M
 assign-spec =

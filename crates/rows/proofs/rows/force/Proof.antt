@@ -8,7 +8,9 @@ wanted-requires : tie.Need-wanted-requires
 wanted-requires c κs = search needs
 
 assign-requires : tie.Need-assign-requires
-assign-requires c κs = (c .before .before .before .before .before .before .before .pre .0, rw (c .before .before .before .wanted .ensures) (c .before .before .before .before .before .before .before .pre .1 .0))
+assign-requires c κs =
+    let the-pre = c .before .before .before .before .before .before .before .pre in
+    (the-pre .0, rw (c .before .before .before .wanted .ensures) (the-pre .1 .0))
 
 mul-trail : tie.Need-mul-trail
 mul-trail c = search needs

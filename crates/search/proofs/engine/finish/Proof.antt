@@ -5,7 +5,9 @@ use Rattle.search.proofs.engine.finish.Statement.{statement}
 use Rattle.search.proofs.engine.finish.Tie as tie
 
 settle-requires : tie.Need-settle-requires
-settle-requires c κs = (c .before .before .before .before .before .before .before .before .pre .0 .all-there, ((c .before .before .before .before .before .before .before .before .pre .0 .ready, c .before .before .before .before .before .before .before .before .pre .0 .queue), c .before .before .before .before .before .before .before .before .pre .1))
+settle-requires c κs =
+    let the-pre = c .before .before .before .before .before .before .before .before .pre in
+    (the-pre .0 .all-there, ((the-pre .0 .ready, the-pre .0 .queue), the-pre .1))
 
 same-length : tie.Need-same-length
 same-length c = search needs
@@ -29,7 +31,10 @@ returns-2 : tie.Need-returns-2
 returns-2 c = rw (c .before .before .not-false .ensures) (laws.first-solved (c .before .before .before .before .before .before .before .before .before .before .before .before .before .before .before .before .before .before .pre .0) (c .before .before .before .before .before .before .before .before .before .before .before .before .before .before .before .before .before .before .args .budget) (c .before .before .before .before .before .before .before .before .before .settle .ensures .0) (c .before .before .before .before .if1 .left) (c .if2 .taken))
 
 turns-any-requires : tie.Need-turns-any-requires
-turns-any-requires c κs = (c .before .before .before .before .before .before .before .before .before .before .before .before .before .before .before .before .before .before .before .before .before .before .pre .0 .all-there, (laws.first-rested (c .before .before .before .before .before .before .before .before .before .before .before .before .before .before .before .before .before .before .before .before .before .before .pre .0) (c .before .before .before .before .before .before .before .before .before .before .before .before .before .before .before .before .before .before .before .before .before .before .args .budget) (c .before .before .before .before .before .before .before .before .before .before .before .before .before .settle .ensures .0) (c .before .before .before .before .before .before .before .before .if1 .left), (c .before .before .before .before .before .before .before .before .before .before .before .before .before .before .before .before .before .before .before .before .before .before .pre .1 .0, c .before .before .before .before .before .before .before .before .before .before .before .before .before .settle .ensures .1)))
+turns-any-requires c κs =
+    let the-settle = c .before .before .before .before .before .before .before .before .before .before .before .before .before .settle in
+    let the-pre = c .before .before .before .before .before .before .before .before .before .before .before .before .before .before .before .before .before .before .before .before .before .before .pre in
+    (the-pre .0 .all-there, (laws.first-rested (the-pre .0) (c .before .before .before .before .before .before .before .before .before .before .before .before .before .before .before .before .before .before .before .before .before .before .args .budget) (the-settle .ensures .0) (c .before .before .before .before .before .before .before .before .if1 .left), (the-pre .1 .0, the-settle .ensures .1)))
 
 same-length-5 : tie.Need-same-length-5
 same-length-5 c = search needs
@@ -38,7 +43,9 @@ same-length-6 : tie.Need-same-length-6
 same-length-6 c = search needs
 
 returns-3 : tie.Need-returns-3
-returns-3 c = laws.first-outcome (c .before .before .before .before .before .before .before .before .before .before .before .before .before .before .before .before .before .before .before .before .before .before .before .before .before .before .before .pre .0) (c .before .before .before .before .before .before .before .before .before .before .before .before .before .before .before .before .before .before .before .before .before .before .before .before .before .before .before .args .budget) (c .before .before .before .before .before .before .before .before .before .before .before .before .before .before .before .before .before .before .settle .ensures .0) (c .before .before .before .before .before .before .before .before .before .before .before .before .before .if1 .left) (c .before .before .before .before .turns-any .result) _ (c .before .before .before .before .before .before .before .before .before .before .before .not-false .ensures) (c .before .before .before .before .turns-any .ensures)
+returns-3 c =
+    let the-turns-any = c .before .before .before .before .turns-any in
+    laws.first-outcome (c .before .before .before .before .before .before .before .before .before .before .before .before .before .before .before .before .before .before .before .before .before .before .before .before .before .before .before .pre .0) (c .before .before .before .before .before .before .before .before .before .before .before .before .before .before .before .before .before .before .before .before .before .before .before .before .before .before .before .args .budget) (c .before .before .before .before .before .before .before .before .before .before .before .before .before .before .before .before .before .before .settle .ensures .0) (c .before .before .before .before .before .before .before .before .before .before .before .before .before .if1 .left) (the-turns-any .result) _ (c .before .before .before .before .before .before .before .before .before .before .before .not-false .ensures) (the-turns-any .ensures)
 
 pub finish-spec : {M : Type 1} → statement M
 finish-spec =

@@ -20,7 +20,9 @@ slice-aggregate-solve-sifted-2 : tie.Need-slice-aggregate-solve-sifted-2
 slice-aggregate-solve-sifted-2 c = search needs
 
 solve-sifted-requires : tie.Need-solve-sifted-requires
-solve-sifted-requires c κs = ((c .before .before .before .before .before .before .before .before .before .before .before .pre, c .before .before .before .before .before .if1 .taken, c .before .before .before .before .before .before .places .ensures), (c .before .before .before .before .before .before .before .before .pair-table .ensures, laws.first-rows (c .before .before .before .before .before .before .before .before .before .before .before .pre) (c .before .before .before .before .before .before .before .before .before .before .before .args .budget) (c .before .before .before .before .before .before .before .own-rows .ensures)))
+solve-sifted-requires c κs =
+    let the-pre = c .before .before .before .before .before .before .before .before .before .before .before .pre in
+    ((the-pre, c .before .before .before .before .before .if1 .taken, c .before .before .before .before .before .before .places .ensures), (c .before .before .before .before .before .before .before .before .pair-table .ensures, laws.first-rows (the-pre) (c .before .before .before .before .before .before .before .before .before .before .before .args .budget) (c .before .before .before .before .before .before .before .own-rows .ensures)))
 
 same-length : tie.Need-same-length
 same-length c = search needs
@@ -35,7 +37,10 @@ slice-aggregate-finish-2 : tie.Need-slice-aggregate-finish-2
 slice-aggregate-finish-2 c = search needs
 
 finish-requires : tie.Need-finish-requires
-finish-requires c κs = (laws.begins (c .before .before .before .before .before .before .before .before .before .before .before .pre) (c .before .before .before .before .before .before .before .before .before .before .before .args .budget) (c .before .before .before .before .before .before .places .ensures), (c .before .before .before .before .before .before .before .before .pair-table .ensures, laws.first-rows (c .before .before .before .before .before .before .before .before .before .before .before .pre) (c .before .before .before .before .before .before .before .before .before .before .before .args .budget) (c .before .before .before .before .before .before .before .own-rows .ensures)))
+finish-requires c κs =
+    let the-pre = c .before .before .before .before .before .before .before .before .before .before .before .pre in
+    let the-args = c .before .before .before .before .before .before .before .before .before .before .before .args in
+    (laws.begins (the-pre) (the-args .budget) (c .before .before .before .before .before .before .places .ensures), (c .before .before .before .before .before .before .before .before .pair-table .ensures, laws.first-rows (the-pre) (the-args .budget) (c .before .before .before .before .before .before .before .own-rows .ensures)))
 
 same-length-2 : tie.Need-same-length-2
 same-length-2 c = search needs

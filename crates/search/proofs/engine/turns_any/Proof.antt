@@ -6,7 +6,9 @@ use Rattle.search.proofs.engine.turns_any.Statement.{statement}
 use Rattle.search.proofs.engine.turns_any.Tie as tie
 
 turns-short-requires : tie.Need-turns-short-requires
-turns-short-requires c κs = ((c .before .before .before .before .before .before .before .before .before .pre .0, c .before .before .before .before .if1 .taken), c .before .before .before .before .before .before .before .before .before .pre .1)
+turns-short-requires c κs =
+    let the-pre = c .before .before .before .before .before .before .before .before .before .pre in
+    ((the-pre .0, c .before .before .before .before .if1 .taken), the-pre .1)
 
 same-length : tie.Need-same-length
 same-length c = search needs
@@ -18,7 +20,9 @@ returns : tie.Need-returns
 returns c = search needs
 
 turns-long-requires : tie.Need-turns-long-requires
-turns-long-requires c κs = ((c .before .before .before .before .before .before .before .before .before .before .pre .0, c .before .before .before .before .if2 .taken), c .before .before .before .before .before .before .before .before .before .before .pre .1)
+turns-long-requires c κs =
+    let the-pre = c .before .before .before .before .before .before .before .before .before .before .pre in
+    ((the-pre .0, c .before .before .before .before .if2 .taken), the-pre .1)
 
 same-length-3 : tie.Need-same-length-3
 same-length-3 c = search needs
@@ -39,7 +43,9 @@ slice-aggregate-turns-2 : tie.Need-slice-aggregate-turns-2
 slice-aggregate-turns-2 c = search needs
 
 turns-requires : tie.Need-turns-requires
-turns-requires c κs = (unprepared (c .before .before .before .before .before .before .before .before .before .before .before .before .before .before .pre .0) (omega (arith, c .before .before .before .before .before .before .before .before .if2 .left)), c .before .before .before .before .before .before .before .before .before .before .before .before .before .before .pre .1)
+turns-requires c κs =
+    let the-pre = c .before .before .before .before .before .before .before .before .before .before .before .before .before .before .pre in
+    (unprepared (the-pre .0) (omega (arith, c .before .before .before .before .before .before .before .before .if2 .left)), the-pre .1)
 
 same-length-5 : tie.Need-same-length-5
 same-length-5 c = search needs

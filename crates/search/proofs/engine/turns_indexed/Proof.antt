@@ -12,10 +12,16 @@ no-firsts-requires : tie.Need-no-firsts-requires
 no-firsts-requires c κs = search needs
 
 index-requires : tie.Need-index-requires
-index-requires c κs = (listed (c .before .before .before .before .before .before .before .before .before .before .pre .0 .0) (c .before .before .before .before .before .before .before .before .before .before .pre .0 .1) (formed-part (clausesIn (c .before .before .before .before .before .before .before .before .before .before .args .list .now)) _ (to-cs _ (triangles (c .before .before .before .before .before .before .before .before .before .before .args .n))) (c .before .before .before .before .before .before .before .before .before .before .pre .1 .0 .formed)) (c .before .before .before .before .before .before .before .before .before .before .pre .1 .0 .most), c .before .before .before .before .before .before .before .before .before .before .pre .0 .2, c .before .before .before .no-firsts .ensures)
+index-requires c κs =
+    let the-pre = c .before .before .before .before .before .before .before .before .before .before .pre in
+    let the-args = c .before .before .before .before .before .before .before .before .before .before .args in
+    (listed (the-pre .0 .0) (the-pre .0 .1) (formed-part (clausesIn (the-args .list .now)) _ (to-cs _ (triangles (the-args .n))) (the-pre .1 .0 .formed)) (the-pre .1 .0 .most), the-pre .0 .2, c .before .before .before .no-firsts .ensures)
 
 turns-requires : tie.Need-turns-requires
-turns-requires c κs = (prepared (c .before .before .before .before .before .before .before .before .before .before .before .before .before .before .before .before .before .before .before .before .before .before .pre .0 .0) (c .before .before .before .before .before .before .before .before .before .before .before .index .ensures .0) (c .before .before .before .before .before .before .before .before .before .before .before .index .ensures .1), c .before .before .before .before .before .before .before .before .before .before .before .before .before .before .before .before .before .before .before .before .before .before .pre .1)
+turns-requires c κs =
+    let the-index = c .before .before .before .before .before .before .before .before .before .before .before .index in
+    let the-pre = c .before .before .before .before .before .before .before .before .before .before .before .before .before .before .before .before .before .before .before .before .before .before .pre in
+    (prepared (the-pre .0 .0) (the-index .ensures .0) (the-index .ensures .1), the-pre .1)
 
 same-length : tie.Need-same-length
 same-length c = search needs

@@ -14,7 +14,9 @@ slice-aggregate-turns-indexed-2 : tie.Need-slice-aggregate-turns-indexed-2
 slice-aggregate-turns-indexed-2 c = search needs
 
 turns-indexed-requires : tie.Need-turns-indexed-requires
-turns-indexed-requires c κs = ((c .before .before .before .before .before .before .before .before .before .before .pre .0 .0, omega (arith, c .before .before .before .before .before .before .before .before .before .before .pre .0 .1), index-room 32768 (search needs) (c .before .before .before .before .before .before .before .before .before .before .pre .0 .1) (length-replicate {A = ℕ} 32768 0) (length-replicate {A = ℕ} 98304 0)), c .before .before .before .before .before .before .before .before .before .before .pre .1)
+turns-indexed-requires c κs =
+    let the-pre = c .before .before .before .before .before .before .before .before .before .before .pre in
+    ((the-pre .0 .0, omega (arith, the-pre .0 .1), index-room 32768 (search needs) (the-pre .0 .1) (length-replicate {A = ℕ} 32768 0) (length-replicate {A = ℕ} 98304 0)), the-pre .1)
 
 same-length : tie.Need-same-length
 same-length c = search needs

@@ -20,16 +20,18 @@ two-at-requires c κs = omega (arith, ends (c .before .before), c .before .befor
 
 returns : tie.Need-returns
 returns c =
-    let w : 2 ≡ 2 * (c .before .before .before .args .width - 2) = omega (arith, c .before .if1 .taken) in
-    c .two-at .ensures ∙ ap (λ n. key (take n (drop (c .before .before .before .args .i * c .before .before .before .args .width) (c .before .before .before .args .section .now)))) w
+    let the-args = c .before .before .before .args in
+    let w : 2 ≡ 2 * (the-args .width - 2) = omega (arith, c .before .if1 .taken) in
+    c .two-at .ensures ∙ ap (λ n. key (take n (drop (the-args .i * the-args .width) (the-args .section .now)))) w
 
 four-at-requires : tie.Need-four-at-requires
 four-at-requires c κs = omega (arith, ends (c .before .before), c .before .before .pre .0, c .if1 .left)
 
 returns-2 : tie.Need-returns-2
 returns-2 c =
-    let w : 4 ≡ 2 * (c .before .before .before .args .width - 2) = omega (arith, c .before .before .before .pre, c .before .if1 .left) in
-    c .four-at .ensures ∙ ap (λ n. key (take n (drop (c .before .before .before .args .i * c .before .before .before .args .width) (c .before .before .before .args .section .now)))) w
+    let the-args = c .before .before .before .args in
+    let w : 4 ≡ 2 * (the-args .width - 2) = omega (arith, c .before .before .before .pre, c .before .if1 .left) in
+    c .four-at .ensures ∙ ap (λ n. key (take n (drop (the-args .i * the-args .width) (the-args .section .now)))) w
 
 pub even-at-spec : {M : Type 1} → statement M
 even-at-spec =

@@ -27,13 +27,19 @@ sub-middle : tie.Need-sub-middle Inv-halves μ-halves
 sub-middle c = search needs
 
 add-middle : tie.Need-add-middle Inv-halves μ-halves
-add-middle c = omega (arith, c .before .halves .inv, c .halves-test .taken, div-le-self (length (c .before .before .before .before .args .section .now)) (c .before .before .before .before .args .width), c .before .before .before .before .good .0 .0)
+add-middle c =
+    let the-args = c .before .before .before .before .args in
+    omega (arith, c .before .halves .inv, c .halves-test .taken, div-le-self (length (the-args .section .now)) (the-args .width), c .before .before .before .before .good .0 .0)
 
 even-at-requires : tie.Need-even-at-requires Inv-halves μ-halves
-even-at-requires c κs = (c .before .before .before .before .pre .0, c .before .before .before .before .pre .1, omega (arith, c .before .halves .inv, c .halves-test .taken))
+even-at-requires c κs =
+    let the-pre = c .before .before .before .before .pre in
+    (the-pre .0, the-pre .1, omega (arith, c .before .halves .inv, c .halves-test .taken))
 
 add-low : tie.Need-add-low Inv-halves μ-halves
-add-low c = omega (arith, c .before .before .before .halves .inv, c .before .before .halves-test .taken, div-le-self (length (c .before .before .before .before .before .before .args .section .now)) (c .before .before .before .before .before .before .args .width), c .before .before .before .before .before .before .good .0 .0)
+add-low c =
+    let the-args = c .before .before .before .before .before .before .args in
+    omega (arith, c .before .before .before .halves .inv, c .before .before .halves-test .taken, div-le-self (length (the-args .section .now)) (the-args .width), c .before .before .before .before .before .before .good .0 .0)
 
 halves-less : tie.Need-halves-less Inv-halves μ-halves
 halves-less c = search needs
@@ -48,7 +54,9 @@ halves-again-2 : tie.Need-halves-again-2 Inv-halves μ-halves
 halves-again-2 c = lower-half (λ i. c .before .before .before .before .before .shared-slice-known .given i .fits) (c .before .before .before .halves .inv) (omega arith) (omega (arith, c .before .before .halves-test .taken)) (c .before .even-at .ensures) (c .before .before .before .before .lowest-at .ensures) (c .if1 .left)
 
 returns : tie.Need-returns Inv-halves μ-halves
-returns c = (omega (arith, c .before .halves .inv), halved (c .before .halves .inv) (c .halves-test .left))
+returns c =
+    let the-halves = c .before .halves in
+    (omega (arith, the-halves .inv), halved (the-halves .inv) (c .halves-test .left))
 
 pub first-at-spec : {M : Type 1} → statement M
 first-at-spec =

@@ -21,7 +21,9 @@ shared-slice-read-with-byte : tie.Need-shared-slice-read-with-byte
 shared-slice-read-with-byte c = omega (arith, c .before .before .before .pre)
 
 with-byte-requires : tie.Need-with-byte-requires
-with-byte-requires c κs = omega (arith, c .before .two-at .ensures, part-small (c .before .before .before .args .section .now) (λ i. c .before .before .shared-slice-known .given i .fits) (c .before .before .before .args .at) 2 (omega arith))
+with-byte-requires c κs =
+    let the-args = c .before .before .before .args in
+    omega (arith, c .before .two-at .ensures, part-small (the-args .section .now) (λ i. c .before .before .shared-slice-known .given i .fits) (the-args .at) 2 (omega arith))
 
 add-with-byte-2 : tie.Need-add-with-byte-2
 add-with-byte-2 c = omega (arith, c .before .before .before .before .pre, c .before .before .before .before .good .0 .0)
@@ -30,10 +32,14 @@ shared-slice-read-with-byte-2 : tie.Need-shared-slice-read-with-byte-2
 shared-slice-read-with-byte-2 c = omega (arith, c .before .before .before .before .before .pre)
 
 with-byte-requires-2 : tie.Need-with-byte-requires-2
-with-byte-requires-2 c κs = omega (arith, three (c .before), part-small (c .before .before .before .before .before .args .section .now) (λ i. c .before .before .before .before .shared-slice-known .given i .fits) (c .before .before .before .before .before .args .at) 3 (omega arith))
+with-byte-requires-2 c κs =
+    let the-args = c .before .before .before .before .before .args in
+    omega (arith, three (c .before), part-small (the-args .section .now) (λ i. c .before .before .before .before .shared-slice-known .given i .fits) (the-args .at) 3 (omega arith))
 
 returns : tie.Need-returns
-returns c = next-byte (c .before .before .before .before .before .before .args .section .now) (c .before .before .before .before .before .before .args .at) 3 (three (c .before .before)) (c .before .before .before .before .before .before .pre) refl (c .with-byte2 .ensures)
+returns c =
+    let the-args = c .before .before .before .before .before .before .args in
+    next-byte (the-args .section .now) (the-args .at) 3 (three (c .before .before)) (c .before .before .before .before .before .before .pre) refl (c .with-byte2 .ensures)
 
 pub four-at-spec : {M : Type 1} → statement M
 four-at-spec =

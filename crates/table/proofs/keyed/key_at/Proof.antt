@@ -7,10 +7,15 @@ use Rattle.table.proofs.keyed.key_at.Statement.{statement}
 use Rattle.table.proofs.keyed.key_at.Tie as tie
 
 mul-number-at : tie.Need-mul-number-at
-mul-number-at c = omega (arith, record-inside (c .before .args .width) (c .before .args .section .now) (c .before .args .i) (c .before .pre .2), c .before .good .0 .0)
+mul-number-at c =
+    let the-args = c .before .args in
+    omega (arith, record-inside (the-args .width) (the-args .section .now) (the-args .i) (c .before .pre .2), c .before .good .0 .0)
 
 number-at-requires : tie.Need-number-at-requires
-number-at-requires c κs = (c .before .pre .0, c .before .pre .1, record-inside (c .before .args .width) (c .before .args .section .now) (c .before .args .i) (c .before .pre .2))
+number-at-requires c κs =
+    let the-pre = c .before .pre in
+    let the-args = c .before .args in
+    (the-pre .0, the-pre .1, record-inside (the-args .width) (the-args .section .now) (the-args .i) (the-pre .2))
 
 returns : tie.Need-returns
 returns c = ap (λ n. n / 256) (c .number-at .ensures)

@@ -21,13 +21,19 @@ div-records : tie.Need-div-records Inv-records μ-records
 div-records c = omega (arith, c .before .before .pre)
 
 key-at-requires : tie.Need-key-at-requires Inv-records μ-records
-key-at-requires c κs = (c .before .before .before .pre .0, c .before .before .before .pre .1, c .records-test .taken)
+key-at-requires c κs =
+    let the-pre = c .before .before .before .pre in
+    (the-pre .0, the-pre .1, c .records-test .taken)
 
 returns : tie.Need-returns Inv-records μ-records
-returns c = ((c .before .before .before .records .inv .ordered, c .before .before .before .records .inv .within), pass-end (c .before .before .before .records .inv) (λ i. c .before .before .before .before .shared-slice-known .given i .fits) (c .before .before .records-test .taken) (c .before .key-at .ensures) (c .if1 .taken))
+returns c =
+    let the-records = c .before .before .before .records in
+    ((the-records .inv .ordered, the-records .inv .within), pass-end (the-records .inv) (λ i. c .before .before .before .before .shared-slice-known .given i .fits) (c .before .before .records-test .taken) (c .before .key-at .ensures) (c .if1 .taken))
 
 add-i : tie.Need-add-i Inv-records μ-records
-add-i c = omega (arith, c .before .before .records-test .taken, div-le-self (length (c .before .before .before .before .before .args .section .now)) (c .before .before .before .before .before .args .width), c .before .before .before .before .before .good .0 .0)
+add-i c =
+    let the-args = c .before .before .before .before .before .args in
+    omega (arith, c .before .before .records-test .taken, div-le-self (length (the-args .section .now)) (the-args .width), c .before .before .before .before .before .good .0 .0)
 
 records-less : tie.Need-records-less Inv-records μ-records
 records-less c = search needs
@@ -36,7 +42,9 @@ records-again : tie.Need-records-again Inv-records μ-records
 records-again c = pass-on (c .before .before .before .records .inv) (λ i. c .before .before .before .before .shared-slice-known .given i .fits) (c .before .before .records-test .taken) (c .before .key-at .ensures) (c .if1 .left)
 
 returns-2 : tie.Need-returns-2 Inv-records μ-records
-returns-2 c = ((c .before .records .inv .ordered, c .before .records .inv .within), passed-all (c .before .records .inv) (c .records-test .left))
+returns-2 c =
+    let the-records = c .before .records in
+    ((the-records .inv .ordered, the-records .inv .within), passed-all (the-records .inv) (c .records-test .left))
 
 pub last-at-spec : {M : Type 1} → statement M
 last-at-spec =

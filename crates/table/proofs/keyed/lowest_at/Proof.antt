@@ -8,16 +8,18 @@ use Rattle.table.proofs.keyed.lowest_at.Tie as tie
 
 returns : tie.Need-returns
 returns c =
-    let w : 0 ≡ c .before .args .width - 3 = omega (arith, c .if1 .taken) in
-    sym (mul-one (c .before .args .wanted)) ∙ ap (λ n. c .before .args .wanted * 256 ^ n) w
+    let the-args = c .before .args in
+    let w : 0 ≡ the-args .width - 3 = omega (arith, c .if1 .taken) in
+    sym (mul-one (the-args .wanted)) ∙ ap (λ n. the-args .wanted * 256 ^ n) w
 
 mul-result : tie.Need-mul-result
 mul-result c = omega (arith, c .before .pre .2)
 
 returns-2 : tie.Need-returns-2
 returns-2 c =
-    let w : 1 ≡ c .before .args .width - 3 = omega (arith, c .before .pre, c .if1 .left) in
-    ap (λ n. c .before .args .wanted * 256 ^ n) w
+    let the-args = c .before .args in
+    let w : 1 ≡ the-args .width - 3 = omega (arith, c .before .pre, c .if1 .left) in
+    ap (λ n. the-args .wanted * 256 ^ n) w
 
 pub lowest-at-spec : {M : Type 1} → statement M
 lowest-at-spec =

@@ -14,7 +14,9 @@ with-byte-requires-2 : tie.Need-with-byte-requires-2
 with-byte-requires-2 c κs = omega (arith, c .with-byte .ensures, c .before .fits .q .fits)
 
 returns : tie.Need-returns
-returns c = two-keyed (c .before .before .fits .q .fits) (c .before .before .fits .a .fits) (c .with-byte2 .ensures ∙ ap (λ n. n * 256 + c .before .before .args .a) (c .before .with-byte .ensures))
+returns c =
+    let the-fits = c .before .before .fits in
+    two-keyed (the-fits .q .fits) (the-fits .a .fits) (c .with-byte2 .ensures ∙ ap (λ n. n * 256 + c .before .before .args .a) (c .before .with-byte .ensures))
 
 pub move-key-spec : {M : Type 1} → statement M
 move-key-spec =

@@ -14,10 +14,15 @@ with-byte-requires-2 : tie.Need-with-byte-requires-2
 with-byte-requires-2 c κs = omega (arith, c .with-byte .ensures, c .before .fits .q .fits)
 
 with-byte-requires-3 : tie.Need-with-byte-requires-3
-with-byte-requires-3 c κs = omega (arith, c .before .with-byte .ensures, c .with-byte2 .ensures, c .before .before .fits .q .fits, c .before .before .fits .a .fits)
+with-byte-requires-3 c κs =
+    let the-fits = c .before .before .fits in
+    omega (arith, c .before .with-byte .ensures, c .with-byte2 .ensures, the-fits .q .fits, the-fits .a .fits)
 
 returns : tie.Need-returns
-returns c = three-keyed (c .before .before .before .fits .q .fits) (c .before .before .before .fits .a .fits) (c .before .before .before .fits .s .fits) (c .with-byte3 .ensures ∙ ap (λ n. n * 256 + c .before .before .before .args .s) (c .before .with-byte2 .ensures ∙ ap (λ n. n * 256 + c .before .before .before .args .a) (c .before .before .with-byte .ensures)))
+returns c =
+    let the-fits = c .before .before .before .fits in
+    let the-args = c .before .before .before .args in
+    three-keyed (the-fits .q .fits) (the-fits .a .fits) (the-fits .s .fits) (c .with-byte3 .ensures ∙ ap (λ n. n * 256 + the-args .s) (c .before .with-byte2 .ensures ∙ ap (λ n. n * 256 + the-args .a) (c .before .before .with-byte .ensures)))
 
 pub return-key-spec : {M : Type 1} → statement M
 return-key-spec =

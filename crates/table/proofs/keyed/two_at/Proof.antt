@@ -22,7 +22,10 @@ with-byte-requires-2 : tie.Need-with-byte-requires-2
 with-byte-requires-2 c κs = omega (arith, c .before .with-byte .ensures, c .before .before .before .shared-slice-known .given (c .before .before .before .before .args .at) .fits)
 
 returns : tie.Need-returns
-returns c = next-byte (c .before .before .before .before .before .args .section .now) (c .before .before .before .before .before .args .at) 1 (first-byte (c .before .before .before .before .before .args .section .now) (c .before .before .before .before .before .args .at) (omega (arith, c .before .before .before .before .before .pre)) (c .before .before .with-byte .ensures)) (c .before .before .before .before .before .pre) refl (c .with-byte2 .ensures)
+returns c =
+    let the-args = c .before .before .before .before .before .args in
+    let the-pre = c .before .before .before .before .before .pre in
+    next-byte (the-args .section .now) (the-args .at) 1 (first-byte (the-args .section .now) (the-args .at) (omega (arith, the-pre)) (c .before .before .with-byte .ensures)) (the-pre) refl (c .with-byte2 .ensures)
 
 pub two-at-spec : {M : Type 1} → statement M
 two-at-spec =

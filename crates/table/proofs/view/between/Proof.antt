@@ -14,7 +14,9 @@ part-result-end : tie.Need-part-result-end
 part-result-end c = search needs
 
 returns : tie.Need-returns
-returns c = past-end (c .before .before .args .from) (c .before .before .args .to) (c .before .before .args .bytes .now) (c .before .if1 .taken)
+returns c =
+    let the-args = c .before .before .args in
+    past-end (the-args .from) (the-args .to) (the-args .bytes .now) (c .before .if1 .taken)
 
 sub-result-2 : tie.Need-sub-result-2
 sub-result-2 c = search needs

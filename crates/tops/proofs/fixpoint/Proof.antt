@@ -1,4 +1,4 @@
--- `tops::rest` meets its contract. The invariant: so many rounds from the words as they are give the words to come out, and their sum. Assumes nothing.
+-- `tops::fixpoint` meets its contract. The invariant: so many rounds from the words as they are give the words to come out, and their sum. Assumes nothing.
 use borrow.Author.Needs.{needs}
 use mathlib.Core.Path.{_∙_}
 use Prim.Native.Nat.{suc, _*_}
@@ -9,8 +9,8 @@ use Rattle.reach.specs.Tops.{rounds}
 use Rattle.table.specs.Sections.{sectioned}
 use Rattle.tops.proofs.Loops.{resting, rounded, spent, few-rounds, section-within}
 use Rattle.tops.proofs.Sums.{Told, told-small, told-on, told-end}
-use Rattle.tops.proofs.rest.Statement.{statement}
-use Rattle.tops.proofs.rest.Tie as tie
+use Rattle.tops.proofs.fixpoint.Statement.{statement}
+use Rattle.tops.proofs.fixpoint.Tie as tie
 
 abbrev Inv-rounds : tie.InvT-rounds
 Inv-rounds states internals calls returns words₀ n left₀ sum₀ words left sum =
@@ -91,8 +91,8 @@ same-length-2 c = search needs
 returns-2 : tie.Need-returns-2 Inv-rounds μ-rounds
 returns-2 c = spent (c .before .rounds .inv .rest) (omega (arith, c .rounds-test .left))
 
-pub rest-spec : {M : Type 1} → statement M
-rest-spec =
+pub fixpoint-spec : {M : Type 1} → statement M
+fixpoint-spec =
     tie.close
     (tie.spec
     Inv-rounds
