@@ -1,0 +1,1 @@
+// What each clause has left.
