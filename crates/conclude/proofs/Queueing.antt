@@ -15,6 +15,14 @@ use Rattle.rows.specs.Trail.{Ready, Worked, Attended, Queue, Drained}
 use Rattle.rows.proofs.Trails.{grown-same, grown-slice}
 use Rattle.rows.proofs.Working.{settled-or-behind, worked-none, worked-on, worked-length, worked-count, worked-trans, set-on, drained-broken}
 
+-- the clauses that have the variable x are seen to: each is settled, or has one of the variables qs or one that was set meanwhile
+pub record SeenTo (cs : List (List ℕ)) (x : ℕ) (qs v t : List ℕ) (count : ℕ) (w s : List ℕ) (isBroken : Bool) (more : ℕ) : Type 0 where
+  pub worked : Worked cs v t count w s isBroken more
+  pub settles : isBroken ≡ false → (c : List ℕ) → List·Memᴰ c cs → (l : ℕ) → List·Memᴰ l c → l / 2 ≡ x → SettledOr w (qs ++ worked .grown .new) c
+
+pub attended-seen : {cs : List (List ℕ)} {x : ℕ} (qs : List ℕ) {v t w s : List ℕ} {count more : ℕ} {isBroken : Bool} → Attended cs x v t count w s isBroken more → SeenTo cs x qs v t count w s isBroken more
+attended-seen qs k = record { worked = k .worked; settles = λ e c mc m mm p. settled-or-behind qs (k .settles e c mc m mm p) }
+
 -- before the variable at `at`
 pub record Queueing (cs : List (List ℕ)) (v t : List ℕ) (start : ℕ) (w s : List ℕ) (count at : ℕ) : Type 0 where
   pub ready : Ready cs v t start
@@ -56,7 +64,7 @@ module _ {cs : List (List ℕ)} {v t w s : List ℕ} {start count at : ℕ} (j :
     next-queued = j .queue .queued (getD s at 0) (rw first (List·Memᴰ·head refl))
 
     -- is seen to
-    module _ {u r : List ℕ} {more : ℕ} {isBroken : Bool} (k : Attended cs (getD s at 0) w s count u r isBroken more) where
+    module _ {u r : List ℕ} {more : ℕ} {isBroken : Bool} (k : SeenTo cs (getD s at 0) (slice (at + 1) count s) w s count u r isBroken more) where
       all-worked : Worked cs v t start u r isBroken more
       all-worked = worked-trans (j .worked) (k .worked)
 
@@ -83,7 +91,7 @@ module _ {cs : List (List ℕ)} {v t w s : List ℕ} {start count at : ℕ} (j :
         queue = record {
           inside = omega (arith, worked-count queue-ready (k .worked));
           queued = λ y m. pick y (append-cases (slice (at + 1) count s) (subst (λ (l : List ℕ). List·Memᴰ y l) longer m));
-          waiting = subst (Waiting cs u) (sym longer) (waiting-next (getD s at 0) (slice (at + 1) count s ++ k .worked .grown .new) moved seen);
+          waiting = subst (Waiting cs u) (sym longer) (waiting-next (getD s at 0) (slice (at + 1) count s ++ k .worked .grown .new) moved (k .settles e));
         };
       }
         where
@@ -93,6 +101,3 @@ module _ {cs : List (List ℕ)} {v t w s : List ℕ} {start count at : ℕ} (j :
 
           moved : Waiting cs u (getD s at 0 ∷ (slice (at + 1) count s ++ k .worked .grown .new))
           moved = waiting-more (k .worked .grown .new) (grown-same (k .worked .grown)) (subst (Waiting cs w) first (j .queue .waiting))
-
-          seen : (c : List ℕ) → List·Memᴰ c cs → (m : ℕ) → List·Memᴰ m c → m / 2 ≡ getD s at 0 → SettledOr u (slice (at + 1) count s ++ k .worked .grown .new) c
-          seen c mc m mm p = settled-or-behind (slice (at + 1) count s) (k .settles e c mc m mm p)

@@ -1,80 +1,67 @@
 // A variable that is set leads to the clauses in which its falsified literal stands, and to no others.
 ghost use mathlib.Core.Path.{_≡_};
-ghost use mathlib.Core.Logic.{_≢_};
-ghost use Prim.Native.Nat.{_+_, _*_, _<_, _≤_};
+ghost use Prim.Native.Nat.{_≤_};
 ghost use lib.ListN.{length};
-ghost use Rattle.cnf.specs.Clauses.{valueOf, clausesIn};
+ghost use Rattle.cnf.specs.Clauses.{clausesIn};
 ghost use Rattle.pairs.specs.Entries.{PairTable};
 ghost use Rattle.rows.specs.Conclusions.{withTriangles};
 ghost use Rattle.rows.specs.Rows.{Rows};
-ghost use Rattle.rows.specs.Trail.{Ready, Attended, Queue, Settles};
-ghost use Rattle.occurrences.specs.Occurrences.{Indexed, Hinted};
+ghost use Rattle.rows.specs.Trail.{Ready, Queue, Settles};
+ghost use Rattle.tallies.specs.Tallies.{Indexed};
+ghost use Rattle.tallies.specs.Behind.{Behind};
+ghost use Rattle.propagate.specs.Heeding.{Room, Told, Heeded, Caught};
+use asking::is_right;
+use asking::is_unset;
 use conclude::Reached;
 use conclude::conclude;
 use rows::force;
 use rows::wide;
-use visits::Heard;
-use visits::visit;
+use tallies::fall;
+use tallies::false_literal;
 
-// The literal of a variable that is false: 2x where x is 0, and 2x + 1 where x is 1.
-fn false_literal(values: &[u8], x: u16) -> usize
-    requires { ⌜ (x < length (now values)) × (valueOf (now values) x < 2) ⌝ }
-    ensures { λ r. ⌜ r ≡ 2 * x + valueOf (now (values .entry)) x ⌝ }
-{
-    let i = wide(x);
-    if values[i] == 1 {
-        return 2 * i + 1;
-    }
-    2 * i
-}
-
-// Visits each clause in which the literal of x stands that is now false, and sets what is forced.
-fn attend(
+// Sees to clauses that have at most one literal left, by their words: one that is unset is forced, and without one the clause is broken.
+fn heed(
     list: &[u16],
     n: u8,
     table: &[u16],
-    firsts: &[u16; 1561],
-    clauses: &[u16],
-    hints: &mut [u16],
-    x: u16,
+    words: &[u32],
+    noted: &[u16],
     values: &mut [u8],
     trail: &mut [u16],
     joined: &mut [u64; 40],
     apart: &mut [u64; 40],
     start: usize,
 ) -> Reached
-    requires { ⌜ Indexed (now list) (now firsts) (now clauses) × Hinted (now list) (now firsts) (now clauses) (now hints) ⌝ }
-    requires { ⌜ Ready (clausesIn (now list)) (now values) (now trail) start ⌝ }
-    requires { ⌜ (x < length (now values)) × (length (now values) ≤ 780) × (valueOf (now values) x ≢ 2) ⌝ }
+    requires { ⌜ Ready (clausesIn (now list)) (now values) (now trail) start × (length (now values) ≤ 780) ⌝ }
+    requires { ⌜ Told (now list) (now values) (now words) (now noted) ⌝ }
     requires { ⌜ PairTable (now table) × Rows n (now values) (now joined) (now apart) ⌝ }
     ensures { λ r. ⌜
-        Attended (clausesIn (now (list .entry))) x (now (values .entry)) (now (trail .entry)) start (now (values .exit)) (now (trail .exit)) (r .broken)
+        Heeded (now (list .entry)) (now (noted .entry)) (now (values .entry)) (now (trail .entry)) start (now (values .exit)) (now (trail .exit)) (r .broken)
         (r .count)
         × Rows n (now (values .exit)) (now (joined .exit)) (now (apart .exit)) ⌝ }
-    ensures hinted { λ _. ⌜ Hinted (now (list .entry)) (now (firsts .entry)) (now (clauses .entry)) (now (hints .exit)) ⌝ }
 {
     let mut count = start;
-    let l = false_literal(values, x);
-    let mut k = wide(firsts[l]);
-    let end = wide(firsts[l + 1]);
-    'places: while k < end {
-        let heard = visit(list, clauses, hints, k, values);
-        k += 1;
-        match heard {
-            Heard::Broken => {
-                return Reached {
-                    broken: true,
-                    count,
-                };
-            }
-            Heard::Forcing(m) => {
-                count = force(n, table, m, values, trail, joined, apart, count);
-                continue 'places;
-            }
-            Heard::Quiet => {
-                continue 'places;
-            }
+    let mut k: usize = 0;
+    'noted: while k < noted.len() {
+        let w = words[wide(noted[k])];
+        if w < 2048 {
+            return Reached {
+                broken: true,
+                count,
+            };
         }
+        let m = (w - 2048) as u16;
+        k += 1;
+        if is_right(values, m) {
+            continue 'noted;
+        }
+        if !is_unset(values, m) {
+            return Reached {
+                broken: true,
+                count,
+            };
+        }
+        count = force(n, table, m, values, trail, joined, apart, count);
     }
     Reached {
         broken: false,
@@ -89,7 +76,8 @@ pub fn settle_indexed(
     table: &[u16],
     firsts: &[u16; 1561],
     clauses: &[u16],
-    hints: &mut [u16],
+    words: &mut [u32],
+    noted: &mut [u16],
     values: &mut [u8],
     trail: &mut [u16],
     joined: &mut [u64; 40],
@@ -97,15 +85,16 @@ pub fn settle_indexed(
     from: usize,
     start: usize,
 ) -> Reached
-    requires { ⌜ Indexed (now list) (now firsts) (now clauses) × Hinted (now list) (now firsts) (now clauses) (now hints) ⌝ }
+    requires { ⌜ Indexed (now list) (now firsts) (now clauses) × Room (now clauses) (now words) (now noted) ⌝ }
     requires { ⌜ Ready (withTriangles (now list) n) (now values) (now trail) start ⌝ }
     requires { ⌜ Queue (withTriangles (now list) n) (now values) (now trail) from start × (length (now values) ≤ 780) ⌝ }
+    requires { ⌜ Behind (now list) (now values) (now trail) from start (now words) ⌝ }
     requires { ⌜ PairTable (now table) × Rows n (now values) (now joined) (now apart) ⌝ }
     ensures { λ r. ⌜
         Settles (withTriangles (now (list .entry)) n) (now (values .entry)) (now (trail .entry)) start (now (values .exit)) (now (trail .exit)) (r .broken)
         (r .count)
         × Rows n (now (values .exit)) (now (joined .exit)) (now (apart .exit)) ⌝ }
-    ensures hinted { λ _. ⌜ Hinted (now (list .entry)) (now (firsts .entry)) (now (clauses .entry)) (now (hints .exit)) ⌝ }
+    ensures caught { λ r. ⌜ Caught (now (list .entry)) (now (values .exit)) (now (words .exit)) (r .broken) ⌝ }
 {
     let mut at = from;
     let mut count = start;
@@ -116,14 +105,15 @@ pub fn settle_indexed(
         if a.broken {
             return a;
         }
-        let r = attend(
+        let l = false_literal(values, x);
+        let places = &clauses[wide(firsts[l])..wide(firsts[l + 1])];
+        let few = fall(places, l as u16, words, noted);
+        let r = heed(
             list,
             n,
             table,
-            firsts,
-            clauses,
-            hints,
-            x,
+            words,
+            &noted[..few],
             values,
             trail,
             joined,

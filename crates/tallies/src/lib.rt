@@ -1,1 +1,4 @@
 // What each clause has left.
+mod literal;
+
+pub use literal::false_literal;

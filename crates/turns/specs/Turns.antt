@@ -14,6 +14,8 @@ use Rattle.pairs.specs.Pairs.{pairs}
 use Rattle.pairs.specs.Triangles.{triangles}
 use Rattle.rows.specs.Trail.{Ready, Queue}
 use Rattle.rows.specs.Conclusions.{withTriangles}
+use Rattle.propagate.specs.Heeding.{Room}
+use Rattle.restore.specs.Restoring.{IndexedIf}
 use Rattle.turns.specs.declared.Ending.{Ending}
 use Rattle.turns.specs.declared.Ending.the-variants.{Found, Absent, Spent}
 
@@ -36,6 +38,12 @@ pub record Fresh (ws : List ℕ) (n : ℕ) (v : List ℕ) : Type 0 where
   pub most : length v ≤ 780
   pub few : n ≤ 40
   pub size : 0 < n → length v ≡ pairs n
+
+-- whole clauses, indexed where there is room for each place, and room for their words and to note as many as there are places
+pub record Prepared (ws firsts clauses words noted : List ℕ) : Type 0 where
+  pub all-there : whole ws ≡ true
+  pub indexed : IndexedIf ws firsts clauses
+  pub room : Room clauses words noted
 
 -- clauses over at most 780 variables; the trail's first count variables are set, as they are wherever the clauses are at rest, and group 2 waits for them
 pub record Begun (ws : List ℕ) (n : ℕ) (v t : List ℕ) (count : ℕ) : Type 0 where

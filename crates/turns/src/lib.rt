@@ -7,13 +7,16 @@ ghost use Rattle.pairs.specs.Entries.{PairTable};
 ghost use Rattle.rows.specs.Conclusions.{withTriangles};
 ghost use Rattle.rows.specs.Rows.{Rows};
 ghost use Rattle.rows.specs.Trail.{Ready, Queue, Settles};
-ghost use Rattle.occurrences.specs.Occurrences.{Prepared};
-ghost use Rattle.turns.specs.Turns.{NextUnset, Rested, EndsWith};
+ghost use Rattle.tallies.specs.Tallies.{Tallied};
+ghost use Rattle.propagate.specs.Heeding.{Caught};
+ghost use Rattle.restore.specs.Restoring.{Lags};
+ghost use Rattle.turns.specs.Turns.{NextUnset, Rested, Prepared, EndsWith};
 use conclude::Reached;
 use passes::settle;
 use propagate::settle_indexed;
+use restore::copy;
+use restore::retreat;
 use rows::force;
-use rows::undo;
 use rows::wide;
 use trial::walk_back;
 
@@ -53,7 +56,8 @@ fn close(
     table: &[u16],
     firsts: &[u16; 1561],
     clauses: &[u16],
-    hints: &mut [u16],
+    words: &mut [u32],
+    noted: &mut [u16],
     values: &mut [u8],
     trail: &mut [u16],
     joined: &mut [u64; 40],
@@ -61,7 +65,8 @@ fn close(
     from: usize,
     start: usize,
 ) -> Reached
-    requires { ⌜ Prepared (now list) (now firsts) (now clauses) (now hints) ⌝ }
+    requires { ⌜ Prepared (now list) (now firsts) (now clauses) (now words) (now noted) ⌝ }
+    requires { ⌜ Lags (now list) (now clauses) (now values) (now trail) from start (now words) ⌝ }
     requires { ⌜ Ready (withTriangles (now list) n) (now values) (now trail) start ⌝ }
     requires { ⌜ Queue (withTriangles (now list) n) (now values) (now trail) from start × (length (now values) ≤ 780) ⌝ }
     requires { ⌜ PairTable (now table) × Rows n (now values) (now joined) (now apart) ⌝ }
@@ -69,7 +74,7 @@ fn close(
         Settles (withTriangles (now (list .entry)) n) (now (values .entry)) (now (trail .entry)) start (now (values .exit)) (now (trail .exit)) (r .broken)
         (r .count)
         × Rows n (now (values .exit)) (now (joined .exit)) (now (apart .exit)) ⌝ }
-    ensures prepared { λ _. ⌜ Prepared (now (list .entry)) (now (firsts .entry)) (now (clauses .entry)) (now (hints .exit)) ⌝ }
+    ensures caught { λ r. ⌜ length (now (list .entry)) ≤ length (now (clauses .entry)) → Caught (now (list .entry)) (now (values .exit)) (now (words .exit)) (r .broken) ⌝ }
 {
     if from == start {
         return Reached {
@@ -84,7 +89,8 @@ fn close(
             table,
             firsts,
             clauses,
-            hints,
+            words,
+            noted,
             values,
             trail,
             joined,
@@ -105,7 +111,9 @@ pub fn turns(
     table: &[u16],
     firsts: &[u16; 1561],
     clauses: &[u16],
-    hints: &mut [u16],
+    words: &mut [u32],
+    saved: &mut [u32],
+    noted: &mut [u16],
     values: &mut [u8],
     trail: &mut [u16],
     joined: &mut [u64; 40],
@@ -113,7 +121,8 @@ pub fn turns(
     budget: u64,
     start: usize,
 ) -> Ending
-    requires { ⌜ Prepared (now list) (now firsts) (now clauses) (now hints) ⌝ }
+    requires { ⌜ Prepared (now list) (now firsts) (now clauses) (now words) (now noted) ⌝ }
+    requires { ⌜ (length (now list) ≤ length (now clauses) → Tallied (now list) (now values) (now words)) × (now saved ≡ now words) ⌝ }
     requires { ⌜ Rested (withTriangles (now list) n) (length (now values)) (now values) (now trail) start ⌝ }
     requires { ⌜ PairTable (now table) × Rows n (now values) (now joined) (now apart) ⌝ }
     ensures { λ r. ⌜ EndsWith (searchTried (withTriangles (now (list .entry)) n) (length (now (values .entry))) budget) r (now (values .exit)) (notFalse (now (values .entry))) ⌝ }
@@ -131,7 +140,8 @@ pub fn turns(
             table,
             firsts,
             clauses,
-            hints,
+            words,
+            noted,
             values,
             trail,
             joined,
@@ -144,8 +154,25 @@ pub fn turns(
                 return Ending::Absent(made);
             }
             depth -= 1;
-            at = wide(marks[depth]);
-            low = undo(n, table, values, trail, joined, apart, at, r.count) + 1;
+            let mark = wide(marks[depth]);
+            let x = retreat(
+                list,
+                n,
+                table,
+                firsts,
+                clauses,
+                words,
+                saved,
+                values,
+                trail,
+                joined,
+                apart,
+                mark,
+                at,
+                r.count,
+            );
+            low = x + 1;
+            at = mark;
             count = at + 1;
             continue 'turns;
         }
@@ -169,6 +196,7 @@ pub fn turns(
             return Ending::Spent(made);
         }
         at = r.count;
+        copy(words, saved);
         marks[depth] = at as u16;
         depth += 1;
         made += 1;

@@ -40,14 +40,14 @@ same-length c =
     let j = c .before .before .before .before .before .before .before .before .before .before .before .before .queue .inv .0 in
     let h = c .before .before .before .before .before .before .before .before .before .before .before .queue-test .taken in
     let k = c .before .before .before .before .before .conclude .ensures .0 in
-    laws.seen-values j h k
+    laws.seen-values j h (laws.attended-seen _ k)
 
 same-length-2 : tie.Need-same-length-2 Inv-queue μ-queue
 same-length-2 c =
     let j = c .before .before .before .before .before .before .before .before .before .before .before .before .queue .inv .0 in
     let h = c .before .before .before .before .before .before .before .before .before .before .before .queue-test .taken in
     let k = c .before .before .before .before .before .conclude .ensures .0 in
-    laws.seen-trail j h k
+    laws.seen-trail j h (laws.attended-seen _ k)
 
 returns : tie.Need-returns Inv-queue μ-queue
 returns c =
@@ -55,14 +55,14 @@ returns c =
     let j = c .before .before .before .before .before .before .before .before .before .before .before .before .queue .inv .0 in
     let h = c .before .before .before .before .before .before .before .before .before .before .before .queue-test .taken in
     let k = the-conclude .ensures .0 in
-    (laws.queue-broken j h k (c .if1 .taken), the-conclude .ensures .1)
+    (laws.queue-broken j h (laws.attended-seen _ k) (c .if1 .taken), the-conclude .ensures .1)
 
 queue-less : tie.Need-queue-less Inv-queue μ-queue
 queue-less c =
     let j = c .before .before .before .before .before .before .before .before .before .before .before .before .queue .inv .0 in
     let h = c .before .before .before .before .before .before .before .before .before .before .before .queue-test .taken in
     let k = c .before .before .before .before .before .conclude .ensures .0 in
-    laws.queue-less j h k
+    laws.queue-less j h (laws.attended-seen _ k)
 
 queue-again : tie.Need-queue-again Inv-queue μ-queue
 queue-again c =
@@ -70,7 +70,7 @@ queue-again c =
     let j = c .before .before .before .before .before .before .before .before .before .before .before .before .queue .inv .0 in
     let h = c .before .before .before .before .before .before .before .before .before .before .before .queue-test .taken in
     let k = the-conclude .ensures .0 in
-    (laws.queue-on j h k (c .if1 .left), the-conclude .ensures .1)
+    (laws.queue-on j h (laws.attended-seen _ k) (c .if1 .left), the-conclude .ensures .1)
 
 same-length-3 : tie.Need-same-length-3 Inv-queue μ-queue
 same-length-3 c = laws.queue-values (c .before .queue .inv .0)

@@ -1,0 +1,117 @@
+// The words of the clauses go back with the values, where a guess is undone.
+ghost use mathlib.Core.Path.{_≡_};
+ghost use Prim.Native.Nat.{_≤_};
+ghost use lib.ListN.{length};
+ghost use Rattle.pairs.specs.Entries.{PairTable};
+ghost use Rattle.rows.specs.Rows.{Rows};
+ghost use Rattle.rows.specs.Undo.{Undoable, Undone};
+ghost use Rattle.tallies.specs.Tallies.{Indexed};
+ghost use Rattle.tallies.specs.Behind.{Behind};
+ghost use Rattle.restore.specs.Restoring.{IndexedIf, Passed, Sized, Lags, Back};
+use rows::undo;
+use rows::wide;
+use tallies::false_literal;
+use tallies::rise;
+
+// Copies the words.
+pub fn copy(from: &[u32], to: &mut [u32])
+    requires { ⌜ (length (now from) ≡ length (now to)) × (length (now to) ≤ 32768) ⌝ }
+    ensures { λ _. ⌜ now (to .exit) ≡ now (from .entry) ⌝ }
+{
+    let mut i: usize = 0;
+    'words: while i < from.len() {
+        to[i] = from[i];
+        i += 1;
+    }
+}
+
+// Gives the clauses the weights back that they lost by the trail's variables from `mark` up to `base`. The trail has `count` variables.
+fn climb(
+    list: &[u16],
+    firsts: &[u16; 1561],
+    clauses: &[u16],
+    words: &mut [u32],
+    values: &[u8],
+    trail: &[u16],
+    mark: usize,
+    base: usize,
+    count: usize,
+)
+    requires { ⌜ Indexed (now list) (now firsts) (now clauses) × Sized (now clauses) (now words) ⌝ }
+    requires { ⌜ Passed (now list) (now values) (now trail) mark base count × Behind (now list) (now values) (now trail) base count (now words) ⌝ }
+    ensures { λ _. ⌜ Behind (now (list .entry)) (now (values .entry)) (now (trail .entry)) mark count (now (words .exit)) ⌝ }
+{
+    let mut i = base;
+    'trail: while mark < i {
+        i -= 1;
+        let l = false_literal(values, trail[i]);
+        let places = &clauses[wide(firsts[l])..wide(firsts[l + 1])];
+        rise(places, l as u16, words);
+    }
+}
+
+// The words before the guess at `mark`: those that were saved before the variables from `base` on, and back from there. They are saved too.
+fn restore(
+    list: &[u16],
+    firsts: &[u16; 1561],
+    clauses: &[u16],
+    words: &mut [u32],
+    saved: &mut [u32],
+    values: &[u8],
+    trail: &[u16],
+    mark: usize,
+    base: usize,
+    count: usize,
+)
+    requires { ⌜ Indexed (now list) (now firsts) (now clauses) × Sized (now clauses) (now words) × (length (now saved) ≡ length (now words)) ⌝ }
+    requires { ⌜ Passed (now list) (now values) (now trail) mark base count × Behind (now list) (now values) (now trail) base count (now saved) ⌝ }
+    ensures { λ _. ⌜ Behind (now (list .entry)) (now (values .entry)) (now (trail .entry)) mark count (now (words .exit)) × (now (saved .exit) ≡ now (words .exit)) ⌝ }
+{
+    copy(saved, words);
+    if mark == base {
+        return;
+    }
+    climb(list, firsts, clauses, words, values, trail, mark, base, count);
+    copy(words, saved);
+}
+
+// Undoes the guess at `mark` and all that was set after it, and sets its variable false, which it answers; the words too, where the list is indexed.
+pub fn retreat(
+    list: &[u16],
+    n: u8,
+    table: &[u16],
+    firsts: &[u16; 1561],
+    clauses: &[u16],
+    words: &mut [u32],
+    saved: &mut [u32],
+    values: &mut [u8],
+    trail: &[u16],
+    joined: &mut [u64; 40],
+    apart: &mut [u64; 40],
+    mark: usize,
+    base: usize,
+    count: usize,
+) -> usize
+    requires { ⌜ IndexedIf (now list) (now firsts) (now clauses) × Sized (now clauses) (now words) × (length (now saved) ≡ length (now words)) ⌝ }
+    requires { ⌜ Passed (now list) (now values) (now trail) mark base count × Lags (now list) (now clauses) (now values) (now trail) base count (now saved) ⌝ }
+    requires { ⌜ PairTable (now table) × Undoable (now values) (now trail) mark count × Rows n (now values) (now joined) (now apart) ⌝ }
+    ensures { λ r. ⌜ Undone (now (values .entry)) (now (trail .entry)) mark count (now (values .exit)) r × Rows n (now (values .exit)) (now (joined .exit)) (now (apart .exit)) ⌝ }
+    ensures back { λ _. ⌜ Back (now (list .entry)) (now (clauses .entry)) (now (values .exit)) (now (trail .entry)) mark (now (words .exit)) (now (saved .exit)) ⌝ }
+{
+    if list.len() <= clauses.len() {
+        restore(
+            list,
+            firsts,
+            clauses,
+            words,
+            saved,
+            values,
+            trail,
+            mark,
+            base,
+            count,
+        );
+        return undo(n, table, values, trail, joined, apart, mark, count);
+    }
+    undo(n, table, values, trail, joined, apart, mark, count)
+}
