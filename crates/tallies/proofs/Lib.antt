@@ -1,0 +1,4 @@
+pub mod Taking
+pub mod Tallying
+pub mod Times
+pub mod Weighing
