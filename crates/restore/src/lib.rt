@@ -71,7 +71,17 @@ fn restore(
     if mark == base {
         return;
     }
-    climb(list, firsts, clauses, words, values, trail, mark, base, count);
+    climb(
+        list,
+        firsts,
+        clauses,
+        words,
+        values,
+        trail,
+        mark,
+        base,
+        count,
+    );
     copy(words, saved);
 }
 

@@ -1,2 +1,6 @@
+pub mod Taking
+pub mod Tallying
+pub mod Times
+pub mod Weighing
 pub mod Lagging
 pub mod FalseLiteral
