@@ -1,3 +1,4 @@
+pub mod Falling
 pub mod Taking
 pub mod Tallying
 pub mod Times

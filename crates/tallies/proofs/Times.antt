@@ -1,12 +1,16 @@
 -- How often a number stands in a list. Assumes nothing.
-use mathlib.Core.Path.{_≡_, ap, _∙_}
+use mathlib.Core.Path.{_≡_, refl, ap, _∙_}
 use mathlib.Core.Logic.{_≢_}
-use mathlib.Core.List.{List, _∷_}
+use mathlib.Core.List.{List, [], _∷_}
 use Prim.Native.Nat.{ℕ, suc, _+_, _*_}
 use native.Mathlib.Nat.{suc-mul}
 use borrow.Author.Tests.{eq-eqb, ne-eqb}
 use Rattle.lists.specs.Lists.{keep}
 use Rattle.tallies.specs.Tallies.{times}
+
+pub times-nil : (c : ℕ) → times c [] ≡ 0
+unfolding keep
+times-nil c = refl
 
 pub times-here : (c x : ℕ) (xs : List ℕ) → c ≡ x → times c (x ∷ xs) ≡ suc (times c xs)
 unfolding keep
