@@ -8,7 +8,7 @@ use native.Mathlib.Nat.{zero-add, suc-add}
 use native.Mathlib.Numerals.{add-one}
 use native.Mathlib.Omega.{arith}
 use lib.ListN.{length, getD, take, drop, length-drop, drop-of-length-le}
-use lib.Seq.{drop-cons, drop-drop, take-nil}
+use lib.Seq.{slice, drop-cons, drop-drop, take-nil}
 use lib.Dec.{leb}
 use borrow.Author.Tests.{leb-true}
 use Rattle.lists.proofs.Members.{and-true}
@@ -20,6 +20,10 @@ take-drop : (a k : ℕ) (l : List ℕ) → take k (drop a l) ≡ drop a (take (a
 take-drop zero k l = rw zero-add
 take-drop (suc a) k [] = rw (suc-add, take-nil)
 take-drop (suc a) k (x ∷ l) = rw suc-add (take-drop a k l)
+
+-- the part of a list that the code lends
+pub lent-part : (a b : ℕ) (l : List ℕ) → a ≤ b → take (b - a) (drop a l) ≡ slice a b l
+lent-part a b l h = let sum : a + (b - a) ≡ b = omega arith in rw sum at (take-drop a (b - a) l)
 
 -- before the clause at `at`: the clauses from there on are whole, and clauses of the list
 pub record Before (ws : List ℕ) (at : ℕ) : Type 0 where

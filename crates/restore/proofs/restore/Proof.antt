@@ -1,0 +1,46 @@
+-- `restore::restore` meets its contract. Assumes nothing.
+use borrow.Author.Needs.{needs}
+use native.Mathlib.Omega.{arith}
+use mathlib.Core.Path.{sym, ap, _∙_}
+use lib.ListN.{length}
+use Rattle.restore.proofs.restore.Statement.{statement}
+use Rattle.restore.proofs.restore.Tie as tie
+
+copy-requires : tie.Need-copy-requires
+copy-requires c κs =
+    let the-pre = c .before .before .before .before .before .before .before .before .pre in
+    (the-pre .0 .2, the-pre .0 .1 .small)
+
+same-length : tie.Need-same-length
+same-length c = ap length (c .before .before .before .copy .ensures) ∙ c .before .before .before .before .before .before .before .before .before .before .before .before .pre .0 .2
+
+same-length-2 : tie.Need-same-length-2
+same-length-2 c = search needs
+
+returns : tie.Need-returns
+returns c =
+    let the-copy = c .before .before .before .copy in
+    (rw (c .if1 .taken, the-copy .ensures) (c .before .before .before .before .before .before .before .before .before .before .before .before .pre .1 .1), sym (the-copy .ensures))
+
+climb-requires : tie.Need-climb-requires
+climb-requires c κs =
+    let the-pre = c .before .before .before .before .before .before .before .before .before .before .before .before .before .pre in
+    let the-copy = c .before .before .before .before .copy in
+    ((the-pre .0 .0, record { few = the-pre .0 .1 .few; small = omega (arith, ap length (the-copy .ensures), the-pre .0 .2, the-pre .0 .1 .small) }), (the-pre .1 .0, rw (the-copy .ensures) (the-pre .1 .1)))
+
+copy-requires-2 : tie.Need-copy-requires-2
+copy-requires-2 c κs =
+    let the-pre = c .before .before .before .before .before .before .before .before .before .before .before .before .before .before .before .before .before .before .pre in
+    (omega (arith, c .before .before .before .before .climb .kept .1 .1 .1 .0, ap length (c .before .before .before .before .before .before .before .before .before .copy .ensures)), omega (arith, the-pre .0 .2, the-pre .0 .1 .small))
+
+same-length-3 : tie.Need-same-length-3
+same-length-3 c = search needs
+
+same-length-4 : tie.Need-same-length-4
+same-length-4 c = search needs
+
+returns-2 : tie.Need-returns-2
+returns-2 c = (c .before .before .before .before .before .before .before .climb .ensures, c .before .before .copy2 .ensures)
+
+pub restore-spec : {M : Type 1} → statement M
+restore-spec = tie.close (tie.spec copy-requires same-length same-length-2 returns climb-requires copy-requires-2 same-length-3 same-length-4 returns-2)

@@ -1,0 +1,45 @@
+-- `restore::retreat` meets its contract. Assumes nothing.
+use borrow.Author.Needs.{needs}
+use native.Mathlib.Omega.{arith}
+use Rattle.tallies.proofs.Lagging.{behind-undone}
+use Rattle.restore.proofs.retreat.Statement.{statement}
+use Rattle.restore.proofs.retreat.Tie as tie
+
+restore-requires : tie.Need-restore-requires
+restore-requires c κs =
+    let the-pre = c .before .before .before .before .before .before .before .before .before .before .before .pre in
+    let the-if1 = c .before .before .before .if1 in
+    ((the-pre .0 .0 (the-if1 .taken), the-pre .0 .1, the-pre .0 .2), (the-pre .1 .0 .0, the-pre .1 .0 .1 (the-if1 .taken)))
+
+undo-requires : tie.Need-undo-requires
+undo-requires c κs = c .before .before .before .before .before .before .before .before .before .before .before .before .before .before .before .before .before .before .before .pre .1 .1
+
+same-length : tie.Need-same-length
+same-length c = search needs
+
+same-length-2 : tie.Need-same-length-2
+same-length-2 c = search needs
+
+same-length-3 : tie.Need-same-length-3
+same-length-3 c = search needs
+
+returns : tie.Need-returns
+returns c =
+    let the-undo = c .before .before .undo in
+    let the-pre = c .before .before .before .before .before .before .before .before .before .before .before .before .before .before .before .before .before .before .before .before .before .before .pre in
+    let the-restore = c .before .before .before .before .before .before .before .before .before .before .restore in
+    (the-undo .ensures, record { lags = λ _. behind-undone (the-pre .1 .1 .1 .inside) (the-pre .1 .1 .1 .room) (the-undo .ensures .0) (the-restore .ensures .0); kept = λ _. the-restore .ensures .1 })
+
+undo-requires-2 : tie.Need-undo-requires-2
+undo-requires-2 c κs = c .before .before .before .before .before .before .before .before .before .before .before .pre .1 .1
+
+same-length-4 : tie.Need-same-length-4
+same-length-4 c = search needs
+
+returns-2 : tie.Need-returns-2
+returns-2 c =
+    let the-if1 = c .before .before .before .before .before .before .if1 in
+    (c .before .before .undo2 .ensures, record { lags = λ h. absurd (omega (arith, h, the-if1 .left)); kept = λ h. absurd (omega (arith, h, the-if1 .left)) })
+
+pub retreat-spec : {M : Type 1} → statement M
+retreat-spec = tie.close (tie.spec restore-requires undo-requires same-length same-length-2 same-length-3 returns undo-requires-2 same-length-4 returns-2)
