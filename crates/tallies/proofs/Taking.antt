@@ -71,13 +71,14 @@ pub record Noting (places now noted : List ℕ) (k count : ℕ) : Type 0 where
   pub fewer : count ≤ k
   pub room : length places ≤ length noted
   pub among : (c : ℕ) → List·Memᴰ c (take count noted) → List·Memᴰ c places
+  pub light : (c : ℕ) → List·Memᴰ c (take count noted) → getD now c 0 < 4096
   pub every : (c : ℕ) → List·Memᴰ c places → List·Memᴰ c (drop k places) ⊎ (getD now c 0 < 4096 → List·Memᴰ c (take count noted))
 
 pub noting : {places noted : List ℕ} (now : List ℕ) → length places ≤ length noted → Noting places now noted 0 0
-noting now h = record { fewer = omega arith; room = h; among = λ c m. absurd (not-nil m); every = λ c m. inl m }
+noting now h = record { fewer = omega arith; room = h; among = λ c m. absurd (not-nil m); light = λ c m. absurd (not-nil m); every = λ c m. inl m }
 
 pub all-noted : {places now noted : List ℕ} {k count : ℕ} → Noting places now noted k count → k ≤ length places → length places ≤ k → Noted places now noted count
-all-noted {places} {now} {noted} {k} {count} n i h = record { few = omega (arith, n .fewer, n .room); among = n .among; every = λ c m low. go c low (n .every c m) }
+all-noted {places} {now} {noted} {k} {count} n i h = record { few = omega (arith, n .fewer, n .room); among = n .among; light = n .light; every = λ c m low. go c low (n .every c m) }
   where
     go : (c : ℕ) → getD now c 0 < 4096 → List·Memᴰ c (drop k places) ⊎ (getD now c 0 < 4096 → List·Memᴰ c (take count noted)) → List·Memᴰ c (take count noted)
     go c low (inl m) = absurd (not-nil (rw (drop-of-length-le places h) at m))
@@ -108,14 +109,20 @@ module _ {places now noted : List ℕ} {k count c : ℕ} (n : Noting places now 
       go (inr f) = inr (λ low. more d (f (rw (getD-set-other now c d left 0 r) at low)))
 
   -- at most one literal is left
-  pub note-it : Noting places (set now c left) (set noted count c) (k + 1) (count + 1)
-  note-it = record {
+  pub note-it : c < length now → left < 4096 → Noting places (set now c left) (set noted count c) (k + 1) (count + 1)
+  note-it room low = record {
     fewer = omega (arith, n .fewer);
     room = rw (length-set noted count c) (n .room);
     among = λ d m. was d (append-cases (take count noted) (rw grown at m));
+    light = λ d m. lower d (append-cases (take count noted) (rw grown at m)) (ℕ-discrete d c);
     every = λ d m. go d m (ℕ-discrete d c);
   }
     where
+      lower : (d : ℕ) → List·Memᴰ d (take count noted) ⊎ List·Memᴰ d (c ∷ []) → Dec (d ≡ c) → getD (set now c left) d 0 < 4096
+      lower d m (yes r) = rw (r, getD-set-same now c left 0 room) low
+      lower d (inl m) (no r) = rw (getD-set-other now c d left 0 r) (n .light d m)
+      lower d (inr m) (no r) = absurd (r (eq-of-singleton m))
+
       was : (d : ℕ) → List·Memᴰ d (take count noted) ⊎ List·Memᴰ d (c ∷ []) → List·Memᴰ d places
       was d (inl m) = n .among d m
       was d (inr m) = rw (eq-of-singleton m) c-in
@@ -125,14 +132,19 @@ module _ {places now noted : List ℕ} {k count c : ℕ} (n : Noting places now 
       go d m (no r) = other (take (count + 1) (set noted count c)) (λ d z. rw grown (Memᴰ·append-left (c ∷ []) z)) d r m
 
   -- more are
-  pub pass-it : c < length now → 4096 ≤ left → Noting places (set now c left) (set noted count c) (k + 1) count
-  pass-it room high = record {
+  pub pass-it : c < length now → 4096 ≤ left → left ≤ getD now c 0 → Noting places (set now c left) (set noted count c) (k + 1) count
+  pass-it room high less = record {
     fewer = omega (arith, n .fewer);
     room = rw (length-set noted count c) (n .room);
     among = λ d m. n .among d (rw same at m);
+    light = λ d m. lower d (n .light d (rw same at m)) (ℕ-discrete d c);
     every = λ d m. go d m (ℕ-discrete d c);
   }
     where
+      lower : (d : ℕ) → getD now d 0 < 4096 → Dec (d ≡ c) → getD (set now c left) d 0 < 4096
+      lower d z (yes r) = let was : getD now c 0 < 4096 = rw (← r) z in absurd (omega (arith, high, less, was))
+      lower d z (no r) = rw (getD-set-other now c d left 0 r) z
+
       go : (d : ℕ) → List·Memᴰ d places → Dec (d ≡ c) → List·Memᴰ d (drop (k + 1) places) ⊎ (getD (set now c left) d 0 < 4096 → List·Memᴰ d (take count (set noted count c)))
       go d m (yes r) =
           let new : getD (set now c left) d 0 ≡ left = rw r (getD-set-same now c left 0 room) in

@@ -63,6 +63,7 @@ pub record Fell (places : List ℕ) (l : ℕ) (words words′ : List ℕ) : Type
 pub record Noted (places words noted : List ℕ) (count : ℕ) : Type 0 where
   pub few : count ≤ length noted
   pub among : (c : ℕ) → List·Memᴰ c (take count noted) → List·Memᴰ c places
+  pub light : (c : ℕ) → List·Memᴰ c (take count noted) → getD words c 0 < 4096
   pub every : (c : ℕ) → List·Memᴰ c places → getD words c 0 < 4096 → List·Memᴰ c (take count noted)
 
 -- there is room for the weight

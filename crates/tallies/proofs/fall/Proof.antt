@@ -3,6 +3,7 @@
 use borrow.Author.Needs.{needs}
 use mathlib.Core.Path.{_≡_, refl, ap, _∙_}
 use mathlib.Core.Logic.{⊎-elim}
+use native.Mathlib.Omega.{arith}
 use Prim.Native.Nat.{_+_, _-_}
 use lib.ListN.{length, getD, length-set}
 use Rattle.tallies.proofs.Taking as laws
@@ -100,8 +101,8 @@ places-again c =
     let the-next = laws.take-on (the-pre .0) (the-places .inv .0) the-taken {c = the-clause} refl (ap (λ x. getD (the-places .words) x 0 - (2048 + the-args .l)) (the-wide .ensures)) in
     let the-length = length-set (the-places .noted) (the-places .count) the-clause ∙ the-places .inv .2 in
     ⊎-elim
-    (λ w. rw (c .before .wide2 .ensures, w .1) (the-next, laws.note-it (the-places .inv .1) the-taken refl the-left, the-length))
-    (λ w. rw (c .before .wide2 .ensures, w .1) (the-next, laws.pass-it (the-places .inv .1) the-taken refl the-left (laws.place-inside (the-pre .0) (the-places .inv .0) the-taken) (w .0 .left), the-length))
+    (λ w. rw (c .before .wide2 .ensures, w .1) (the-next, laws.note-it (the-places .inv .1) the-taken refl the-left (laws.place-inside (the-pre .0) (the-places .inv .0) the-taken) (w .0 .taken), the-length))
+    (λ w. rw (c .before .wide2 .ensures, w .1) (the-next, laws.pass-it (the-places .inv .1) the-taken refl the-left (laws.place-inside (the-pre .0) (the-places .inv .0) the-taken) (w .0 .left) (rw (the-wide .ensures) (omega arith)), the-length))
     (c .if1 .came)
 
 same-length : tie.Need-same-length Inv-places μ-places
