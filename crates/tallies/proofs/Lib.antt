@@ -1,4 +1,5 @@
 pub mod Falling
+pub mod Left
 pub mod Taking
 pub mod Tallying
 pub mod Times

@@ -22,9 +22,9 @@ pub false-of : (v : List ℕ) (l : ℕ) → valueOf v (l / 2) ≡ l % 2 → isFa
 unfolding isFalse
 false-of v l e = eq-eqb _ _ e
 
-pub not-false : (v : List ℕ) (l : ℕ) → isFalse v l ≡ false → valueOf v (l / 2) ≢ l % 2
+pub left-is : (v : List ℕ) (l : ℕ) → isFalse v l ≡ false → valueOf v (l / 2) ≢ l % 2
 unfolding isFalse
-not-false v l e = eqb-false _ _ e
+left-is v l e = eqb-false _ _ e
 
 pub false-not : (v : List ℕ) (l : ℕ) → valueOf v (l / 2) ≢ l % 2 → isFalse v l ≡ false
 unfolding isFalse

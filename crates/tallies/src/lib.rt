@@ -42,11 +42,11 @@ pub fn rise(places: &[u16], l: u16, words: &mut [u32])
     ensures { λ _. ⌜ Fell (now (places .entry)) l (now (words .exit)) (now (words .entry)) ⌝ }
 {
     let weight = (2048 + l) as u32;
-    let mut k: usize = 0;
-    'places: while k < places.len() {
-        let c = wide(places[k]);
+    let mut i: usize = 0;
+    'places: while i < places.len() {
+        let c = wide(places[i]);
         words[c] = words[c] + weight;
-        k += 1;
+        i += 1;
     }
 }
 

@@ -8,10 +8,10 @@ use Rattle.tallies.proofs.rise.Statement.{statement}
 use Rattle.tallies.proofs.rise.Tie as tie
 
 abbrev Inv-places : tie.InvT-places
-Inv-places places l words₀ weight k₀ words k = laws.Giving places l words₀ words k
+Inv-places places l words₀ weight i₀ words i = laws.Giving places l words₀ words i
 
 abbrev μ-places : tie.MeasureT-places
-μ-places places l words₀ weight k₀ words k = length places - k
+μ-places places l words₀ weight i₀ words i = length places - i
 
 add-weight : tie.Need-add-weight Inv-places μ-places
 add-weight c = search needs
@@ -66,8 +66,8 @@ slice-write-words c =
     let the-taken = c .before .before .before .places-test .taken in
     search (needs, laws.give-inside (the-pre .0) (the-places .inv) the-taken)
 
-add-k : tie.Need-add-k Inv-places μ-places
-add-k c = search needs
+add-i : tie.Need-add-i Inv-places μ-places
+add-i c = search needs
 
 places-less : tie.Need-places-less Inv-places μ-places
 places-less c = search needs
@@ -102,7 +102,7 @@ rise-spec =
     add-words
     mul-words-2
     slice-write-words
-    add-k
+    add-i
     places-less
     places-again
     same-length
