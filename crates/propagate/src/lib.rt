@@ -55,13 +55,14 @@ fn heed(
         if is_right(values, m) {
             continue 'noted;
         }
-        if !is_unset(values, m) {
-            return Reached {
-                broken: true,
-                count,
-            };
+        if is_unset(values, m) {
+            count = force(n, table, m, values, trail, joined, apart, count);
+            continue 'noted;
         }
-        count = force(n, table, m, values, trail, joined, apart, count);
+        return Reached {
+            broken: true,
+            count,
+        };
     }
     Reached {
         broken: false,
