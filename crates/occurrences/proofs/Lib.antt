@@ -1,4 +1,3 @@
 pub mod Several
 pub mod Counting
 pub mod Putting
-pub mod Preparing
