@@ -6,6 +6,7 @@
 //!   basilvault-bench processes FOLDER       the search as a process against minisat, on files in the folder
 //!   basilvault-bench fit FOLDER             the comparison of two tables on its own inputs; callgrind's files go to the folder
 //!   basilvault-bench fit-one SIDE           all of these once, by the `library` or in `plain` Rust
+//!   basilvault-bench worst                  seconds of the search on its worst lists
 //!   basilvault-bench load                   tables a second of a load from the library's generator
 //!   basilvault-bench seeds                  how the inputs' seeds were found
 
@@ -19,6 +20,7 @@ mod processes;
 mod report;
 mod stages;
 mod times;
+mod worst;
 
 /// Runs the mode that the arguments name.
 fn main() {
@@ -32,6 +34,7 @@ fn main() {
         ["fit-one", side] => pairs::one(side),
         ["one", stage, side] => instructions::one(stage, side),
         ["processes", folder] => processes::print(folder),
+        ["worst"] => worst::print(),
         ["load"] => load::print(),
         ["seeds"] => inputs::find(),
         _ => panic!("unknown arguments: {arguments:?}"),
