@@ -189,5 +189,5 @@ drained-broken p e = record { worked = p; at-rest = λ f. absurd (true≢false (
 
 -- such steps close the values
 pub drained-settles : {cs : List (List ℕ)} {v t w s : List ℕ} {start count : ℕ} {isBroken : Bool} → Ready cs v t start → Drained cs v t start w s isBroken count → Settles cs v t start w s isBroken count
-drained-settles {cs} {v} {w = w} {isBroken = true} r d = record { grown = d .worked .grown; closes = units-break cs v w (d .worked .units) (d .worked .breaking refl) }
-drained-settles {cs} {v} {w = w} {isBroken = false} r d = record { grown = d .worked .grown; closes = units-rest cs (length v) v w (r .values) (d .worked .units) (d .at-rest refl) }
+drained-settles {cs} {v} {w = w} {isBroken = true} r d = record { grown = d .worked .grown; values = units-values cs (length v) v w (d .worked .units) (r .values); closes = units-break cs v w (d .worked .units) (d .worked .breaking refl) }
+drained-settles {cs} {v} {w = w} {isBroken = false} r d = record { grown = d .worked .grown; values = units-values cs (length v) v w (d .worked .units) (r .values); closes = units-rest cs (length v) v w (r .values) (d .worked .units) (d .at-rest refl) }

@@ -68,4 +68,5 @@ closedBy false w = rests w
 -- the values are closed, by whatever means
 pub record Settles (cs : List (List ℕ)) (v t : List ℕ) (count : ℕ) (w s : List ℕ) (isBroken : Bool) (more : ℕ) : Type 0 where
   pub grown : Grown v t count w s more
+  pub values : Values (length v) w
   pub closes : Closes cs v (closedBy isBroken w)

@@ -91,6 +91,13 @@ module _ (v t : List ℕ) {count : ℕ} (all : count + unsetCount v ≡ length v
   counted-on zero from h c = let same : from + 0 ≡ from = omega arith in rw same c
   counted-on (suc k) from h c = let same : from + suc k ≡ from + k + 1 = omega arith in rw same (counted-next (from + k) (omega (arith, h)) (counted-on k from (omega (arith, h)) c))
 
+-- nothing is still to be seen to
+pub behind-rested : {ws v t words : List ℕ} {count : ℕ} → count + unsetCount v ≡ length v → count ≤ length t → Tallied ws v words → Behind ws v t count count words
+behind-rested {ws} {v} {t} {words} {count} c h b = let here = earlier-none v t c h in record { tallied = subst (λ (u : List ℕ). Tallied ws u words) (sym here) b; counted = rw here c }
+
+pub rested-behind : {ws v t words : List ℕ} {at count : ℕ} → count + unsetCount v ≡ length v → count ≤ length t → at ≡ count → Behind ws v t at count words → Tallied ws v words
+rested-behind {ws} {v} {t} {words} {at} {count} c h e b = subst (λ (u : List ℕ). Tallied ws u words) (ap (λ (i : ℕ). earlier v t i count) e ∙ earlier-none v t c h) (b .tallied)
+
 -- ---- further variables are set
 
 module _ {v t w s : List ℕ} {count more at : ℕ} (g : Grown v t count w s more) (h : at ≤ count) (k : count ≤ length t) where

@@ -483,7 +483,7 @@ module _ {cs : List (List ℕ)} {v t ms w s : List ℕ} {n b most from count dep
       go (inl k) = i .below x k
       go (inr k) = omega (arith, c .grown .below x k, i .size)
 
-  after-places : (j : ℕ) → j < more → getD s j 0 < length w
+  pub after-places : (j : ℕ) → j < more → getD s j 0 < length w
   after-places j h = rw after-size (after-below (getD s j 0) (subst (λ (y : ℕ). List·Memᴰ y (take more s)) (getD-take more s j 0 h) (getD-mem (take more s) j 0 (omega (arith, trail-length)))))
 
   pub after-depth : depth ≤ more
@@ -521,6 +521,15 @@ module _ {cs : List (List ℕ)} {v t ms w s : List ℕ} {n b most from count dep
         room = omega (arith, after-count);
         below = after-places;
       }
+
+      -- as many were set before the guess as its place says, and earlier guesses have earlier places
+      pub counted-before : mark + unsetCount (unsetting w (slice mark more s)) ≡ length w
+      counted-before =
+          let back : unsetting w (slice mark more s) ≡ top .values = ap (λ (k : ℕ). unsetting w (drop k (take more s))) m ∙ top .back in
+          rw back (omega (arith, m, top .counted, after-size))
+
+      pub earlier-mark : (f : ℕ) → d ≡ suc f → getD ms f 0 ≤ mark
+      earlier-mark f z = omega (arith, m, stands-ascend after-stands f d (omega (arith, z)) (omega (arith, q)))
 
       module _ {u : List ℕ} {x : ℕ} (r : Undone w s mark more u x) where
         -- the guessed variable, and the values before the guess

@@ -1,2 +1,3 @@
-pub mod Seeking
 pub mod Ends
+pub mod Seeking
+pub mod Wording

@@ -1,7 +1,7 @@
 -- The turns of the search: what the functions around the closing of the values promise. Assumes nothing.
 use mathlib.Core.Path.{_≡_}
 use mathlib.Core.Logic.{_≢_}
-use mathlib.Core.Bool.{true}
+use mathlib.Core.Bool.{Bool, true}
 use mathlib.Core.List.{List, List·Memᴰ}
 use mathlib.Core.Option.{some}
 use Prim.Native.Nat.{ℕ, _+_, _≤_, _<_}
@@ -14,7 +14,8 @@ use Rattle.pairs.specs.Pairs.{pairs}
 use Rattle.pairs.specs.Triangles.{triangles}
 use Rattle.rows.specs.Trail.{Ready, Queue}
 use Rattle.rows.specs.Conclusions.{withTriangles}
-use Rattle.propagate.specs.Heeding.{Room}
+use Rattle.tallies.specs.Tallies.{Tallied}
+use Rattle.propagate.specs.Heeding.{Room, Caught}
 use Rattle.restore.specs.Restoring.{IndexedIf}
 use Rattle.turns.specs.declared.Ending.{Ending}
 use Rattle.turns.specs.declared.Ending.the-variants.{Found, Absent, Spent}
@@ -44,6 +45,13 @@ pub record Prepared (ws firsts clauses words noted : List ℕ) : Type 0 where
   pub all-there : whole ws ≡ true
   pub indexed : IndexedIf ws firsts clauses
   pub room : Room clauses words noted
+
+-- where they are indexed, the words are those of the values; after a closing, where no clause is broken
+abbrev pub TalliedIf : List ℕ → List ℕ → List ℕ → List ℕ → Type 0
+TalliedIf ws clauses v words = length ws ≤ length clauses → Tallied ws v words
+
+abbrev pub CaughtIf : List ℕ → List ℕ → List ℕ → List ℕ → Bool → Type 0
+CaughtIf ws clauses v words isBroken = length ws ≤ length clauses → Caught ws v words isBroken
 
 -- clauses over at most 780 variables; the trail's first count variables are set, as they are wherever the clauses are at rest, and group 2 waits for them
 pub record Begun (ws : List ℕ) (n : ℕ) (v t : List ℕ) (count : ℕ) : Type 0 where

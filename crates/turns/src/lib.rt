@@ -7,10 +7,8 @@ ghost use Rattle.pairs.specs.Entries.{PairTable};
 ghost use Rattle.rows.specs.Conclusions.{withTriangles};
 ghost use Rattle.rows.specs.Rows.{Rows};
 ghost use Rattle.rows.specs.Trail.{Ready, Queue, Settles};
-ghost use Rattle.tallies.specs.Tallies.{Tallied};
-ghost use Rattle.propagate.specs.Heeding.{Caught};
 ghost use Rattle.restore.specs.Restoring.{Lags};
-ghost use Rattle.turns.specs.Turns.{NextUnset, Rested, Prepared, EndsWith};
+ghost use Rattle.turns.specs.Turns.{NextUnset, Rested, Prepared, TalliedIf, CaughtIf, EndsWith};
 use conclude::Reached;
 use passes::settle;
 use propagate::settle_indexed;
@@ -74,7 +72,7 @@ fn close(
         Settles (withTriangles (now (list .entry)) n) (now (values .entry)) (now (trail .entry)) start (now (values .exit)) (now (trail .exit)) (r .broken)
         (r .count)
         × Rows n (now (values .exit)) (now (joined .exit)) (now (apart .exit)) ⌝ }
-    ensures caught { λ r. ⌜ length (now (list .entry)) ≤ length (now (clauses .entry)) → Caught (now (list .entry)) (now (values .exit)) (now (words .exit)) (r .broken) ⌝ }
+    ensures caught { λ r. ⌜ CaughtIf (now (list .entry)) (now (clauses .entry)) (now (values .exit)) (now (words .exit)) (r .broken) ⌝ }
 {
     if from == start {
         return Reached {
@@ -122,7 +120,7 @@ pub fn turns(
     start: usize,
 ) -> Ending
     requires { ⌜ Prepared (now list) (now firsts) (now clauses) (now words) (now noted) ⌝ }
-    requires { ⌜ (length (now list) ≤ length (now clauses) → Tallied (now list) (now values) (now words)) × (now saved ≡ now words) ⌝ }
+    requires { ⌜ TalliedIf (now list) (now clauses) (now values) (now words) × (now saved ≡ now words) ⌝ }
     requires { ⌜ Rested (withTriangles (now list) n) (length (now values)) (now values) (now trail) start ⌝ }
     requires { ⌜ PairTable (now table) × Rows n (now values) (now joined) (now apart) ⌝ }
     ensures { λ r. ⌜ EndsWith (searchTried (withTriangles (now (list .entry)) n) (length (now (values .entry))) budget) r (now (values .exit)) (notFalse (now (values .entry))) ⌝ }

@@ -5,21 +5,22 @@ use Rattle.cnf.specs.Clauses.{clausesIn}
 use Rattle.pairs.specs.Triangles.{triangles}
 use Rattle.rows.proofs.Working.{queue-part, drained-settles}
 use Rattle.conclude.proofs.Queueing.{queueing, queue-end}
-use Rattle.occurrences.proofs.Preparing.{prepared}
 use Rattle.passes.proofs.Attending.{to-ds}
+use Rattle.tallies.proofs.Lagging.{rested-behind}
 use Rattle.turns.proofs.close.Statement.{statement}
 use Rattle.turns.proofs.close.Tie as tie
 
 returns : tie.Need-returns
 returns c =
-    let the-pre = c .before .before .before .before .before .before .before .pre in
-    ((drained-settles (the-pre .1 .0) (queue-end (queueing (the-pre .1 .0) (the-pre .1 .1 .0 .0)) (omega (arith, c .if1 .taken))), the-pre .1 .1 .1 .1), the-pre .0)
+    let the-pre = c .before .before .before .before .before .before .before .before .pre in
+    let r = the-pre .1 .1 .0 in
+    ((drained-settles r (queue-end (queueing r (the-pre .1 .1 .1 .0 .0)) (omega (arith, c .if1 .taken))), the-pre .1 .1 .1 .1 .1), λ h _. rested-behind (r .counted) (omega (arith, r .counted, r .room)) (c .if1 .taken) (the-pre .1 .0 h))
 
 settle-indexed-requires : tie.Need-settle-indexed-requires
 settle-indexed-requires c κs =
-    let the-if2 = c .before .before .before .before .before .if2 in
-    let the-pre = c .before .before .before .before .before .before .before .before .before .before .before .before .before .pre in
-    ((the-pre .0 .indexed (the-if2 .taken), the-pre .0 .hinted (the-if2 .taken)), the-pre .1)
+    let the-pre = c .before .before .before .before .before .before .before .before .before .before .before .before .before .before .before .pre in
+    let the-if2 = c .before .before .before .before .before .before .if2 in
+    ((the-pre .0 .indexed (the-if2 .taken), the-pre .0 .room), (the-pre .1 .1 .0, (the-pre .1 .1 .1 .0, (the-pre .1 .0 (the-if2 .taken), the-pre .1 .1 .1 .1))))
 
 same-length : tie.Need-same-length
 same-length c = search needs
@@ -30,26 +31,28 @@ same-length-2 c = search needs
 same-length-3 : tie.Need-same-length-3
 same-length-3 c = search needs
 
+same-length-4 : tie.Need-same-length-4
+same-length-4 c = search needs
+
 returns-2 : tie.Need-returns-2
 returns-2 c =
-    let the-settle-indexed = c .before .before .before .before .before .before .settle-indexed in
-    let the-pre = c .before .before .before .before .before .before .before .before .before .before .before .before .before .before .before .before .before .before .before .before .pre in
-    (the-settle-indexed .ensures .0, prepared (the-pre .0 .all-there) (the-pre .0 .indexed (c .before .before .before .before .before .before .before .before .before .before .before .before .if2 .taken)) (the-settle-indexed .ensures .1))
+    let the-settle-indexed = c .before .before .before .before .before .before .before .before .settle-indexed in
+    (the-settle-indexed .ensures .0, λ _. the-settle-indexed .ensures .1)
 
 settle-requires : tie.Need-settle-requires
 settle-requires c κs =
-    let the-pre = c .before .before .before .before .before .before .before .before .before .before .before .before .pre in
-    let the-args = c .before .before .before .before .before .before .before .before .before .before .before .before .args in
-    (the-pre .0 .all-there, ((the-pre .1 .0, queue-part (triangles (the-args .n)) _ (to-ds (clausesIn (the-args .list .now)) _) (the-pre .1 .1 .0 .0)), the-pre .1 .1 .1))
-
-same-length-4 : tie.Need-same-length-4
-same-length-4 c = search needs
+    let the-pre = c .before .before .before .before .before .before .before .before .before .before .before .before .before .pre in
+    let the-args = c .before .before .before .before .before .before .before .before .before .before .before .before .before .args in
+    (the-pre .0 .all-there, ((the-pre .1 .1 .0, queue-part (triangles (the-args .n)) _ (to-ds (clausesIn (the-args .list .now)) _) (the-pre .1 .1 .1 .0 .0)), the-pre .1 .1 .1 .1))
 
 same-length-5 : tie.Need-same-length-5
 same-length-5 c = search needs
 
+same-length-6 : tie.Need-same-length-6
+same-length-6 c = search needs
+
 returns-3 : tie.Need-returns-3
-returns-3 c = (c .before .before .before .before .settle .ensures, c .before .before .before .before .before .before .before .before .before .before .before .before .before .before .before .before .before .pre .0)
+returns-3 c = (c .before .before .before .before .settle .ensures, λ h. absurd (omega (arith, h, c .before .before .before .before .before .before .before .before .before .if2 .left)))
 
 pub close-spec : {M : Type 1} → statement M
-close-spec = tie.close (tie.spec returns settle-indexed-requires same-length same-length-2 same-length-3 returns-2 settle-requires same-length-4 same-length-5 returns-3)
+close-spec = tie.close (tie.spec returns settle-indexed-requires same-length same-length-2 same-length-3 same-length-4 returns-2 settle-requires same-length-5 same-length-6 returns-3)
