@@ -8,15 +8,18 @@ ghost use Rattle.cnf.specs.Trials.{notFalse, searchTried};
 ghost use Rattle.pairs.specs.Entries.{PairTable};
 ghost use Rattle.rows.specs.Conclusions.{withTriangles};
 ghost use Rattle.rows.specs.Rows.{Rows};
-ghost use Rattle.occurrences.specs.Occurrences.{IndexRoom};
-ghost use Rattle.turns.specs.Turns.{Fresh, Begun, Rested, EndsWith};
+ghost use Rattle.search.specs.Room.{WordRoom};
+ghost use Rattle.tallies.specs.Tallies.{Tallied};
+ghost use Rattle.turns.specs.Turns.{Fresh, Begun, Rested, Prepared, EndsWith};
 use occurrences::index;
 use occurrences::no_firsts;
 use pairs::pair_table;
 use passes::settle;
+use restore::copy;
 use rows::own_rows;
 use sifting::lighten;
 use sifting::sift;
+use tallies::tally;
 use trial::not_false;
 use turns::Ending;
 use turns::places;
@@ -28,13 +31,16 @@ pub struct End {
     pub ceiling: usize,
 }
 
-// The turns over a list whose clauses are indexed by their literals, in the room that is lent.
-fn turns_indexed(
+// The turns over a list whose clauses are indexed by their literals and have their words, which are saved for the first guess.
+fn turns_tallied(
     list: &[u16],
     n: u8,
     table: &[u16],
-    clauses: &mut [u16],
-    hints: &mut [u16],
+    firsts: &[u16; 1561],
+    clauses: &[u16],
+    words: &mut [u32],
+    saved: &mut [u32],
+    noted: &mut [u16],
     values: &mut [u8],
     trail: &mut [u16],
     joined: &mut [u64; 40],
@@ -42,20 +48,64 @@ fn turns_indexed(
     budget: u64,
     start: usize,
 ) -> Ending
-    requires { ⌜ (whole (now list) ≡ true) × (length (now list) ≤ 32768) × IndexRoom (now list) (now clauses) (now hints) ⌝ }
+    requires { ⌜ Prepared (now list) (now firsts) (now clauses) (now words) (now noted) ⌝ }
+    requires { ⌜ Tallied (now list) (now values) (now words) × (length (now saved) ≡ length (now words)) ⌝ }
+    requires { ⌜ Rested (withTriangles (now list) n) (length (now values)) (now values) (now trail) start ⌝ }
+    requires { ⌜ PairTable (now table) × Rows n (now values) (now joined) (now apart) ⌝ }
+    ensures { λ r. ⌜ EndsWith (searchTried (withTriangles (now (list .entry)) n) (length (now (values .entry))) budget) r (now (values .exit)) (notFalse (now (values .entry))) ⌝ }
+{
+    copy(words, saved);
+    turns(
+        list,
+        n,
+        table,
+        firsts,
+        clauses,
+        words,
+        saved,
+        noted,
+        values,
+        trail,
+        joined,
+        apart,
+        budget,
+        start,
+    )
+}
+
+// The turns over a list whose clauses are indexed by their literals, in the room that is lent.
+fn turns_indexed(
+    list: &[u16],
+    n: u8,
+    table: &[u16],
+    clauses: &mut [u16],
+    words: &mut [u32],
+    saved: &mut [u32],
+    noted: &mut [u16],
+    values: &mut [u8],
+    trail: &mut [u16],
+    joined: &mut [u64; 40],
+    apart: &mut [u64; 40],
+    budget: u64,
+    start: usize,
+) -> Ending
+    requires { ⌜ (whole (now list) ≡ true) × WordRoom (now list) (now clauses) (now words) (now saved) (now noted) ⌝ }
     requires { ⌜ Rested (withTriangles (now list) n) (length (now values)) (now values) (now trail) start ⌝ }
     requires { ⌜ PairTable (now table) × Rows n (now values) (now joined) (now apart) ⌝ }
     ensures { λ r. ⌜ EndsWith (searchTried (withTriangles (now (list .entry)) n) (length (now (values .entry))) budget) r (now (values .exit)) (notFalse (now (values .entry))) ⌝ }
 {
     let mut firsts = no_firsts();
-    index(list, &mut firsts, clauses, hints);
-    turns(
+    index(list, &mut firsts, clauses);
+    let few = tally(list, values, words);
+    turns_tallied(
         list,
         n,
         table,
         &firsts,
         clauses,
-        hints,
+        &mut words[..few],
+        &mut saved[..few],
+        noted,
         values,
         trail,
         joined,
@@ -83,13 +133,17 @@ fn turns_short(
     ensures { λ r. ⌜ EndsWith (searchTried (withTriangles (now (list .entry)) n) (length (now (values .entry))) budget) r (now (values .exit)) (notFalse (now (values .entry))) ⌝ }
 {
     let mut clauses = [0u16; 4096];
-    let mut hints = [0u16; 12288];
+    let mut words = [0u32; 2048];
+    let mut saved = [0u32; 2048];
+    let mut noted = [0u16; 4096];
     turns_indexed(
         list,
         n,
         table,
         &mut clauses,
-        &mut hints,
+        &mut words,
+        &mut saved,
+        &mut noted,
         values,
         trail,
         joined,
@@ -117,13 +171,17 @@ fn turns_long(
     ensures { λ r. ⌜ EndsWith (searchTried (withTriangles (now (list .entry)) n) (length (now (values .entry))) budget) r (now (values .exit)) (notFalse (now (values .entry))) ⌝ }
 {
     let mut clauses = [0u16; 32768];
-    let mut hints = [0u16; 98304];
+    let mut words = [0u32; 16384];
+    let mut saved = [0u32; 16384];
+    let mut noted = [0u16; 32768];
     turns_indexed(
         list,
         n,
         table,
         &mut clauses,
-        &mut hints,
+        &mut words,
+        &mut saved,
+        &mut noted,
         values,
         trail,
         joined,
@@ -157,14 +215,18 @@ fn turns_any(
         return turns_long(list, n, table, values, trail, joined, apart, budget, start);
     }
     let firsts = no_firsts();
-    let mut none = [0u16; 1];
+    let mut words = [0u32; 1];
+    let mut saved = [0u32; 1];
+    let mut noted = [0u16; 1];
     turns(
         list,
         n,
         table,
         &firsts,
         &list[..0],
-        &mut none,
+        &mut words,
+        &mut saved,
+        &mut noted,
         values,
         trail,
         joined,

@@ -1,7 +1,8 @@
 -- `search::engine::turns_any` meets its contract. Assumes nothing.
 use borrow.Author.Needs.{needs}
 use native.Mathlib.Omega.{arith}
-use Rattle.occurrences.proofs.Preparing.{unprepared}
+use mathlib.Core.Path.{refl}
+use Rattle.search.proofs.Rooms.{unprepared}
 use Rattle.search.proofs.engine.turns_any.Statement.{statement}
 use Rattle.search.proofs.engine.turns_any.Tie as tie
 
@@ -42,10 +43,17 @@ slice-aggregate-turns c = search needs
 slice-aggregate-turns-2 : tie.Need-slice-aggregate-turns-2
 slice-aggregate-turns-2 c = search needs
 
+slice-aggregate-turns-3 : tie.Need-slice-aggregate-turns-3
+slice-aggregate-turns-3 c = search needs
+
+slice-aggregate-turns-4 : tie.Need-slice-aggregate-turns-4
+slice-aggregate-turns-4 c = search needs
+
 turns-requires : tie.Need-turns-requires
 turns-requires c κs =
-    let the-pre = c .before .before .before .before .before .before .before .before .before .before .before .before .before .before .pre in
-    (unprepared (the-pre .0) (omega (arith, c .before .before .before .before .before .before .before .before .if2 .left)), the-pre .1)
+    let the-pre = c .before .before .before .before .before .before .before .before .before .before .before .before .before .before .before .before .pre in
+    let the-if2 = c .before .before .before .before .before .before .before .before .before .before .if2 in
+    (unprepared (the-pre .0) (omega (arith, the-if2 .left)) (omega arith) (omega arith) (omega arith), (((λ h. absurd (omega (arith, h, the-if2 .left))), refl), the-pre .1))
 
 same-length-5 : tie.Need-same-length-5
 same-length-5 c = search needs
@@ -57,4 +65,4 @@ returns-3 : tie.Need-returns-3
 returns-3 c = search needs
 
 pub turns-any-spec : {M : Type 1} → statement M
-turns-any-spec = tie.close (tie.spec turns-short-requires same-length same-length-2 returns turns-long-requires same-length-3 same-length-4 returns-2 no-firsts-requires slice-aggregate-turns slice-aggregate-turns-2 turns-requires same-length-5 same-length-6 returns-3)
+turns-any-spec = tie.close (tie.spec turns-short-requires same-length same-length-2 returns turns-long-requires same-length-3 same-length-4 returns-2 no-firsts-requires slice-aggregate-turns slice-aggregate-turns-2 slice-aggregate-turns-3 slice-aggregate-turns-4 turns-requires same-length-5 same-length-6 returns-3)

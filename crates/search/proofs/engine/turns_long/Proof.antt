@@ -3,7 +3,7 @@ use borrow.Author.Needs.{needs}
 use native.Mathlib.Omega.{arith}
 use Prim.Native.Nat.{ℕ}
 use lib.ListN.{length-replicate}
-use Rattle.occurrences.proofs.Preparing.{index-room}
+use Rattle.search.proofs.Rooms.{word-room}
 use Rattle.search.proofs.engine.turns_long.Statement.{statement}
 use Rattle.search.proofs.engine.turns_long.Tie as tie
 
@@ -13,10 +13,16 @@ slice-aggregate-turns-indexed c = search needs
 slice-aggregate-turns-indexed-2 : tie.Need-slice-aggregate-turns-indexed-2
 slice-aggregate-turns-indexed-2 c = search needs
 
+slice-aggregate-turns-indexed-3 : tie.Need-slice-aggregate-turns-indexed-3
+slice-aggregate-turns-indexed-3 c = search needs
+
+slice-aggregate-turns-indexed-4 : tie.Need-slice-aggregate-turns-indexed-4
+slice-aggregate-turns-indexed-4 c = search needs
+
 turns-indexed-requires : tie.Need-turns-indexed-requires
 turns-indexed-requires c κs =
-    let the-pre = c .before .before .before .before .before .before .before .before .before .before .pre in
-    ((the-pre .0 .0, omega (arith, the-pre .0 .1), index-room 32768 (search needs) (the-pre .0 .1) (length-replicate {A = ℕ} 32768 0) (length-replicate {A = ℕ} 98304 0)), the-pre .1)
+    let the-pre = c .before .before .before .before .before .before .before .before .before .before .before .before .pre in
+    ((the-pre .0 .0, word-room 16384 (search needs) (the-pre .0 .1) (length-replicate {A = ℕ} 32768 0) (length-replicate {A = ℕ} 16384 0) (length-replicate {A = ℕ} 16384 0) (length-replicate {A = ℕ} 32768 0)), the-pre .1)
 
 same-length : tie.Need-same-length
 same-length c = search needs
@@ -28,4 +34,4 @@ returns : tie.Need-returns
 returns c = search needs
 
 pub turns-long-spec : {M : Type 1} → statement M
-turns-long-spec = tie.close (tie.spec slice-aggregate-turns-indexed slice-aggregate-turns-indexed-2 turns-indexed-requires same-length same-length-2 returns)
+turns-long-spec = tie.close (tie.spec slice-aggregate-turns-indexed slice-aggregate-turns-indexed-2 slice-aggregate-turns-indexed-3 slice-aggregate-turns-indexed-4 turns-indexed-requires same-length same-length-2 returns)
