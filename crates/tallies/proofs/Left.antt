@@ -10,12 +10,12 @@ use borrow.Author.Tests.{not-true, not-false}
 use Rattle.lists.specs.Lists.{any, keep}
 use Rattle.lists.proofs.Members.{not-so, keep-mem}
 use Rattle.cnf.specs.Clauses.{valueOf}
-use Rattle.cnf.specs.Search.{isRight, isUnset, Seen, broken, forcing, quiet, byUnset, seen}
+use Rattle.cnf.specs.Search.{isRight, isUnset, broken, forcing, quiet, byUnset, seen}
 use Rattle.cnf.specs.Closing.{_⊑_, holds, waits, SettledOr}
 use Rattle.cnf.proofs.Found.{right-is, right-not, unset-is, unset-of}
 use Rattle.cnf.proofs.Values.{set-cases}
 use Rattle.rows.specs.Trail.{unsetting}
-use Rattle.asking.proofs.Asking.{right-tells}
+use Rattle.asking.proofs.Asking.{seen-by, right-tells}
 use Rattle.tallies.specs.Tallies.{weight, isFalse, weigh}
 use Rattle.tallies.proofs.Weighing.{false-is, left-is}
 
@@ -62,20 +62,7 @@ module _ (f g : ℕ → Bool) (h : (x : ℕ) → g x ≡ false → f x ≡ false
       go true p r = rw r
       go false p r = rw (h x p, any) r
 
--- what is seen of a clause, by whether a literal is right and by the unset ones
-abbrev seenBy : Bool → List ℕ → Seen
-seenBy true ks = quiet
-seenBy false ks = byUnset ks
-
-seen-by : (w c : List ℕ) {t : Bool} {ks : List ℕ} → any (isRight w) c ≡ t → keep (isUnset w) c ≡ ks → seen w c ≡ seenBy t ks
-unfolding seen
-seen-by w c p q = go (any (isRight w) c) ∙ λ i. seenBy (p i) (q i)
-  where
-    go : (t : Bool) → elim t as (λ _. Seen) [ true ↦ quiet | false ↦ byUnset (keep (isUnset w) c) ] ≡ seenBy t (keep (isUnset w) c)
-    go true = refl
-    go false = refl
-
--- so of a clause of no literal, and of one
+-- what is seen of a clause of no literal, and of one
 none-seen : (w : List ℕ) → broken ≡ seen w []
 unfolding any keep byUnset
 none-seen w = sym (seen-by w [] refl refl)
