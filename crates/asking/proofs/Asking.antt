@@ -38,7 +38,7 @@ unfolding byUnset
 by-last zero l n = absurd (n refl)
 by-last (suc k) l n = refl
 
-unset-not-right : (v : List ℕ) (l : ℕ) → isUnset v l ≡ true → isRight v l ≡ false
+pub unset-not-right : (v : List ℕ) (l : ℕ) → isUnset v l ≡ true → isRight v l ≡ false
 unset-not-right v l u = go (isRight v l) refl
   where
     go : (t : Bool) → isRight v l ≡ t → isRight v l ≡ false
@@ -49,7 +49,7 @@ any-cons : (v : List ℕ) (l : ℕ) (c : List ℕ) → any (isRight v) (l ∷ c)
 unfolding any
 any-cons v l c = refl
 
-keep-cons : (v : List ℕ) (l : ℕ) (c : List ℕ) → isUnset v l ≡ true → keep (isUnset v) (l ∷ c) ≡ l ∷ keep (isUnset v) c
+pub keep-cons : (v : List ℕ) (l : ℕ) (c : List ℕ) → isUnset v l ≡ true → keep (isUnset v) (l ∷ c) ≡ l ∷ keep (isUnset v) c
 unfolding keep
 keep-cons v l c e = rw (e, keep)
 
