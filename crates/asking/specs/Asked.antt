@@ -3,7 +3,7 @@ use mathlib.Core.Path.{_≡_}
 use mathlib.Core.Bool.{true}
 use mathlib.Core.List.{List, List·Memᴰ}
 use Prim.Native.Nat.{ℕ, _+_, _/_, _<_}
-use lib.ListN.{length, getD}
+use lib.ListN.{getD}
 use lib.Seq.{slice}
 use Rattle.lists.specs.Lists.{any}
 use Rattle.cnf.specs.Search.{isRight, Seen, broken, forcing, quiet}
@@ -19,15 +19,15 @@ abbrev pub Over : List ℕ → ℕ → Type 0
 Over c n = (l : ℕ) → List·Memᴰ l c → l / 2 < n
 
 -- the answer as what is seen
-abbrev pub seenOf : List ℕ → Asked → Seen
-seenOf c Broken = broken
-seenOf c (Forcing i) = forcing (getD c i 0)
-seenOf c (Open i j) = quiet
-seenOf c (Holding i) = quiet
+abbrev pub seenOf : Asked → Seen
+seenOf Broken = broken
+seenOf (Forcing l) = forcing l
+seenOf Open = quiet
+seenOf Holding = quiet
 
--- the places that it names are places of the clause; where it says that the clause holds, a literal is right
+-- where it says that the clause holds, a literal is right
 abbrev pub Told : List ℕ → List ℕ → Asked → Type 0
 Told v c Broken = Unit {0}
-Told v c (Forcing i) = i < length c
-Told v c (Open i j) = (i < length c) × (j < length c)
-Told v c (Holding i) = (i < length c) × (any (isRight v) c ≡ true)
+Told v c (Forcing l) = Unit {0}
+Told v c Open = Unit {0}
+Told v c Holding = any (isRight v) c ≡ true

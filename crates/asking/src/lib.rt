@@ -1,6 +1,6 @@
 // Asking one clause what it says of the values.
 ghost use mathlib.Core.Path.{_≡_};
-ghost use Prim.Native.Nat.{_+_, _/_, _%_, _<_, _≤_};
+ghost use Prim.Native.Nat.{_+_, _/_, _%_, _<_};
 ghost use lib.ListN.{length};
 ghost use lib.Dec.{eqb};
 ghost use Rattle.cnf.specs.Search.{isRight, isUnset, seen};
@@ -30,22 +30,22 @@ pub fn is_unset(values: &[u8], l: u16) -> bool
     values[wide(l / 2)] == 2
 }
 
-// What one clause says of the values, when it is asked, with the places of the literals that tell.
+// What one clause says of the values, when it is asked.
 pub enum Asked {
     Broken,
     // the only unset literal
-    Forcing(usize),
+    Forcing(u16),
     // two literals are unset
-    Open(usize, usize),
+    Open,
     // a literal is right
-    Holding(usize),
+    Holding,
 }
 
 // Whether every literal is false, or which is the only unset one with all others false. It is left at a right literal and at a second unset one.
 // The first literal is looked at before the loop: most clauses hold by it.
 pub fn ask(literals: &[u16], values: &[u8]) -> Asked
     requires { ⌜ Over (now literals) (length (now values)) ⌝ }
-    ensures { λ r. ⌜ seenOf (now (literals .entry)) r ≡ seen (now (values .entry)) (now (literals .entry)) ⌝ }
+    ensures { λ r. ⌜ seenOf r ≡ seen (now (values .entry)) (now (literals .entry)) ⌝ }
     ensures told { λ r. ⌜ Told (now (values .entry)) (now (literals .entry)) r ⌝ }
 {
     if literals.len() == 0 {
@@ -53,25 +53,25 @@ pub fn ask(literals: &[u16], values: &[u8]) -> Asked
     }
     let first = literals[0];
     if is_right(values, first) {
-        return Asked::Holding(0);
+        return Asked::Holding;
     }
     let mut unset: usize = 0;
     if is_unset(values, first) {
         unset = 1;
     }
-    let mut last: usize = 0;
+    let mut last = first;
     let mut i: usize = 1;
     'literals: while i < literals.len() {
         let l = literals[i];
         if is_right(values, l) {
-            return Asked::Holding(i);
+            return Asked::Holding;
         }
         if is_unset(values, l) {
             if unset == 1 {
-                return Asked::Open(last, i);
+                return Asked::Open;
             }
             unset = 1;
-            last = i;
+            last = l;
         }
         i += 1;
     }
@@ -79,27 +79,4 @@ pub fn ask(literals: &[u16], values: &[u8]) -> Asked
         return Asked::Forcing(last);
     }
     Asked::Broken
-}
-
-// The same, from a place on and then from the start.
-pub fn ask_from(literals: &[u16], from: usize, values: &[u8]) -> Asked
-    requires { ⌜ Over (now literals) (length (now values)) × (from ≤ length (now literals)) ⌝ }
-    ensures { λ r. ⌜ seenOf (now (literals .entry)) r ≡ seen (now (values .entry)) (now (literals .entry)) ⌝ }
-    ensures told { λ r. ⌜ Told (now (values .entry)) (now (literals .entry)) r ⌝ }
-{
-    let back = ask(&literals[from..], values);
-    match back {
-        Asked::Holding(i) => Asked::Holding(from + i),
-        Asked::Open(i, j) => Asked::Open(from + i, from + j),
-        Asked::Broken => ask(&literals[..from], values),
-        Asked::Forcing(i) => {
-            let front = ask(&literals[..from], values);
-            match front {
-                Asked::Broken => Asked::Forcing(from + i),
-                Asked::Forcing(j) => Asked::Open(from + i, j),
-                Asked::Open(j, k) => Asked::Open(j, k),
-                Asked::Holding(j) => Asked::Holding(j),
-            }
-        }
-    }
 }

@@ -53,7 +53,7 @@ pub fn sift(
         at = first + wide(list[start]);
         let said = ask(&list[first..at], values);
         match said {
-            Asked::Holding(_) => {
+            Asked::Holding => {
                 continue 'clauses;
             }
             Asked::Broken => {
@@ -63,20 +63,11 @@ pub fn sift(
                     kept,
                 };
             }
-            Asked::Forcing(i) => {
-                count = force(
-                    n,
-                    table,
-                    list[first + i],
-                    values,
-                    trail,
-                    joined,
-                    apart,
-                    count,
-                );
+            Asked::Forcing(l) => {
+                count = force(n, table, l, values, trail, joined, apart, count);
                 continue 'clauses;
             }
-            Asked::Open(_, _) => {
+            Asked::Open => {
                 if kept < places.len() {
                     places[kept] = start as u16;
                 }

@@ -10,12 +10,12 @@ use borrow.Author.Tests.{not-true, not-false}
 use Rattle.lists.specs.Lists.{any, keep}
 use Rattle.lists.proofs.Members.{not-so, keep-mem}
 use Rattle.cnf.specs.Clauses.{valueOf}
-use Rattle.cnf.specs.Search.{isRight, isUnset, Seen, broken, forcing, quiet, byUnset, seen}
+use Rattle.cnf.specs.Search.{isRight, isUnset, broken, forcing, quiet, byUnset, seen}
 use Rattle.cnf.specs.Closing.{_⊑_, holds, waits, SettledOr}
 use Rattle.cnf.proofs.Found.{right-is, right-not, unset-is, unset-of}
 use Rattle.cnf.proofs.Values.{set-cases}
 use Rattle.rows.specs.Trail.{unsetting}
-use Rattle.asking.proofs.Asking.{right-tells}
+use Rattle.asking.proofs.Asking.{unset-not-right, keep-cons, seen-by, right-tells}
 use Rattle.tallies.specs.Tallies.{weight, isFalse, weigh}
 use Rattle.tallies.proofs.Weighing.{false-is, left-is}
 
@@ -62,27 +62,14 @@ module _ (f g : ℕ → Bool) (h : (x : ℕ) → g x ≡ false → f x ≡ false
       go true p r = rw r
       go false p r = rw (h x p, any) r
 
--- what is seen of a clause, by whether a literal is right and by the unset ones
-abbrev seenBy : Bool → List ℕ → Seen
-seenBy true ks = quiet
-seenBy false ks = byUnset ks
-
-seen-by : (w c : List ℕ) {t : Bool} {ks : List ℕ} → any (isRight w) c ≡ t → keep (isUnset w) c ≡ ks → seen w c ≡ seenBy t ks
-unfolding seen
-seen-by w c p q = go (any (isRight w) c) ∙ λ i. seenBy (p i) (q i)
-  where
-    go : (t : Bool) → elim t as (λ _. Seen) [ true ↦ quiet | false ↦ byUnset (keep (isUnset w) c) ] ≡ seenBy t (keep (isUnset w) c)
-    go true = refl
-    go false = refl
-
--- so of a clause of no literal, and of one
+-- what is seen of a clause of no literal, and of one
 none-seen : (w : List ℕ) → broken ≡ seen w []
 unfolding any keep byUnset
 none-seen w = sym (seen-by w [] refl refl)
 
-unset-seen : (w : List ℕ) (m : ℕ) → isRight w m ≡ false → isUnset w m ≡ true → forcing m ≡ seen w (m ∷ [])
+unset-seen : (w : List ℕ) (m : ℕ) → isUnset w m ≡ true → forcing m ≡ seen w (m ∷ [])
 unfolding any keep byUnset
-unset-seen w m r u = sym (seen-by w (m ∷ []) {ks = m ∷ []} (or-false (isRight w m) ∙ r) (rw (u, keep)))
+unset-seen w m u = sym (seen-by w (m ∷ []) (or-false (isRight w m) ∙ unset-not-right w m u) (keep-cons w m [] u))
 
 false-seen : (w : List ℕ) (m : ℕ) → isRight w m ≡ false → isUnset w m ≡ false → broken ≡ seen w (m ∷ [])
 unfolding any keep byUnset
@@ -90,8 +77,7 @@ false-seen w m r u = sym (seen-by w (m ∷ []) {ks = []} (or-false (isRight w m)
 
 -- the unset literals of a clause that begins with two
 two-unset : (w : List ℕ) (l m : ℕ) (ls : List ℕ) → isUnset w l ≡ true → isUnset w m ≡ true → keep (isUnset w) (l ∷ m ∷ ls) ≡ l ∷ m ∷ keep (isUnset w) ls
-unfolding keep
-two-unset w l m ls p q = rw (p, keep) (ap (λ (zs : List ℕ). l ∷ zs) (rw (q, keep)))
+two-unset w l m ls p q = keep-cons w l (m ∷ ls) p ∙ ap (λ (zs : List ℕ). l ∷ zs) (keep-cons w m ls q)
 
 -- one is left, and it is the word that says which
 one-standing : (v d : List ℕ) {m : ℕ} → 2048 ≤ weigh v d → weigh v d < 4096 → m ≡ weigh v d - 2048 → standing v d ≡ m ∷ []
@@ -162,7 +148,7 @@ module _ {v w : List ℕ} (more : v ⊑ w) where
       one-seen = seen-standing d (one-standing v d low high e)
 
       pub one-unset : isUnset w m ≡ true → forcing m ≡ seen w d
-      one-unset u = unset-seen w m (not-so (isRight w m) (λ p. omega (arith, right-is w m p, unset-is w m u))) u ∙ one-seen
+      one-unset u = unset-seen w m u ∙ one-seen
 
       pub one-false : isRight w m ≡ false → isUnset w m ≡ false → broken ≡ seen w d
       one-false r u = false-seen w m r u ∙ one-seen

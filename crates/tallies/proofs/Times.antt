@@ -1,11 +1,16 @@
 -- How often a number stands in a list. Assumes nothing.
 use mathlib.Core.Path.{_≡_, refl, ap, _∙_}
 use mathlib.Core.Logic.{_≢_}
-use mathlib.Core.List.{List, [], _∷_}
-use Prim.Native.Nat.{ℕ, suc, _+_, _*_}
+use mathlib.Core.List.{List, [], _∷_, _++_, List·Memᴰ, List·Memᴰ·head, List·Memᴰ·tail, List·Memᴰ·not-nil as not-nil}
+use Prim.Native.Nat.{ℕ, suc, _+_, _*_, _<_}
 use native.Mathlib.Nat.{suc-mul}
+use native.Mathlib.Omega.{arith}
+use lib.ListN.{length, length-append}
+use lib.Dec.{eqb}
 use borrow.Author.Tests.{eq-eqb, ne-eqb}
 use Rattle.lists.specs.Lists.{keep}
+use Rattle.lists.proofs.Members.{keep-of}
+use Rattle.lists.proofs.Counts.{keep-append}
 use Rattle.tallies.specs.Tallies.{times}
 
 pub times-nil : (c : ℕ) → times c [] ≡ 0
@@ -20,7 +25,23 @@ pub times-past : (c x : ℕ) (xs : List ℕ) → c ≢ x → times c (x ∷ xs) 
 unfolding keep
 times-past c x xs n = rw (ne-eqb c x n, keep)
 
--- the same, with what each time weighs
+pub times-last : (c x : ℕ) (xs : List ℕ) → times c (xs ++ (x ∷ [])) ≡ times c xs + times c (x ∷ [])
+times-last c x xs = ap length (keep-append (eqb c) xs (x ∷ [])) ∙ length-append (keep (eqb c) xs) (keep (eqb c) (x ∷ []))
+
+-- it is not there
+pub times-never : (c : ℕ) (xs : List ℕ) → ((x : ℕ) → List·Memᴰ x xs → c ≢ x) → times c xs ≡ 0
+times-never c [] h = times-nil c
+times-never c (x ∷ xs) h = times-past c x xs (h x (List·Memᴰ·head refl)) ∙ times-never c xs (λ y m. h y (List·Memᴰ·tail m))
+
+some-there : {c : ℕ} (xs : List ℕ) → List·Memᴰ c xs → 0 < length xs
+some-there [] m = absurd (not-nil m)
+some-there (x ∷ xs) m = omega arith
+
+-- it is
+pub times-some : (c : ℕ) (xs : List ℕ) → List·Memᴰ c xs → 0 < times c xs
+times-some c xs m = some-there (keep (eqb c) xs) (keep-of (eqb c) xs c m (eq-eqb c c refl))
+
+-- how often, with what each time weighs
 pub weight-here : (c x : ℕ) (xs : List ℕ) (w : ℕ) → c ≡ x → times c (x ∷ xs) * w ≡ times c xs * w + w
 weight-here c x xs w e = ap (λ (n : ℕ). n * w) (times-here c x xs e) ∙ suc-mul (times c xs) w
 

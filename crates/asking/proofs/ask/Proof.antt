@@ -2,16 +2,16 @@
 -- unset literal met so far. Assumes nothing.
 use borrow.Author.Needs.{needs}
 use native.Mathlib.Omega.{arith}
-use Prim.Native.Nat.{_-_, _<_}
+use Prim.Native.Nat.{_-_}
 use mathlib.Core.Path.{refl, sym, _∙_}
 use mathlib.Core.Logic.{⊎-elim}
-use lib.ListN.{length, getD}
+use lib.ListN.{length}
 use Rattle.asking.proofs.Asking as laws
 use Rattle.asking.proofs.ask.Statement.{statement}
 use Rattle.asking.proofs.ask.Tie as tie
 
 abbrev Inv-literals : tie.InvT-literals
-Inv-literals literals values first unset₀ last₀ i₀ unset last i = laws.SeenSoFar literals values 0 (length literals) i unset (getD literals last 0) × (last < length literals)
+Inv-literals literals values first unset₀ last₀ i₀ unset last i = laws.SeenSoFar literals values 0 (length literals) i unset last
 
 abbrev μ-literals : tie.MeasureT-literals
 μ-literals literals values first unset₀ last₀ i₀ unset last i = length literals - i
@@ -29,7 +29,7 @@ returns-2 : tie.Need-returns-2 Inv-literals μ-literals
 returns-2 c =
     let the-if1 = c .before .before .before .if1 in
     let right = sym (c .before .is-right .ensures) ∙ c .if2 .taken in
-    (laws.seen-all _ _ (laws.sees-right (laws.within-all _ _ (c .before .before .before .before .before .before .pre)) (omega (arith, the-if1 .left)) right), (omega (arith, the-if1 .left), laws.holds-at _ _ 0 (omega (arith, the-if1 .left)) right))
+    (laws.seen-all _ _ (laws.sees-right (laws.within-all _ _ (c .before .before .before .before .before .before .pre)) (omega (arith, the-if1 .left)) right), laws.holds-at _ _ 0 (omega (arith, the-if1 .left)) right)
 
 is-unset-requires : tie.Need-is-unset-requires Inv-literals μ-literals
 is-unset-requires c κs = laws.next-below (laws.within-all _ (c .before .before .before .before .before .before .args .values .now) (c .before .before .before .before .before .before .pre)) (omega (arith, c .before .before .before .if1 .left))
@@ -40,8 +40,8 @@ literals-holds c =
     let more = c .before .before .before .before .before .if1 .left in
     let u = c .before .is-unset .ensures in
     ⊎-elim
-    (λ a. (rw (a .1) (laws.step-unset w (omega (arith, more)) (omega arith) (sym u ∙ a .0 .taken)), omega (arith, more)))
-    (λ a. (rw (a .1) (laws.last-any _ (laws.step-wrong w (omega (arith, more)) (sym (c .before .before .before .is-right .ensures) ∙ c .before .before .if2 .left) (sym u ∙ a .0 .left))), omega (arith, more)))
+    (λ a. rw (a .1) (laws.step-unset w (omega (arith, more)) (omega arith) (sym u ∙ a .0 .taken)))
+    (λ a. rw (a .1) (laws.last-any _ (laws.step-wrong w (omega (arith, more)) (sym (c .before .before .before .is-right .ensures) ∙ c .before .before .if2 .left) (sym u ∙ a .0 .left))))
     (c .if3 .came)
 
 mul-l : tie.Need-mul-l Inv-literals μ-literals
@@ -51,22 +51,22 @@ shared-slice-read-l : tie.Need-shared-slice-read-l Inv-literals μ-literals
 shared-slice-read-l c = search needs
 
 is-right-requires-2 : tie.Need-is-right-requires-2 Inv-literals μ-literals
-is-right-requires-2 c κs = laws.next-below (c .before .before .literals .inv .0) (omega (arith, c .before .literals-test .taken))
+is-right-requires-2 c κs = laws.next-below (c .before .before .literals .inv) (omega (arith, c .before .literals-test .taken))
 
 returns-3 : tie.Need-returns-3 Inv-literals μ-literals
 returns-3 c =
     let more = c .before .before .before .literals-test .taken in
     let right = sym (c .before .is-right2 .ensures) ∙ c .if4 .taken in
-    (laws.seen-all _ _ (laws.sees-right (c .before .before .before .before .literals .inv .0) (omega (arith, more)) right), (more, laws.holds-at _ _ _ more right))
+    (laws.seen-all _ _ (laws.sees-right (c .before .before .before .before .literals .inv) (omega (arith, more)) right), laws.holds-at _ _ _ more right)
 
 is-unset-requires-2 : tie.Need-is-unset-requires-2 Inv-literals μ-literals
-is-unset-requires-2 c κs = laws.next-below (c .before .before .before .before .literals .inv .0) (omega (arith, c .before .before .before .literals-test .taken))
+is-unset-requires-2 c κs = laws.next-below (c .before .before .before .before .literals .inv) (omega (arith, c .before .before .before .literals-test .taken))
 
 returns-4 : tie.Need-returns-4 Inv-literals μ-literals
 returns-4 c =
     let the-literals-test = c .before .before .before .before .before .before .literals-test in
     let the-literals = c .before .before .before .before .before .before .before .literals in
-    (laws.seen-all _ _ (laws.sees-second (the-literals .inv .0) (omega (arith, the-literals-test .taken)) (c .if6 .taken) (sym (c .before .before .is-unset2 .ensures) ∙ c .before .if5 .taken)), (the-literals .inv .1, the-literals-test .taken))
+    (laws.seen-all _ _ (laws.sees-second (the-literals .inv) (omega (arith, the-literals-test .taken)) (c .if6 .taken) (sym (c .before .before .is-unset2 .ensures) ∙ c .before .if5 .taken)), tt)
 
 add-i : tie.Need-add-i Inv-literals μ-literals
 add-i c = search needs
@@ -76,24 +76,23 @@ literals-less c = search needs
 
 literals-again : tie.Need-literals-again Inv-literals μ-literals
 literals-again c =
-    let the-literals = c .before .before .before .before .before .before .literals in
-    let w = the-literals .inv .0 in
+    let w = c .before .before .before .before .before .before .literals .inv in
     let inner = c .before .before .before .before .before .literals-test .taken in
     let u = c .before .is-unset2 .ensures in
     ⊎-elim
-    (λ a. rw (a .2, a .3) (laws.step-unset w (omega (arith, inner)) (a .1 .left) (sym u ∙ a .0 .taken), inner))
-    (λ a. rw (a .1, a .2) (laws.step-wrong w (omega (arith, inner)) (sym (c .before .before .before .is-right2 .ensures) ∙ c .before .before .if4 .left) (sym u ∙ a .0 .left), the-literals .inv .1))
+    (λ a. rw (a .2, a .3) (laws.step-unset w (omega (arith, inner)) (a .1 .left) (sym u ∙ a .0 .taken)))
+    (λ a. rw (a .1, a .2) (laws.step-wrong w (omega (arith, inner)) (sym (c .before .before .before .is-right2 .ensures) ∙ c .before .before .if4 .left) (sym u ∙ a .0 .left)))
     (c .if5 .came)
 
 returns-5 : tie.Need-returns-5 Inv-literals μ-literals
 returns-5 c =
     let the-literals = c .before .before .literals in
-    (laws.seen-all _ _ (laws.sees-forcing (the-literals .inv .0) (omega (arith, the-literals .inv .0 .inside, c .before .literals-test .left)) (omega (arith, c .if7 .taken))), the-literals .inv .1)
+    (laws.seen-all _ _ (laws.sees-forcing (the-literals .inv) (omega (arith, the-literals .inv .inside, c .before .literals-test .left)) (omega (arith, c .if7 .taken))), tt)
 
 returns-6 : tie.Need-returns-6 Inv-literals μ-literals
 returns-6 c =
     let the-literals = c .before .before .literals in
-    (laws.seen-all _ _ (laws.sees-broken (the-literals .inv .0) (omega (arith, the-literals .inv .0 .inside, c .before .literals-test .left)) (omega (arith, the-literals .inv .0 .few, c .if7 .left))), tt)
+    (laws.seen-all _ _ (laws.sees-broken (the-literals .inv) (omega (arith, the-literals .inv .inside, c .before .literals-test .left)) (omega (arith, the-literals .inv .few, c .if7 .left))), tt)
 
 pub ask-spec : {M : Type 1} → statement M
 ask-spec = tie.close (tie.spec Inv-literals μ-literals returns shared-slice-read-first is-right-requires returns-2 is-unset-requires literals-holds mul-l shared-slice-read-l is-right-requires-2 returns-3 is-unset-requires-2 returns-4 add-i literals-less literals-again returns-5 returns-6)

@@ -7,7 +7,7 @@ use mathlib.Core.Path.{_≡_, refl, ap, _∙_}
 use lib.ListN.{length}
 use Rattle.rows.specs.Rows.{Rows}
 use Rattle.asking.proofs.Walking.{end-inside, clause-in}
-use Rattle.asking.proofs.Asking.{lent-over, lent-seen, lent-told, literal-place, literal-forced}
+use Rattle.asking.proofs.Asking.{lent-over, lent-seen, lent-told}
 use Rattle.rows.proofs.Working.{worked-length, asked-below, can-force}
 use Rattle.sifting.proofs.Sifting as laws
 use Rattle.sifting.proofs.sift.Statement.{statement}
@@ -67,7 +67,7 @@ clauses-again : tie.Need-clauses-again Inv-clauses μ-clauses
 clauses-again c =
     let the-wide = c .before .before .before .before .before .wide in
     let the-clauses = c .before .before .before .before .before .before .before .before .clauses in
-    let held = lent-told (c .before .before .before .before .before .before .before .before .before .before .before .before .before .before .args .list .now) (the-clauses .at) (the-wide .ensures) _ (c .before .before .ask .ensures .1) (c .enum-told .given .1) .1 in
+    let held = lent-told (c .before .before .before .before .before .before .before .before .before .before .before .before .before .before .args .list .now) (the-clauses .at) (the-wide .ensures) _ (c .before .before .ask .ensures .1) (c .enum-told .given .1) in
     (rw (the-wide .ensures) (laws.sift-holding (c .before .before .before .before .before .before .before .before .before .before .before .before .before .before .pre .1 .0) (the-clauses .inv .0) (c .before .before .before .before .before .before .before .clauses-test .taken) held), the-clauses .inv .1, the-clauses .inv .2)
 
 enum-told-2 : tie.Need-enum-told-2 Inv-clauses μ-clauses
@@ -91,51 +91,31 @@ returns c =
 enum-known-said : tie.Need-enum-known-said Inv-clauses μ-clauses
 enum-known-said c = search needs
 
-add-force : tie.Need-add-force Inv-clauses μ-clauses
-add-force c =
-    let the-clauses = c .before .before .before .before .before .before .before .before .before .clauses in
-    let the-args = c .before .before .before .before .before .before .before .before .before .before .before .before .before .before .before .args in
-    omega (arith, literal-place (the-args .list .now) (the-clauses .at) (end-inside (the-clauses .inv .0 .before) (c .before .before .before .before .before .before .before .before .clauses-test .taken)) (lent-told (the-args .list .now) (the-clauses .at) (c .before .before .before .before .before .before .wide .ensures) (the-clauses .values) (c .before .before .before .ask .ensures .1) (c .before .said .given .1)), c .before .before .before .before .before .before .before .before .before .before .before .before .before .before .before .good .0)
-
-mul-force : tie.Need-mul-force Inv-clauses μ-clauses
-mul-force c =
-    let the-clauses = c .before .before .before .before .before .before .before .before .before .clauses in
-    let the-args = c .before .before .before .before .before .before .before .before .before .before .before .before .before .before .before .args in
-    omega (arith, literal-place (the-args .list .now) (the-clauses .at) (end-inside (the-clauses .inv .0 .before) (c .before .before .before .before .before .before .before .before .clauses-test .taken)) (lent-told (the-args .list .now) (the-clauses .at) (c .before .before .before .before .before .before .wide .ensures) (the-clauses .values) (c .before .before .before .ask .ensures .1) (c .before .said .given .1)), c .before .before .before .before .before .before .before .before .before .before .before .before .before .before .before .good .0, c .before .before .before .before .before .before .before .before .before .before .before .before .before .before .before .pre .0 .1)
-
-shared-slice-read-force : tie.Need-shared-slice-read-force Inv-clauses μ-clauses
-shared-slice-read-force c =
-    let the-clauses = c .before .before .before .before .before .before .before .before .before .before .clauses in
-    let the-args = c .before .before .before .before .before .before .before .before .before .before .before .before .before .before .before .before .args in
-    literal-place (the-args .list .now) (the-clauses .at) (end-inside (the-clauses .inv .0 .before) (c .before .before .before .before .before .before .before .before .before .clauses-test .taken)) (lent-told (the-args .list .now) (the-clauses .at) (c .before .before .before .before .before .before .before .wide .ensures) (the-clauses .values) (c .before .before .before .before .ask .ensures .1) (c .before .before .said .given .1))
-
 force-requires : tie.Need-force-requires Inv-clauses μ-clauses
 force-requires c κs =
-    let the-said = c .before .before .before .before .before .before .said in
-    let the-ask = c .before .before .before .before .before .before .before .before .ask in
-    let the-wide = c .before .before .before .before .before .before .before .before .before .before .before .wide in
-    let the-clauses-test = c .before .before .before .before .before .before .before .before .before .before .before .before .before .clauses-test in
-    let the-clauses = c .before .before .before .before .before .before .before .before .before .before .before .before .before .before .clauses in
-    let the-args = c .before .before .before .before .before .before .before .before .before .before .before .before .before .before .before .before .before .before .before .before .args in
-    let the-pre = c .before .before .before .before .before .before .before .before .before .before .before .before .before .before .before .before .before .before .before .before .pre in
+    let the-said = c .before .before .before .before .before .said in
+    let the-ask = c .before .before .before .before .before .before .before .ask in
+    let the-wide = c .before .before .before .before .before .before .before .before .before .before .wide in
+    let the-clauses-test = c .before .before .before .before .before .before .before .before .before .before .before .before .clauses-test in
+    let the-clauses = c .before .before .before .before .before .before .before .before .before .before .before .before .before .clauses in
+    let the-pre = c .before .before .before .before .before .before .before .before .before .before .before .before .before .before .before .before .before .before .before .pre in
     let i = the-clauses .inv .0 in
-    let said = literal-forced (the-args .list .now) (the-clauses .at) (end-inside (the-clauses .inv .0 .before) (the-clauses-test .taken)) (lent-told (the-args .list .now) (the-clauses .at) (the-wide .ensures) (the-clauses .values) (the-ask .ensures .1) (the-said .given .1)) _ (lent-seen _ _ (the-wide .ensures) _ (the-ask .ensures .0) (the-said .given .1)) in
+    let said = lent-seen _ _ (the-wide .ensures) _ (the-ask .ensures .0) (the-said .given .1) in
     (the-pre .1 .1 .0, can-force (the-pre .1 .0) (i .worked) (clause-in (i .before) (the-clauses-test .taken)) said (the-clauses .inv .1))
 
 clauses-less-2 : tie.Need-clauses-less-2 Inv-clauses μ-clauses
-clauses-less-2 c = omega (arith, c .before .before .before .before .before .before .before .before .before .before .before .before .before .before .before .before .before .before .clauses-test .taken)
+clauses-less-2 c = omega (arith, c .before .before .before .before .before .before .before .before .before .before .before .before .before .before .before .before .before .clauses-test .taken)
 
 clauses-again-2 : tie.Need-clauses-again-2 Inv-clauses μ-clauses
 clauses-again-2 c =
-    let the-said = c .before .before .before .before .before .before .before .before .before .before .before .said in
-    let the-ask = c .before .before .before .before .before .before .before .before .before .before .before .before .before .ask in
-    let the-wide = c .before .before .before .before .before .before .before .before .before .before .before .before .before .before .before .before .wide in
-    let the-clauses-test = c .before .before .before .before .before .before .before .before .before .before .before .before .before .before .before .before .before .before .clauses-test in
-    let the-clauses = c .before .before .before .before .before .before .before .before .before .before .before .before .before .before .before .before .before .before .before .clauses in
-    let the-args = c .before .before .before .before .before .before .before .before .before .before .before .before .before .before .before .before .before .before .before .before .before .before .before .before .before .args in
-    let said = literal-forced (the-args .list .now) (the-clauses .at) (end-inside (the-clauses .inv .0 .before) (the-clauses-test .taken)) (lent-told (the-args .list .now) (the-clauses .at) (the-wide .ensures) (the-clauses .values) (the-ask .ensures .1) (the-said .given .1)) _ (lent-seen _ _ (the-wide .ensures) _ (the-ask .ensures .0) (the-said .given .1)) in
+    let the-said = c .before .before .before .before .before .before .before .before .before .before .said in
+    let the-ask = c .before .before .before .before .before .before .before .before .before .before .before .before .ask in
+    let the-wide = c .before .before .before .before .before .before .before .before .before .before .before .before .before .before .before .wide in
+    let the-clauses-test = c .before .before .before .before .before .before .before .before .before .before .before .before .before .before .before .before .before .clauses-test in
+    let the-clauses = c .before .before .before .before .before .before .before .before .before .before .before .before .before .before .before .before .before .before .clauses in
+    let said = lent-seen _ _ (the-wide .ensures) _ (the-ask .ensures .0) (the-said .given .1) in
     let f = c .before .before .before .before .force .ensures in
-    (rw (the-wide .ensures) (laws.sift-forced (c .before .before .before .before .before .before .before .before .before .before .before .before .before .before .before .before .before .before .before .before .before .before .before .before .before .pre .1 .0) (the-clauses .inv .0) (the-clauses-test .taken) said f), f .assigned .rows, the-clauses .inv .2)
+    (rw (the-wide .ensures) (laws.sift-forced (c .before .before .before .before .before .before .before .before .before .before .before .before .before .before .before .before .before .before .before .before .before .before .before .before .pre .1 .0) (the-clauses .inv .0) (the-clauses-test .taken) said f), f .assigned .rows, the-clauses .inv .2)
 
 enum-told-3 : tie.Need-enum-told-3 Inv-clauses μ-clauses
 enum-told-3 c = search needs
@@ -181,4 +161,4 @@ returns-2 c =
     (laws.sift-end (c .before .before .before .before .before .before .before .pre .1 .0) (the-clauses .inv .0) (c .clauses-test .left), the-clauses .inv .1)
 
 pub sift-spec : {M : Type 1} → statement M
-sift-spec = tie.close (tie.spec Inv-clauses μ-clauses clauses-holds add-first mul-wide shared-slice-read-wide wide-requires add-at mul-ask sub-ask part-ask-start part-ask-end ask-requires enum-told clauses-less clauses-again enum-told-2 same-length same-length-2 same-length-3 returns enum-known-said add-force mul-force shared-slice-read-force force-requires clauses-less-2 clauses-again-2 enum-told-3 cast-places mul-places slice-write-places add-kept clauses-less-3 clauses-again-3 same-length-4 same-length-5 same-length-6 returns-2)
+sift-spec = tie.close (tie.spec Inv-clauses μ-clauses clauses-holds add-first mul-wide shared-slice-read-wide wide-requires add-at mul-ask sub-ask part-ask-start part-ask-end ask-requires enum-told clauses-less clauses-again enum-told-2 same-length same-length-2 same-length-3 returns enum-known-said force-requires clauses-less-2 clauses-again-2 enum-told-3 cast-places mul-places slice-write-places add-kept clauses-less-3 clauses-again-3 same-length-4 same-length-5 same-length-6 returns-2)
