@@ -25,8 +25,9 @@ use Rattle.tallies.specs.Behind.{earlier, Behind}
 use Rattle.tallies.proofs.Falling.{FalseOf, places-room, can-fall, fell}
 use Rattle.tallies.proofs.Lagging.{earlier-none, earlier-next, counted-next, set-next, value-next, earlier-extends, earlier-grown}
 use Rattle.tallies.proofs.Left.{two-left}
-use Rattle.propagate.specs.Heeding.{Told, Heeded}
-use Rattle.propagate.proofs.Places.{mem-place, times-in, times-of}
+use Rattle.tallies.proofs.Times.{times-some, times-in}
+use Rattle.heeding.specs.Heeding.{Told, Heeded}
+use Rattle.heeding.proofs.Places.{mem-place}
 
 module _ {ws : List ℕ} {ds : List (List ℕ)} {v t w s : List ℕ} {start count at : ℕ} (j : Both (clausesIn ws) ds v t start w s count at) (most : length v ≤ 780) {words : List ℕ} (b : Behind ws w s at count words) where
   ready : Ready (clausesIn ws ++ ds) w s count
@@ -154,7 +155,7 @@ module _ {ws : List ℕ} {ds : List (List ℕ)} {v t w s : List ℕ} {start coun
                   go : isBroken′ ≡ false → (c : List ℕ) → List·Memᴰ c (clausesIn ws) → (m : ℕ) → List·Memᴰ m c → m / 2 ≡ getD s at 0 → Dec (m ≡ l) → SettledOr u′ (qs ++ g .worked .grown .new) c
                   go q c mc m mm p (yes is) =
                       let place = mem-place (clausesIn ws) [] c mc in
-                      let stands : 0 < times l (numbered ws (place .0)) = rw (place .2) (times-of l c (rw is at mm)) in
+                      let stands : 0 < times l (numbered ws (place .0)) = rw (place .2) (times-some l c (rw is at mm)) in
                       here q c mc (place .0) (place .1) (place .2) (times-in (place .0) (placesOf firsts clauses l) (omega (arith, d .stands l (place .0) literal-low (place .1), stands))) (decLt (getD words′ (place .0) 0) 4096)
                   go q c mc m mm p (no n) = inl (holds m mm (rw p (omega (arith, p, n, e, variable-set .1, now-value))))
 

@@ -15,7 +15,7 @@ use Rattle.pairs.specs.Triangles.{triangles}
 use Rattle.rows.specs.Conclusions.{withTriangles}
 use Rattle.tallies.specs.Tallies.{Indexed, Tallied}
 use Rattle.occurrences.specs.Occurrences.{Listed, IndexRoom}
-use Rattle.propagate.specs.Heeding.{Room}
+use Rattle.propagate.specs.Sinking.{Room}
 use Rattle.turns.specs.Turns.{Rested, Prepared}
 use Rattle.search.specs.Room.{WordRoom}
 

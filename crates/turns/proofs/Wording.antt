@@ -15,7 +15,7 @@ use Rattle.rows.proofs.Trails.{grown-count, grown-length}
 use Rattle.tallies.specs.Tallies.{Tallied}
 use Rattle.tallies.specs.Behind.{Behind}
 use Rattle.tallies.proofs.Lagging.{behind-guess, behind-grown, behind-rested}
-use Rattle.propagate.specs.Heeding.{Room}
+use Rattle.propagate.specs.Sinking.{Room}
 use Rattle.restore.specs.Restoring.{Lags, Passed, Sized}
 use Rattle.turns.specs.Turns.{NextUnset, Prepared, TalliedIf, CaughtIf}
 use Rattle.turns.proofs.Ends.{Turning, after-size, after-count, after-places, counted-before, room-left, list-formed}

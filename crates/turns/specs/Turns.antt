@@ -15,7 +15,7 @@ use Rattle.pairs.specs.Triangles.{triangles}
 use Rattle.rows.specs.Trail.{Ready, Queue}
 use Rattle.rows.specs.Conclusions.{withTriangles}
 use Rattle.tallies.specs.Tallies.{Tallied}
-use Rattle.propagate.specs.Heeding.{Room, Caught}
+use Rattle.propagate.specs.Sinking.{Room, Caught}
 use Rattle.restore.specs.Restoring.{IndexedIf}
 use Rattle.turns.specs.declared.Ending.{Ending}
 use Rattle.turns.specs.declared.Ending.the-variants.{Found, Absent, Spent}

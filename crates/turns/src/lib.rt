@@ -153,7 +153,7 @@ pub fn turns(
             }
             depth -= 1;
             let mark = wide(marks[depth]);
-            let x = retreat(
+            let undone = retreat(
                 list,
                 n,
                 table,
@@ -169,7 +169,7 @@ pub fn turns(
                 at,
                 r.count,
             );
-            low = x + 1;
+            low = undone + 1;
             at = mark;
             count = at + 1;
             continue 'turns;

@@ -1,4 +1,4 @@
--- `propagate::heed` meets its contract. The loop's invariant: each clause seen to is settled, or one of its variables was set. Assumes nothing.
+-- `heeding::heed` meets its contract. The loop's invariant: each clause seen to is settled, or one of its variables was set. Assumes nothing.
 use borrow.Author.Needs.{needs}
 use native.Mathlib.Omega.{arith}
 use Prim.Native.Nat.{_-_}
@@ -6,9 +6,9 @@ use mathlib.Core.Path.{_≡_, refl, sym, _∙_}
 use lib.ListN.{length}
 use Rattle.rows.specs.Rows.{Rows}
 use Rattle.rows.proofs.Working.{worked-length}
-use Rattle.propagate.proofs.Hearing as laws
-use Rattle.propagate.proofs.heed.Statement.{statement}
-use Rattle.propagate.proofs.heed.Tie as tie
+use Rattle.heeding.proofs.Hearing as laws
+use Rattle.heeding.proofs.heed.Statement.{statement}
+use Rattle.heeding.proofs.heed.Tie as tie
 
 abbrev Inv-noted : tie.InvT-noted
 Inv-noted list n table words noted values₀ trail₀ joined₀ apart₀ start count₀ k₀ values trail joined apart count k =

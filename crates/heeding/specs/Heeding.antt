@@ -9,12 +9,6 @@ use Rattle.cnf.specs.Closing.{_⊑_, SettledOr}
 use Rattle.rows.specs.Trail.{Worked}
 use Rattle.tallies.specs.Tallies.{numbered, Tallied}
 
--- room for the words, and to note as many clauses as there are places
-pub record Room (clauses words noted : List ℕ) : Type 0 where
-  pub few : length words ≤ 32768
-  pub noted-room : length clauses ≤ length noted
-  pub short : length noted ≤ 32768
-
 -- clauses of the list, whose words are of values that v extends, have at most one literal left
 pub record Told (ws v words noted : List ℕ) : Type 0 where
   pub short : length noted ≤ 32768
@@ -29,7 +23,3 @@ pub record Told (ws v words noted : List ℕ) : Type 0 where
 pub record Heeded (ws noted v t : List ℕ) (count : ℕ) (w s : List ℕ) (isBroken : Bool) (more : ℕ) : Type 0 where
   pub worked : Worked (clausesIn ws) v t count w s isBroken more
   pub settles : isBroken ≡ false → (c : ℕ) → List·Memᴰ c noted → SettledOr w (worked .grown .new) (numbered ws c)
-
--- where no clause is broken the words are those of the values
-abbrev pub Caught : List ℕ → List ℕ → List ℕ → Bool → Type 0
-Caught ws v words isBroken = isBroken ≡ false → Tallied ws v words

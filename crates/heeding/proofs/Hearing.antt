@@ -16,8 +16,8 @@ use Rattle.rows.specs.Rows.{Rows, Settable, Forced}
 use Rattle.rows.proofs.Working.{worked-none, worked-extends, worked-on, asked-below, asked-quiet, worked-broken, worked-store, store-keeps, store-own, can-force}
 use Rattle.tallies.specs.Tallies.{numbered, weigh}
 use Rattle.tallies.proofs.Left.{none-left, one-left, one-right, one-unset, one-false}
-use Rattle.propagate.specs.Heeding.{Told, Heeded}
-use Rattle.propagate.proofs.Places.{mem-place}
+use Rattle.heeding.specs.Heeding.{Told, Heeded}
+use Rattle.heeding.proofs.Places.{mem-place}
 
 -- before the k-th of them: each that was seen to is settled, or one of its variables was set
 pub record Hearing (ws words noted v₀ t₀ : List ℕ) (start : ℕ) (v t : List ℕ) (count k : ℕ) : Type 0 where
