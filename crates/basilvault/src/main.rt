@@ -24,7 +24,7 @@ use lines::put_number;
 use lines::put_records;
 use lines::put_table;
 use reductions::Reduction;
-use table::Section;
+use view::Section;
 
 // "The program uses 40 and 64."
 fn widest() -> Limits
@@ -43,7 +43,7 @@ fn state_count(table: &[u8]) -> usize
     let reading = table::read_within(widest(), table);
     match reading {
         Reading::Sections(starts) => {
-            let states = table::part(table, starts, Section::States);
+            let states = view::part(table, starts, Section::States);
             states.len()
         }
         Reading::Refused(_) => 0,

@@ -17,8 +17,8 @@ use joining::map_of;
 use limits::Limits;
 use quotients::Written;
 use reductions::Reduction;
-use table::Section;
 use turns::Ending;
+use view::Section;
 
 // The end of a search as its guesses, and whether none exists or the budget is spent.
 struct Made {
@@ -178,7 +178,7 @@ pub fn reduce_within(
     }
     let starts = examined.starts;
     let words = examined.words;
-    let states = table::part(table, starts, Section::States);
+    let states = view::part(table, starts, Section::States);
     let n = states.len();
     if map.len() < n {
         return Reduction::Refused(22);

@@ -11,7 +11,7 @@ use borrow.Author.Tests.{lt-ltb, le-ltb, eq-eqb, ne-eqb}
 use Rattle.lists.specs.Lists.{all}
 use Rattle.format.specs.File.{Table}
 use Rattle.format.specs.Reading.{recordFits}
-use Rattle.table.specs.Sections.{sectioned}
+use Rattle.view.specs.Sections.{sectioned}
 
 -- a record is judged by the symbols and the states alone
 pub fits-by : (t u : Table) (kind : ℕ) (r : List ℕ) → t .symbols ≡ u .symbols → t .states ≡ u .states → recordFits t kind r ≡ recordFits u kind r

@@ -2,12 +2,12 @@
 use mathlib.Core.Path.{_≡_, refl, sym, ap, _∙_}
 use mathlib.Core.Bool.{Bool, true, false, _&&_}
 use mathlib.Core.List.{List, [], _∷_}
-use Prim.Native.Nat.{ℕ, zero, suc, _+_, _-_, _*_, _/_, _%_, _≤_, _<_}
-use native.Mathlib.Nat.{add-zero, sub-zero, suc-sub-suc}
+use Prim.Native.Nat.{ℕ, suc, _+_, _-_, _*_, _/_, _%_, _≤_, _<_}
+use native.Mathlib.Nat.{add-zero}
 use native.Mathlib.Numerals.{add-one}
 use native.Mathlib.Omega.{arith}
 use lib.ListN.{length, take, drop}
-use lib.Seq.{slice, take-nil}
+use lib.Seq.{slice}
 use lib.Dec.{eqb, leb, ltb, leb·suc-suc}
 use borrow.Author.Tests.{lt-leb, le-leb, eq-eqb, ne-eqb, eqb-false}
 use Rattle.lists.specs.Lists.{any, all, firstFailed}
@@ -24,7 +24,8 @@ use Rattle.format.specs.declared.Reading.{Reading}
 use Rattle.format.specs.declared.Reading.the-variants.{Sections, Refused}
 use Rattle.format.proofs.Passed.{distances-framed}
 use Rattle.format.proofs.Bytes.{length-records}
-use Rattle.table.specs.Sections.{sectioned}
+use Rattle.view.specs.Sections.{sectioned}
+use Rattle.view.proofs.Parts.{part}
 use Rattle.table.proofs.Fits.{fits-by}
 
 -- ---- 4: counts
@@ -265,13 +266,6 @@ follow b s end h d e =
       returns = omega (arith, s4, t);
       last = omega (arith, h);
     }
-
--- a part of a slice as the code takes it
-pub part : (f t : ℕ) (b : List ℕ) → f ≤ t → take (t - f) (drop f b) ≡ slice f t b
-part zero t b h = ap (λ n. take n b) (sub-zero t)
-part (suc f) zero b h = absurd (omega arith)
-part (suc f) (suc t) [] h = rw take-nil
-part (suc f) (suc t) (x ∷ b) h = rw suc-sub-suc (part f t b (omega arith))
 
 pub sections-are : (b : List ℕ) (s : Starts) (end : ℕ) → end + 12 ≡ length b → distancesFit b ≡ true → s ≡ startsOf b → {v : ℕ} → v ≡ version b
     → sectioned v (take (s .states - s .symbols) (drop (s .symbols) b)) (take (s .internals - s .states) (drop (s .states) b)) (take (s .calls - s .internals) (drop (s .internals) b)) (take (s .returns - s .calls) (drop (s .calls) b)) (take (end - s .returns) (drop (s .returns) b))

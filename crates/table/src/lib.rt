@@ -1,4 +1,4 @@
-// The table file: reading it, its records, and writing it.
+// The table file: reading it.
 ghost use mathlib.Core.Path.{_≡_};
 ghost use mathlib.Core.Bool.{true};
 ghost use mathlib.Core.List.{[]};
@@ -10,25 +10,12 @@ ghost use Rattle.limits.specs.Limits.{standard, limitsFit};
 ghost use Rattle.format.specs.Limits.{longest};
 ghost use Rattle.format.specs.File.{word16, version, records, tableOf};
 ghost use Rattle.format.specs.Reading.{versionFits, distancesFit, countsFit, stateByteMost, bytesFit, isInitial, recordFits, recordsFit, ascend, orderFits, tableTests, startsOf, readOf, ReadSays};
-ghost use Rattle.table.specs.Sections.{sectioned};
+ghost use Rattle.view.specs.Sections.{sectioned};
 use format::Reading;
 use format::Starts;
+use keyed::number_at;
 use limits::Limits;
 use limits::limits_fit;
-
-mod keyed;
-mod view;
-
-pub use keyed::move_key;
-use keyed::number_at;
-pub use keyed::return_key;
-pub use keyed::starting;
-pub use view::Section;
-pub use view::TableView;
-pub use view::part;
-pub use view::view_of;
-pub use view::view_part;
-pub use view::view_state;
 
 // The longest file's bytes but for its symbols and states: every record section full, and the trailer.
 const RECORDS_AND_TRAILER: usize = 22540;

@@ -2,7 +2,7 @@
 use mathlib.Core.Path.{sym, _∙_}
 use native.Mathlib.Omega.{arith}
 use Rattle.printed.specs.Program.{widest}
-use Rattle.table.proofs.Handed.{read-as, read-refused}
+use Rattle.view.proofs.Handed.{read-as, read-refused}
 use Rattle.reduce.proofs.Stages.{states-count, states-few}
 use borrow.Author.Needs.{needs}
 use Rattle.basilvault.proofs.state_count.Statement.{statement}

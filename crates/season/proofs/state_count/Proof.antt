@@ -1,7 +1,7 @@
 -- `season::state_count` meets its contract. Assumes nothing.
 use borrow.Author.Needs.{needs}
 use mathlib.Core.Path.{sym, _∙_}
-use Rattle.table.proofs.Handed.{read-as, read-refused}
+use Rattle.view.proofs.Handed.{read-as, read-refused}
 use Rattle.reduce.proofs.Stages.{states-count}
 use Rattle.season.proofs.state_count.Statement.{statement}
 use Rattle.season.proofs.state_count.Tie as tie

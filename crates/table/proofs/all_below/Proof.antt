@@ -4,7 +4,7 @@ use lib.ListN.{length}
 use lib.Dec.{ltb}
 use borrow.Author.Tests.{lt-ltb, le-ltb}
 use Rattle.lists.specs.Lists.{all}
-use Rattle.table.proofs.Walks as walks
+use Rattle.keyed.proofs.Walks as walks
 use borrow.Author.Needs.{needs}
 use Rattle.table.proofs.all_below.Statement.{statement}
 use Rattle.table.proofs.all_below.Tie as tie

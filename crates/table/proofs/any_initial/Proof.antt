@@ -4,7 +4,7 @@ use lib.ListN.{length}
 use borrow.Author.Tests.{eq-eqb, ne-eqb}
 use Rattle.lists.specs.Lists.{any}
 use Rattle.format.specs.Reading.{isInitial}
-use Rattle.table.proofs.Walks as walks
+use Rattle.keyed.proofs.Walks as walks
 use borrow.Author.Needs.{needs}
 use Rattle.table.proofs.any_initial.Statement.{statement}
 use Rattle.table.proofs.any_initial.Tie as tie

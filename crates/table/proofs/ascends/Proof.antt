@@ -2,7 +2,7 @@
 use Prim.Native.Nat.{_-_}
 use native.Mathlib.Omega.{arith}
 use lib.ListN.{length}
-use Rattle.table.proofs.Walks.{Rising, rising, too-few, risen, rises, falls}
+use Rattle.keyed.proofs.Walks.{Rising, rising, too-few, risen, rises, falls}
 use borrow.Author.Needs.{needs}
 use Rattle.table.proofs.ascends.Statement.{statement}
 use Rattle.table.proofs.ascends.Tie as tie

@@ -7,8 +7,8 @@ use borrow.Author.Tests.{not-true, not-false}
 use Rattle.lists.specs.Lists.{all}
 use Rattle.format.specs.File.{records}
 use Rattle.format.specs.Reading.{recordFits}
-use Rattle.table.specs.Sections.{sectioned}
-use Rattle.table.proofs.Walks as walks
+use Rattle.view.specs.Sections.{sectioned}
+use Rattle.keyed.proofs.Walks as walks
 use borrow.Author.Needs.{needs}
 use Rattle.table.proofs.records_fit.Statement.{statement}
 use Rattle.table.proofs.records_fit.Tie as tie
