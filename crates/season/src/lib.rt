@@ -1,23 +1,19 @@
 // Reducing the tables of a season, in order, with shared guesses.
 ghost use mathlib.Core.Path.{_≡_};
 ghost use mathlib.Core.Bool.{true};
-ghost use Prim.Native.Nat.{_*_, _<_, _≤_, _^_};
+ghost use Prim.Native.Nat.{_*_, _<_, _^_};
 ghost use lib.ListN.{length};
 ghost use lib.Seq.{paste};
 ghost use Rattle.limits.specs.Limits.{standard};
-ghost use Rattle.format.specs.File.{tableOf};
-ghost use Rattle.format.specs.Reading.{Readable};
-ghost use Rattle.format.specs.Language.{count};
 ghost use Rattle.seasons.specs.Seasons.{lengthsFit, SeasonDone, refusedBy, seasonOf};
 ghost use Rattle.seasons.specs.Demands.{SeasonPromises};
 ghost use Rattle.season.specs.Turns.{Turned, Ran};
-use format::Reading;
 use lengths::lengths_fit;
 use limits::Limits;
+use reduce::state_count;
 use reductions::Reduction;
 use seasons::Season;
 use stored::yes_value;
-use view::Section;
 
 // One table's turn: its row of numbers, how many bytes of the maps and of the reduced tables it took, and its guesses.
 struct Turn {
@@ -25,20 +21,6 @@ struct Turn {
     states: usize,
     length: usize,
     guesses: u64,
-}
-
-// How many states a table has that is readable at the limits.
-fn state_count(limits: Limits, table: &[u8]) -> usize
-    ensures { λ r. ⌜ (Readable limits (now (table .entry)) → r ≡ count (tableOf (now (table .entry)))) ⌝ }
-{
-    let reading = table::read_within(limits, table);
-    match reading {
-        Reading::Sections(starts) => {
-            let states = view::part(table, starts, Section::States);
-            states.len()
-        }
-        Reading::Refused(_) => 0,
-    }
 }
 
 // Reduces one table with what is left of the buffers.

@@ -34,7 +34,7 @@ same-length-3 c = search needs
 returns : tie.Need-returns
 returns c =
     let s = c .before .before .before .before .before .before .before .before .before .before .before .before .before .before .before .before .before .before .before in
-    turn-delivered (s .args .limits) (s .args .table .now) (s .args .budget) (s .args .list .now) (s .args .map .now) (s .args .out .now) (c .before .before .before .before .before .before .before .before .before .before .before .reduce-within .ensures .0) (c .before .before .before .answer .given .1) (c .before .yes-value .ensures) (c .state-count .ensures)
+    turn-delivered (s .args .limits) (s .args .table .now) (s .args .budget) (s .args .list .now) (s .args .map .now) (s .args .out .now) (c .before .before .before .before .before .before .before .before .before .before .before .reduce-within .ensures .0) (c .before .before .before .answer .given .1) (c .before .yes-value .ensures) (c .state-count .ensures .1)
 
 same-length-4 : tie.Need-same-length-4
 same-length-4 c = search needs
