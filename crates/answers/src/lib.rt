@@ -1,18 +1,16 @@
 // An operation's answer as C has it: a number, 0 where nothing is refused, and the answer's values, stored where there is room for all of them.
 ghost use mathlib.Core.Path.{_≡_};
-ghost use mathlib.Core.List.{[], _∷_, _++_};
-ghost use lib.ListN.{length};
 ghost use Rattle.format.specs.Reading.{readingNumber, readingValues};
 ghost use Rattle.encoding.specs.Clauses.{listedNumber, listedValues};
 ghost use Rattle.solutions.specs.Answers.{solutionNumber, solutionValues};
 ghost use Rattle.relations.specs.Check.{checkedNumber, checkedValues};
 ghost use Rattle.quotients.specs.Quotient.{writtenNumber, writtenValues};
-ghost use Rattle.reductions.specs.Reduce.{spentValue, reductionNumber, reductionValues};
-ghost use Rattle.scripts.specs.Script.{yesValue, readNumberOf, readValues};
+ghost use Rattle.reductions.specs.Reduce.{reductionNumber, reductionValues};
+ghost use Rattle.scripts.specs.Script.{readNumberOf, readValues};
 ghost use Rattle.fates.specs.Fates.{recordedNumber, recordedValues};
 ghost use Rattle.fitting.specs.Fit.{fittingNumber, fittingValues};
 ghost use Rattle.seasons.specs.Seasons.{seasonValues};
-ghost use Rattle.answers.specs.Storing.{stored};
+ghost use Rattle.stored.specs.Storing.{stored};
 use encoding::Listed;
 use fates::Recorded;
 use fitting::Fitting;
@@ -23,32 +21,8 @@ use relations::Checked;
 use scripts::Read;
 use seasons::Season;
 use solutions::Solution;
-
-// Stores an answer's values where there is room for all of them.
-pub fn store(answer: &[u64], values: &mut [u64])
-    ensures { λ _. ⌜ now (values .exit) ≡ stored (now (answer .entry)) (now (values .entry)) ⌝ }
-{
-    if values.len() < answer.len() {
-        return;
-    }
-    let mut i: usize = 0;
-    'values: while i < answer.len() {
-        values[i] = answer[i];
-        i += 1;
-    }
-}
-
-// Stores words and one number behind them, where there is room for all.
-pub fn store_words(words: &[u64; 40], last: u64, values: &mut [u64])
-    requires { ⌜ length (now words) ≡ 40 ⌝ }
-    ensures { λ _. ⌜ now (values .exit) ≡ stored (now (words .entry) ++ (last ∷ [])) (now (values .entry)) ⌝ }
-{
-    if values.len() < 41 {
-        return;
-    }
-    store(words, values);
-    values[40] = last;
-}
+use stored::store;
+use stored::yes_value;
 
 // The five section starts.
 pub fn say_reading(reading: Reading, values: &mut [u64]) -> u32
@@ -131,13 +105,6 @@ pub fn say_written(written: Written, values: &mut [u64]) -> u32
     }
 }
 
-// Whether the budget was spent, as a value.
-fn spent_value(spent: bool) -> u64
-    ensures { λ r. ⌜ r ≡ spentValue spent ⌝ }
-{
-    if spent { 1 } else { 0 }
-}
-
 // Classes, guesses, clause words, the length, joined pairs, the ceiling, and whether the budget was spent.
 pub fn say_reduction(reduction: Reduction, values: &mut [u64]) -> u32
     ensures number { λ r. ⌜ r ≡ reductionNumber reduction ⌝ }
@@ -160,20 +127,13 @@ pub fn say_reduction(reduction: Reduction, values: &mut [u64]) -> u32
                 length as u64,
                 joined as u64,
                 ceiling as u64,
-                spent_value(spent),
+                yes_value(spent),
             ];
             store(&answer, values);
             0
         }
         Reduction::Refused(number) => number as u32,
     }
-}
-
-// Yes or no as a value.
-fn yes_value(yes: bool) -> u64
-    ensures { λ r. ⌜ r ≡ yesValue yes ⌝ }
-{
-    if yes { 1 } else { 0 }
 }
 
 // Yes or no.

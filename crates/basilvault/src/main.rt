@@ -12,7 +12,6 @@ ghost use Rattle.relations.specs.Check.{checkNumber};
 ghost use Rattle.printed.specs.Text.{goingText, printed};
 ghost use Rattle.printed.specs.Lines.{Put};
 use fates::Recorded;
-use format::Reading;
 use libc::STDERR_FILENO;
 use libc::STDIN_FILENO;
 use libc::STDOUT_FILENO;
@@ -24,7 +23,6 @@ use lines::put_number;
 use lines::put_records;
 use lines::put_table;
 use reductions::Reduction;
-use table::Section;
 
 // "The program uses 40 and 64."
 fn widest() -> Limits
@@ -40,14 +38,7 @@ fn widest() -> Limits
 fn state_count(table: &[u8]) -> usize
     ensures { λ r. ⌜ (r ≤ 40) × (Readable widest (now (table .entry)) → r ≡ count (tableOf (now (table .entry)))) ⌝ }
 {
-    let reading = table::read_within(widest(), table);
-    match reading {
-        Reading::Sections(starts) => {
-            let states = table::part(table, starts, Section::States);
-            states.len()
-        }
-        Reading::Refused(_) => 0,
-    }
+    reduce::state_count(widest(), table)
 }
 
 // Where the records of a table went under a map that the check accepts.

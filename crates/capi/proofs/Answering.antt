@@ -18,15 +18,16 @@ use Rattle.reach.specs.Tops.{topWords, topsOf, topsValues}
 use Rattle.reach.proofs.Exact.{length-words}
 use Rattle.reach.proofs.Formed.{bounded}
 use Rattle.tops.specs.Sections.{topsFound}
-use Rattle.tops.proofs.Read.{read-sections, read-refused, tops-answer, tops-refused as unread}
+use Rattle.view.proofs.Handed.{read-as, read-refused}
+use Rattle.tops.proofs.Read.{tops-answer, tops-refused as unread}
 use Rattle.usage.specs.declared.Counted.{Counted}
 use Rattle.usage.specs.Uses.{countedValues}
 use Rattle.choices.specs.declared.Which.the-variants.{Neither, First, Second}
 use Rattle.choices.specs.declared.Choice.{Choice}
 use Rattle.choices.specs.Choose.{choiceValues}
 use Rattle.choices.specs.Demands.{NumberTells}
-use Rattle.answers.specs.Storing.{stored}
-use Rattle.answers.proofs.Storing.{stored-all, stored-none, last-short, last-stored}
+use Rattle.stored.specs.Storing.{stored}
+use Rattle.stored.proofs.Storing.{stored-all, stored-none, last-short, last-stored}
 use Rattle.capi.specs.Answers.{out, topsOut}
 
 -- an answer whose number is m and whose values are vs, as the code found them
@@ -53,7 +54,7 @@ tops-refused r h = rw (ne-eqb (r .number) 0 h, topsValues)
 module _ (values : List ℕ) (L : Limits) (b : List ℕ) where
   module _ {s : Starts} (e : SectionsAt s ≡ readOf L b) where
     words-long : length (topWords (tableOf b)) ≡ 40
-    words-long = length-words (bounded (read-well-formed L b (read-sections L b e .0)))
+    words-long = length-words (bounded (read-well-formed L b (read-as L b s (sym e) .readable)))
 
     pub tops-short : length values < 41 → record { number = 0; buffers = []; values = values } ≡ topsOut values (topsOf L b)
     unfolding topsOut topsFound
@@ -76,7 +77,7 @@ module _ (values : List ℕ) (L : Limits) (b : List ℕ) where
   pub tops-none : {k : ℕ} → RefusedBy k ≡ readOf L b → record { number = k; buffers = []; values = values } ≡ topsOut values (topsOf L b)
   unfolding topsOut
   tops-none {k} e =
-      refused values refl (tops-refused (record { number = k; words = replicate 40 0; found = 0 }) (read-refused L b e .1))
+      refused values refl (tops-refused (record { number = k; words = replicate 40 0; found = 0 }) (read-refused L b k (sym e) .1))
       ∙ ap (topsOut values) (unread L b e .0)
 
 pub uses-counted : (r : Counted) → r .number ≡ 0 → countedValues r ≡ r .sums ++ (r .total ∷ [])

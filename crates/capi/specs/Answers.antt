@@ -1,7 +1,7 @@
 -- What the C interface returns and writes, from the operations' answers. Assumes nothing.
 use mathlib.Core.List.{List, [], _∷_}
 use Prim.Native.Nat.{ℕ}
-use Rattle.answers.specs.Storing.{stored}
+use Rattle.stored.specs.Storing.{stored}
 use Rattle.format.specs.declared.Reading.{Reading}
 use Rattle.format.specs.Reading.{readingNumber, readingValues}
 use Rattle.reach.specs.declared.TopWords.{TopWords}

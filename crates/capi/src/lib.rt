@@ -291,7 +291,7 @@ pub extern "C" fn basilvault_uses_within(
         return number as u32;
     }
     let sums = counted.sums;
-    answers::store_words(&sums, counted.total, values);
+    stored::store_words(&sums, counted.total, values);
     0
 }
 
@@ -325,11 +325,11 @@ pub extern "C" fn basilvault_choose_within(
     match which {
         Which::Neither => choice.number as u32,
         Which::First => {
-            answers::store(&[1u64], values);
+            stored::store(&[1u64], values);
             0
         }
         Which::Second => {
-            answers::store(&[2u64], values);
+            stored::store(&[2u64], values);
             0
         }
     }

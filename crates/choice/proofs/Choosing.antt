@@ -13,7 +13,7 @@ use Rattle.lists.proofs.Members.{and-true, and-of, gives, gives-of, not-so, all
 use Rattle.format.specs.File.{records}
 use Rattle.format.specs.Reading.{isInitial, before, ascendFrom, ascend}
 use Rattle.format.proofs.Order.{first-cases, by-first, by-others, before-irreflexive, before-transitive, ascend-rest}
-use Rattle.table.proofs.Walks.{records-cons, records-end}
+use Rattle.keyed.proofs.Walks.{records-cons, records-end}
 use Rattle.quotients.specs.Quotient.{bitOf}
 use Rattle.fitting.specs.Fit.{oneTarget}
 

@@ -15,9 +15,9 @@ use Rattle.format.specs.declared.Starts.{Starts}
 use Rattle.format.proofs.Bytes.{read-well-formed}
 use Rattle.format.proofs.Facts.{Fit, internals-fit, calls-fit, returns-fit, few-states}
 use Rattle.format.proofs.Passed.{formed-tested}
-use Rattle.table.specs.Sections.{partOf, ReadAs}
-use Rattle.table.specs.declared.view.Section.the-variants.{States, Internals, Calls, Returns}
-use Rattle.table.proofs.Parts.{states-read, internals-read, calls-read, returns-read}
+use Rattle.view.specs.Sections.{partOf, ReadAs}
+use Rattle.view.specs.declared.Section.the-variants.{States, Internals, Calls, Returns}
+use Rattle.view.proofs.Parts.{states-read, internals-read, calls-read, returns-read}
 use Rattle.fitting.specs.Fit.{oneTarget, oneInitial, noChoice}
 use Rattle.rounds.specs.Rows.{Named, Ascends}
 

@@ -7,10 +7,10 @@ ghost use Rattle.lists.specs.Lists.{keep};
 ghost use Rattle.limits.specs.Limits.{standard};
 ghost use Rattle.format.specs.File.{tableOf, records};
 ghost use Rattle.format.specs.Reading.{isInitial, ascend};
-ghost use Rattle.table.specs.Sections.{ReadAs};
+ghost use Rattle.view.specs.Sections.{ReadAs};
 ghost use Rattle.fitting.specs.Fit.{oneTarget, noChoice};
 use format::Starts;
-use table::Section;
+use view::Section;
 
 // How many states are initial.
 fn initials(states: &[u8]) -> usize
@@ -54,14 +54,14 @@ pub fn no_choice(table: &[u8], starts: Starts) -> bool
     requires { ⌜ ReadAs standard (now table) starts ⌝ }
     ensures { λ r. ⌜ r ≡ noChoice (tableOf (now (table .entry))) ⌝ }
 {
-    if initials(table::part(table, starts, Section::States)) != 1 {
+    if initials(view::part(table, starts, Section::States)) != 1 {
         return false;
     }
-    if !one_target(3, table::part(table, starts, Section::Internals)) {
+    if !one_target(3, view::part(table, starts, Section::Internals)) {
         return false;
     }
-    if !one_target(3, table::part(table, starts, Section::Calls)) {
+    if !one_target(3, view::part(table, starts, Section::Calls)) {
         return false;
     }
-    one_target(4, table::part(table, starts, Section::Returns))
+    one_target(4, view::part(table, starts, Section::Returns))
 }

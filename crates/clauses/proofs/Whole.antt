@@ -16,9 +16,9 @@ use Rattle.format.specs.Reading.{Readable, startsOf}
 use Rattle.format.specs.declared.Starts.{Starts}
 use Rattle.format.proofs.Passed.{Tested, formed-tested}
 use Rattle.format.proofs.Bytes.{read-well-formed}
-use Rattle.table.specs.Sections.{partOf}
-use Rattle.table.specs.declared.view.Section.the-variants.{States, Internals, Calls, Returns}
-use Rattle.table.proofs.Parts.{states-at, internals-at, calls-at, returns-at}
+use Rattle.view.specs.Sections.{partOf}
+use Rattle.view.specs.declared.Section.the-variants.{States, Internals, Calls, Returns}
+use Rattle.view.proofs.Parts.{states-at, internals-at, calls-at, returns-at}
 use Rattle.reach.specs.Tops.{topWords, liveReturns}
 use Rattle.tops.specs.Sections.{examinedOf}
 use Rattle.tops.specs.declared.Examined.{Examined}

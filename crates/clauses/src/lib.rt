@@ -17,7 +17,7 @@ use recordwise::live_returns;
 use recordwise::moves;
 use statewise::looks_apart;
 use statewise::transitive;
-use table::Section;
+use view::Section;
 
 // Group 2, where the list is to be whole.
 fn closure(whole: bool, states: &[u8], tally: Tally, list: &mut [u16]) -> Tally
@@ -123,10 +123,10 @@ pub fn list_read(
 {
     list_sections(
         whole,
-        table::part(table, starts, Section::States),
-        table::part(table, starts, Section::Internals),
-        table::part(table, starts, Section::Calls),
-        table::part(table, starts, Section::Returns),
+        view::part(table, starts, Section::States),
+        view::part(table, starts, Section::Internals),
+        view::part(table, starts, Section::Calls),
+        view::part(table, starts, Section::Returns),
         tops,
         list,
     )

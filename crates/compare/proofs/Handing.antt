@@ -10,15 +10,15 @@ use Rattle.format.specs.File.{Table, tableOf, records}
 use Rattle.format.specs.Language.{count}
 use Rattle.format.specs.declared.Starts.{Starts}
 use Rattle.format.proofs.Bytes.{read-well-formed}
-use Rattle.table.specs.Sections.{partOf}
-use Rattle.table.specs.declared.view.Section.the-variants.{States, Internals, Calls, Returns}
-use Rattle.table.proofs.Parts.{states-read, internals-read, calls-read, returns-read}
+use Rattle.view.specs.Sections.{partOf}
+use Rattle.view.specs.declared.Section.the-variants.{States, Internals, Calls, Returns}
+use Rattle.view.proofs.Parts.{states-read, internals-read, calls-read, returns-read}
 use Rattle.reach.specs.Tops.{rounds, startWords}
 use Rattle.fitting.specs.Fit.{pairCount, pairTable, pairTops, ends, fits}
 use Rattle.rounds.specs.Rows.{Holds, Named, NextMoves, NextReturns}
 use Rattle.compare.specs.Told.{Given, BothRead}
-use Rattle.walk.specs.Quick.{Partly, Counts, Inner, Pushing, Popping}
-use Rattle.walk.proofs.Quickly.{start-partly, partly-tops}
+use Rattle.linking.specs.Quick.{Partly, Counts, Inner, Pushing, Popping}
+use Rattle.linking.proofs.Quickly.{start-partly, partly-tops}
 use Rattle.choice.proofs.Reading.{named-more, read-few, internals-named, calls-named, returns-named}
 
 -- ---- the rows of the pairs

@@ -10,8 +10,8 @@ use Rattle.lists.specs.Lists.{keep, same}
 use Rattle.lists.proofs.Members.{keep-mem}
 use Rattle.format.specs.File.{records}
 use Rattle.format.specs.Language.{targets}
-use Rattle.table.specs.Spans.{startsWith}
-use Rattle.table.proofs.Walks.{records-cons, records-end}
+use Rattle.keyed.specs.Spans.{startsWith}
+use Rattle.keyed.proofs.Walks.{records-cons, records-end}
 use Rattle.fitting.specs.Fit.{after}
 use Rattle.rounds.specs.Rows.{Ascends, Nexts, NextMoves, NextReturns}
 

@@ -1,15 +1,16 @@
 -- What the code of the comparison has of two tables, and what it tells of them. Assumes nothing.
 use mathlib.Core.Path.{_≡_}
-use mathlib.Core.Bool.{Bool, true, false}
+use mathlib.Core.Bool.{Bool, true, false, _&&_}
 use mathlib.Core.List.{List}
-use Prim.Native.Nat.{ℕ, suc, _+_, _*_, _^_}
+use Prim.Native.Nat.{ℕ, suc, _+_, _*_, _^_, _<_}
 use lib.ListN.{length, replicate}
+use Rattle.lists.specs.Bits.{has}
 use Rattle.format.specs.File.{Table, records}
 use Rattle.limits.specs.Limits.{standard}
-use Rattle.format.specs.Reading.{isInitial}
+use Rattle.format.specs.Reading.{isInitial, isAccepting}
 use Rattle.format.specs.declared.Starts.{Starts}
 use Rattle.format.specs.Language.{count}
-use Rattle.table.specs.Sections.{ReadAs}
+use Rattle.view.specs.Sections.{ReadAs}
 use Rattle.reach.specs.Tops.{add, rounds, startWords}
 use Rattle.fitting.specs.Fit.{pairCount, pairTable, ends}
 use Rattle.rounds.specs.Rows.{Holds, Named, NextMoves, NextReturns}
@@ -31,6 +32,14 @@ pub record Given (s t : Table) (internals calls returns moves pushes pops : List
 -- an initial pair gains the bottom
 unfoldable pub startStep : ℕ → ℕ → ℕ → List ℕ → List ℕ
 startStep byte u bottom f = elim (isInitial byte) [ true ↦ add f u (2 ^ bottom) | false ↦ f ]
+
+-- r tells whether the pair u of a byte accepts with the bottom on top
+abbrev pub EndsAt : ℕ → ℕ → ℕ → List ℕ → Bool → Type 0
+EndsAt byte u bottom f r = (F : List ℕ) → Holds f F → r ≡ (isAccepting byte && has F u bottom)
+
+-- rows turn as a pair u of a byte starts
+abbrev pub StartAt : ℕ → ℕ → ℕ → List ℕ → List ℕ → Type 0
+StartAt byte u bottom f g = (F : List ℕ) → Holds f F → u < length F → Holds g (startStep byte u bottom F)
 
 -- two tables that were read, and their starts
 pub record BothRead (b : List ℕ) (x : Starts) (c : List ℕ) (y : Starts) : Type 0 where

@@ -1,14 +1,10 @@
 // Which pairs are initial, and which accept: the first does and the second does not.
 ghost use mathlib.Core.Path.{_≡_};
-ghost use mathlib.Core.Bool.{_&&_};
-ghost use mathlib.Core.List.{List};
-ghost use Prim.Native.Nat.{ℕ, _+_, _*_, _<_, _≤_};
+ghost use Prim.Native.Nat.{_<_, _≤_};
 ghost use lib.ListN.{length, getD};
-ghost use Rattle.lists.specs.Bits.{has};
 ghost use Rattle.format.specs.Reading.{isInitial, isAccepting};
 ghost use Rattle.fitting.specs.Fit.{pairByte};
-ghost use Rattle.rounds.specs.Rows.{Holds};
-ghost use Rattle.compare.specs.Told.{startStep, EndsTold, StartsTold};
+ghost use Rattle.compare.specs.Told.{EndsAt, StartAt, EndsTold, StartsTold};
 use rounds::held;
 use rounds::put;
 
@@ -38,7 +34,7 @@ fn accepts(first: u8, second: u8) -> bool
 // The pair u of such states has the bottom among its tops.
 fn ends_at(first: u8, second: u8, rows: &[u64; 6000], u: usize, bottom: usize) -> bool
     requires { ⌜ (u < 600) × (bottom < 640) ⌝ }
-    ensures { λ r. ⌜ ((F : List ℕ) → Holds (now (rows .entry)) F → r ≡ (isAccepting (pairByte first second) && has F u bottom)) ⌝ }
+    ensures { λ r. ⌜ EndsAt (pairByte first second) u bottom (now (rows .entry)) r ⌝ }
 {
     if accepts(first, second) {
         return held(rows, u, bottom);
@@ -81,7 +77,7 @@ fn starts(first: u8, second: u8) -> bool
 // The pair u of such states gains the bottom.
 fn start_at(first: u8, second: u8, u: usize, bottom: usize, rows: &mut [u64; 6000])
     requires { ⌜ (u < 600) × (bottom < 640) ⌝ }
-    ensures { λ _. ⌜ ((F : List ℕ) → Holds (now (rows .entry)) F → u < length F → Holds (now (rows .exit)) (startStep (pairByte first second) u bottom F)) ⌝ }
+    ensures { λ _. ⌜ StartAt (pairByte first second) u bottom (now (rows .entry)) (now (rows .exit)) ⌝ }
 {
     if starts(first, second) {
         put(rows, u, bottom);

@@ -1,11 +1,10 @@
 // Where the second table goes, worked out once: for each state, symbol and popped state its target, or the number past the states.
 ghost use mathlib.Core.Path.{_≡_};
 ghost use mathlib.Core.Bool.{true};
-ghost use mathlib.Core.List.{List};
-ghost use Prim.Native.Nat.{ℕ, _-_, _<_, _≤_};
+ghost use Prim.Native.Nat.{_<_, _≤_};
 ghost use Rattle.format.specs.File.{records};
 ghost use Rattle.format.specs.Reading.{ascend};
-ghost use Rattle.table.specs.Keys.{Keyed};
+ghost use Rattle.keyed.specs.Keys.{ByKey};
 ghost use Rattle.fitting.specs.Fit.{after};
 ghost use Rattle.rounds.specs.Rows.{Ascends, Nexts, NextMoves, NextReturns};
 
@@ -19,9 +18,9 @@ pub fn narrow(x: usize) -> u8
 // The target of the first record that starts with a key, by its number.
 fn target_of(section: &[u8], width: usize, wanted: u32, sink: u8) -> u8
     requires { ⌜ (3 ≤ width) × (ascend (records width (now section)) ≡ true) ⌝ }
-    ensures { λ r. ⌜ ((k : List ℕ) → Keyed width k wanted → r ≡ after (records width (now (section .entry))) sink k) ⌝ }
+    ensures { λ r. ⌜ ByKey width wanted r (after (records width (now (section .entry))) sink) ⌝ }
 {
-    let found = table::starting(section, width, wanted);
+    let found = keyed::starting(section, width, wanted);
     if found.len() < width {
         return sink;
     }
@@ -36,7 +35,7 @@ pub fn next_moves(section: &[u8], sink: u8) -> [u8; 800]
     let mut next = [0u8; 800];
     let mut i: usize = 0;
     'moves: while i < 800 {
-        let wanted = table::move_key(narrow(i / 32), narrow(i % 32));
+        let wanted = keyed::move_key(narrow(i / 32), narrow(i % 32));
         next[i] = target_of(section, 3, wanted, sink);
         i += 1;
     }
@@ -51,7 +50,7 @@ pub fn next_returns(section: &[u8], sink: u8) -> [u8; 20000]
     let mut next = [0u8; 20000];
     let mut i: usize = 0;
     'returns: while i < 20000 {
-        let wanted = table::return_key(narrow(i / 800), narrow(i / 25 % 32), narrow(i % 25));
+        let wanted = keyed::return_key(narrow(i / 800), narrow(i / 25 % 32), narrow(i % 25));
         next[i] = target_of(section, 4, wanted, sink);
         i += 1;
     }

@@ -16,7 +16,7 @@ use format::Starts;
 use rounds::Kind;
 use rounds::by_moves;
 use rounds::by_returns;
-use table::Section;
+use view::Section;
 use walk::quick;
 
 fn same_rows(a: [u64; 6000], b: [u64; 6000]) -> bool
@@ -69,18 +69,18 @@ fn pair_rows(first: &[u8], one: Starts, second: &[u8], two: Starts) -> [u64; 600
     requires { ⌜ BothRead (now first) one (now second) two ⌝ }
     ensures { λ r. ⌜ Holds r (pairTops (tableOf (now (first .entry))) (tableOf (now (second .entry)))) ⌝ }
 {
-    let states = table::part(first, one, Section::States);
-    let others = table::part(second, two, Section::States);
+    let states = view::part(first, one, Section::States);
+    let others = view::part(second, two, Section::States);
     let n = others.len();
     let sink = narrow(n);
-    let moves = next_moves(table::part(second, two, Section::Internals), sink);
-    let pushes = next_moves(table::part(second, two, Section::Calls), sink);
-    let pops = next_returns(table::part(second, two, Section::Returns), sink);
+    let moves = next_moves(view::part(second, two, Section::Internals), sink);
+    let pushes = next_moves(view::part(second, two, Section::Calls), sink);
+    let pops = next_returns(view::part(second, two, Section::Returns), sink);
     let mut rows = [0u64; 6000];
     start_rows(states, others, &mut rows);
-    let internals = table::part(first, one, Section::Internals);
-    let calls = table::part(first, one, Section::Calls);
-    let returns = table::part(first, one, Section::Returns);
+    let internals = view::part(first, one, Section::Internals);
+    let calls = view::part(first, one, Section::Calls);
+    let returns = view::part(first, one, Section::Returns);
     let k = states.len();
     quick(
         internals,
@@ -113,7 +113,7 @@ pub fn fits(first: &[u8], one: Starts, second: &[u8], two: Starts) -> bool
     ensures { λ r. ⌜ r ≡ fits (tableOf (now (first .entry))) (tableOf (now (second .entry))) ⌝ }
 {
     let rows = pair_rows(first, one, second, two);
-    let states = table::part(first, one, Section::States);
-    let others = table::part(second, two, Section::States);
+    let states = view::part(first, one, Section::States);
+    let others = view::part(second, two, Section::States);
     !any_ends(states, others, &rows)
 }

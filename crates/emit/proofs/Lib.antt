@@ -2,4 +2,3 @@ pub mod Collecting
 pub mod Emitting
 pub mod Stepping
 pub mod Tidying
-pub mod Targeting

@@ -14,7 +14,7 @@ use Rattle.pairs.specs.Triangles.{past}
 use Rattle.pairs.proofs.Pairs.{pairs-suc, variable-lt, pair-variable}
 use Rattle.pairs.proofs.Triangles.{past-from}
 use Rattle.format.specs.File.{records}
-use Rattle.table.proofs.Walks.{records-cons, records-end}
+use Rattle.keyed.proofs.Walks.{records-cons, records-end}
 use Rattle.emit.specs.Emit.{State, Ordered, emit}
 use Rattle.emit.proofs.Emitting.{Coming, coming, come-on, come-as, come}
 

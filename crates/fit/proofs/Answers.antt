@@ -10,9 +10,9 @@ use Rattle.limits.specs.Limits.{standard}
 use Rattle.format.specs.File.{tableOf}
 use Rattle.format.specs.Reading.{readNumber}
 use Rattle.format.specs.declared.Starts.{Starts}
-use Rattle.table.specs.Sections.{partOf}
-use Rattle.table.specs.declared.view.Section.the-variants.{Symbols}
-use Rattle.table.proofs.Parts.{symbols-read}
+use Rattle.view.specs.Sections.{partOf}
+use Rattle.view.specs.declared.Section.the-variants.{Symbols}
+use Rattle.view.proofs.Parts.{symbols-read}
 use Rattle.fitting.specs.Fit.{fits, noChoice, sameSymbols, fitNumber, fitOf}
 use Rattle.fitting.specs.declared.Fitting.the-variants.{Yes, No, Refused}
 use Rattle.compare.specs.Told.{BothRead}

@@ -1,7 +1,7 @@
 // Does the second table accept every word of the first?
 ghost use mathlib.Core.Path.{_≡_};
 ghost use Rattle.limits.specs.Limits.{standard};
-ghost use Rattle.table.specs.Sections.{ReadAs};
+ghost use Rattle.view.specs.Sections.{ReadAs};
 ghost use Rattle.fitting.specs.Fit.{fitOf, FitSays};
 ghost use Rattle.fitting.specs.Demands.{YesExactly, NoApart, FitsQuotient, FitsOn};
 ghost use Rattle.compare.specs.Told.{BothRead};
@@ -10,15 +10,15 @@ use compare::fits;
 use fitting::Fitting;
 use format::Reading;
 use format::Starts;
-use table::Section;
+use view::Section;
 
 // The answer for two tables that were read.
 fn fit_both(first: &[u8], one: Starts, second: &[u8], two: Starts) -> Fitting
     requires { ⌜ BothRead (now first) one (now second) two ⌝ }
     ensures { λ r. ⌜ r ≡ fitOf (now (first .entry)) (now (second .entry)) ⌝ }
 {
-    let symbols = table::part(first, one, Section::Symbols);
-    if !check::same(symbols, table::part(second, two, Section::Symbols)) {
+    let symbols = view::part(first, one, Section::Symbols);
+    if !check::same(symbols, view::part(second, two, Section::Symbols)) {
         return Fitting::Refused(37);
     }
     if !no_choice(second, two) {

@@ -12,15 +12,16 @@ use Rattle.lists.specs.Lists.{all}
 use Rattle.lists.proofs.Members.{and-true, and-of}
 use Rattle.format.specs.File.{bytesOf}
 use Rattle.format.proofs.Bytes.{Bytes}
-use Rattle.table.specs.Keys.{key}
+use Rattle.keyed.specs.Keys.{key}
 use Rattle.quotients.specs.Quotient.{QuotientDone}
 use Rattle.quotients.specs.declared.Written.the-variants.{Refused}
 use Rattle.writing.specs.Keys.{keysOf, recordOf, Holds}
 use Rattle.writing.specs.Tables.{keyedTable, writtenFor}
 use Rattle.writing.proofs.Keys.{Same, keys-back}
 use Rattle.loads.specs.Loads.{Load, symbolBytes, stateBytes, possible, present, possibleInternals, possibleCalls, possibleReturns, seedCalls, seedReturns, described, describedBytes, recordsFew}
-use Rattle.generate.specs.Sections.{Counts, Draws, FewKeys, drawnFor}
-use Rattle.generate.specs.declared.draws.Drawn.{Drawn}
+use Rattle.draws.specs.Draws.{Draws}
+use Rattle.draws.specs.declared.Drawn.{Drawn}
+use Rattle.generate.specs.Sections.{Counts, FewKeys, drawnFor}
 use Rattle.loads.proofs.Tuples.{Possible, possible-of}
 use Rattle.loads.proofs.Present.{present-mem}
 

@@ -1,5 +1,2 @@
-pub mod Drawing
-pub mod Places
-pub mod Steps
-pub mod Writing
 pub mod Keyed
+pub mod Writing

@@ -1,41 +1,14 @@
 -- What the functions of src/ are stated with. Assumes nothing.
-use mathlib.Core.Path.{_≡_}
-use mathlib.Core.Logic.{_⊎_}
 use mathlib.Core.Bool.{true, false}
-use mathlib.Core.List.{List, []}
-use Prim.Native.Nat.{ℕ, _+_, _-_, _≤_}
-use lib.ListN.{length, getD, replicate}
-use lib.Dec.{leb}
-use Rattle.lists.specs.Lists.{upto}
+use mathlib.Core.List.{List}
+use Prim.Native.Nat.{ℕ, _≤_}
+use lib.ListN.{length}
 use Rattle.limits.specs.Limits.{stateMost, symbolMost}
 use Rattle.format.specs.Limits.{moveLimit, returnLimit}
-use Rattle.table.specs.Keys.{key}
 use Rattle.quotients.specs.Quotient.{QuotientDone}
 use Rattle.quotients.specs.declared.Written.the-variants.{Refused}
-use Rattle.writing.specs.Keys.{keysOf, Holds}
 use Rattle.writing.specs.Tables.{writtenFor}
-use Rattle.loads.specs.Loads.{Load, tuples, present, after, recordsFew, described, describedBytes}
-use Rattle.generate.specs.declared.draws.Drawn.{Drawn}
-
--- records of 3 or 4 bytes over so many states, with symbols from `from` on
-pub record Shape (w n from k : ℕ) : Type 0 where
-  pub width : (w ≡ 3) ⊎ (w ≡ 4)
-  pub states : n ≤ stateMost
-  pub symbols : from + k ≤ symbolMost
-
--- how many records of a width there are to a state and a symbol
-unfoldable pub tails : ℕ → ℕ → ℕ
-tails w n = length (tuples (replicate (w - 2) (upto n)))
-
--- the key of record i
-unfoldable pub recordAt : List (List ℕ) → ℕ → ℕ
-recordAt rs i = key (getD rs i [])
-
--- what the draws for records give, from s on, with room for so many
-pub record Draws (density s : ℕ) (rs : List (List ℕ)) (room : ℕ) (r : Drawn) (keys : List ℕ) : Type 0 where
-  pub fits : r .fits ≡ leb (length (present density s rs)) room
-  pub holds : r .fits ≡ true → Holds keys (r .count) (keysOf (present density s rs))
-  pub last : r .fits ≡ true → r .s ≡ after s rs
+use Rattle.loads.specs.Loads.{Load, recordsFew, described, describedBytes}
 
 -- counts within the largest limits
 pub record Counts (states symbols : ℕ) : Type 0 where

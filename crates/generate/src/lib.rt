@@ -5,13 +5,12 @@ ghost use Rattle.limits.specs.Limits.{standard};
 ghost use Rattle.loads.specs.Loads.{loadOf, sizesFit, generateOf, GenerateSays};
 ghost use Rattle.loads.specs.Demands.{Promises};
 ghost use Rattle.generate.specs.Sections.{Counts, drawnFor};
+use draws::collect;
 use limits::Limits;
 use quotients::Written;
 
-mod draws;
 mod write;
 
-use draws::collect;
 use write::write_keys;
 
 // 35: the counts and the density are within their limits, the counts added without wrapping.

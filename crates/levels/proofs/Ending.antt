@@ -10,7 +10,7 @@ use Rattle.lists.specs.Bits.{has, hasBit}
 use Rattle.lists.proofs.Upto.{Counting, counting, any-passed, any-found, any-done}
 use Rattle.limits.specs.Limits.{stateMost}
 use Rattle.format.specs.Reading.{isAccepting}
-use Rattle.table.specs.Sections.{sectioned}
+use Rattle.view.specs.Sections.{sectioned}
 use Rattle.scripts.specs.Script.{Level, ended}
 
 -- state q accepts and is reached on the empty stack

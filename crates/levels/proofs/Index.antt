@@ -16,7 +16,7 @@ use Rattle.format.specs.File.{records}
 use Rattle.format.specs.Reading.{before}
 use Rattle.format.proofs.Bytes.{records-wide, length-records}
 use Rattle.format.proofs.Order.{first-cases, ascend-before}
-use Rattle.table.proofs.Spanning.{record-inside}
+use Rattle.keyed.proofs.Spanning.{record-inside}
 use Rattle.tops.proofs.Loops.{record-byte}
 use Rattle.levels.specs.Levels.{Lent, placeOf, placeMost, Begins, Indexed, Filled}
 

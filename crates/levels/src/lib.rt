@@ -6,7 +6,7 @@ ghost use lib.ListN.{length};
 ghost use lib.Seq.{slice};
 ghost use Rattle.lists.specs.Bits.{hasBit};
 ghost use Rattle.format.specs.File.{records};
-ghost use Rattle.table.specs.Sections.{sectioned};
+ghost use Rattle.view.specs.Sections.{sectioned};
 ghost use Rattle.scripts.specs.Script.{gain, moved, returned, ended};
 ghost use Rattle.levels.specs.Levels.{Lent, Indexed, Filled, allGain, popped};
 

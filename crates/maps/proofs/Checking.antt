@@ -17,9 +17,9 @@ use Rattle.format.specs.declared.Starts.{Starts}
 use Rattle.format.proofs.Passed.{formed-tested}
 use Rattle.format.proofs.Bytes.{read-well-formed}
 use Rattle.format.proofs.Facts.{most-states}
-use Rattle.table.specs.Sections.{partOf}
-use Rattle.table.specs.declared.view.Section.the-variants.{States, Internals, Calls, Returns}
-use Rattle.table.proofs.Parts.{states-read, internals-read, calls-read, returns-read}
+use Rattle.view.specs.Sections.{partOf}
+use Rattle.view.specs.declared.Section.the-variants.{States, Internals, Calls, Returns}
+use Rattle.view.proofs.Parts.{states-read, internals-read, calls-read, returns-read}
 use Rattle.tops.specs.declared.Examined.{Examined}
 use Rattle.tops.specs.Sections.{examinedOf}
 use Rattle.relations.specs.Check.{looksAgree, movesMatched, returnsMatched, mapTests, checkNumber}

@@ -10,7 +10,7 @@ use Rattle.format.specs.File.{records, tableOf, ofStates}
 use Rattle.format.specs.Reading.{Readable}
 use Rattle.format.specs.Maps.{numbered}
 use Rattle.format.specs.declared.Starts.{Starts}
-use Rattle.table.specs.Sections.{ReadAs}
+use Rattle.view.specs.Sections.{ReadAs}
 use Rattle.reach.specs.Tops.{topWords}
 use Rattle.matching.specs.Matching.{recordsMatched, Lent}
 use Rattle.relations.specs.Check.{looksAgree}

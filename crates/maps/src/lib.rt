@@ -13,7 +13,7 @@ use matching::records_matched;
 use numbering::class_count;
 use numbering::numbered;
 use relations::Checked;
-use table::Section;
+use view::Section;
 
 // The first of 15 to 20 that applies, over the parts of a table; or 0.
 fn tests_number(
@@ -54,10 +54,10 @@ pub fn map_number(table: &[u8], starts: Starts, words: &[u64], map: &[u8]) -> u8
     ensures { λ r. ⌜ r ≡ firstFailed (mapTests (tableOf (now (table .entry))) (now (map .entry))) ⌝ }
 {
     tests_number(
-        table::part(table, starts, Section::States),
-        table::part(table, starts, Section::Internals),
-        table::part(table, starts, Section::Calls),
-        table::part(table, starts, Section::Returns),
+        view::part(table, starts, Section::States),
+        view::part(table, starts, Section::Internals),
+        view::part(table, starts, Section::Calls),
+        view::part(table, starts, Section::Returns),
         words,
         map,
     )

@@ -10,8 +10,8 @@ use Rattle.lists.specs.Lists.{any, keep}
 use Rattle.format.specs.File.{records}
 use Rattle.format.specs.Language.{targets}
 use Rattle.format.specs.Maps.{joins}
-use Rattle.table.specs.Spans.{startsWith}
-use Rattle.table.proofs.Walks.{Still, records-missed, records-met, records-none-met}
+use Rattle.keyed.specs.Spans.{startsWith}
+use Rattle.keyed.proofs.Walks.{Still, records-missed, records-met, records-none-met}
 
 any-map : (f : ℕ → Bool) (g : List ℕ → ℕ) (rs : List (List ℕ)) → any f (map g rs) ≡ any (λ r. f (g r)) rs
 unfolding any

@@ -1,8 +1,7 @@
 // Whether a map's relation meets the conditions (i) to (iv) of Definition 1.
 ghost use mathlib.Core.Path.{_≡_};
 ghost use mathlib.Core.Bool.{true};
-ghost use mathlib.Core.List.{List};
-ghost use Prim.Native.Nat.{ℕ, _<_, _≤_};
+ghost use Prim.Native.Nat.{_<_, _≤_};
 ghost use lib.ListN.{length, getD};
 ghost use lib.Dec.{eqb};
 ghost use Rattle.lists.specs.Lists.{any};
@@ -11,7 +10,7 @@ ghost use Rattle.format.specs.File.{records, ofStates};
 ghost use Rattle.format.specs.Reading.{ascend};
 ghost use Rattle.format.specs.Language.{targets};
 ghost use Rattle.format.specs.Maps.{classOf, joins};
-ghost use Rattle.table.specs.Keys.{Keyed};
+ghost use Rattle.keyed.specs.Keys.{ByKey};
 ghost use Rattle.relations.specs.Check.{looksAgree, returnMatched};
 ghost use Rattle.matching.specs.Matching.{agreesAt, kept, returnMet, recordMatched, recordMet, recordsMatched, Lent};
 use numbering::class_of;
@@ -89,9 +88,9 @@ pub fn looks_agree(states: &[u8], map: &[u8]) -> bool
 // Some record that starts with a key, by its number, goes to a target joined to this one.
 fn reaches(section: &[u8], width: usize, wanted: u32, map: &[u8], target: usize) -> bool
     requires { ⌜ (3 ≤ width) × (ascend (records width (now section)) ≡ true) ⌝ }
-    ensures { λ r. ⌜ ((k : List ℕ) → Keyed width k wanted → r ≡ any (joins (now (map .entry)) target) (targets (records width (now (section .entry))) k)) ⌝ }
+    ensures { λ r. ⌜ ByKey width wanted r (λ k. any (joins (now (map .entry)) target) (targets (records width (now (section .entry))) k)) ⌝ }
 {
-    let found = table::starting(section, width, wanted);
+    let found = keyed::starting(section, width, wanted);
     let mut at: usize = 0;
     'records: while width <= found.len() - at {
         let next = at + width;
@@ -126,7 +125,7 @@ fn return_matched(
     if !has_top(words, q, u) {
         return true;
     }
-    let wanted = table::return_key(q as u8, fields[1], u as u8);
+    let wanted = keyed::return_key(q as u8, fields[1], u as u8);
     reaches(section, 4, wanted, map, wide(fields[3]))
 }
 
@@ -161,7 +160,7 @@ fn record_matched(
     ensures { λ r. ⌜ r ≡ recordMatched width (now (words .entry)) (records width (now (section .entry))) (length (now (map .entry))) (now (map .entry)) (now (fields .entry)) q ⌝ }
 {
     if width == 3 {
-        let wanted = table::move_key(q as u8, fields[1]);
+        let wanted = keyed::move_key(q as u8, fields[1]);
         return reaches(section, width, wanted, map, wide(fields[2]));
     }
     return_met(section, words, map, fields, q)

@@ -21,18 +21,18 @@ use Rattle.format.specs.Maps.{classes}
 use Rattle.format.specs.declared.Starts.{Starts}
 use Rattle.format.proofs.Passed.{read-passed, formed-tested}
 use Rattle.format.proofs.Bytes.{Bytes, records-wide, read-well-formed}
-use Rattle.table.specs.Sections.{partOf}
-use Rattle.table.specs.declared.view.Section.{Section}
-use Rattle.table.specs.declared.view.Section.the-variants.{Symbols, States, Internals, Calls, Returns}
-use Rattle.table.proofs.Parts.{symbols-read, states-read, internals-read, calls-read, returns-read}
+use Rattle.view.specs.Sections.{partOf}
+use Rattle.view.specs.declared.Section.{Section}
+use Rattle.view.specs.declared.Section.the-variants.{Symbols, States, Internals, Calls, Returns}
+use Rattle.view.proofs.Parts.{symbols-read, states-read, internals-read, calls-read, returns-read}
 use Rattle.reach.specs.Tops.{live, liveReturns}
 use Rattle.relations.specs.Check.{checkNumber}
 use Rattle.maps.specs.Sections.{Known}
 use Rattle.matching.specs.Matching.{kept}
 use Rattle.matching.proofs.Matched.{move-kept, return-kept}
 use Rattle.quotients.specs.Quotient.{image, images, memberHas, classMark, classByte, quotientTable, quotientBytes, quotientNumber, quotientOf}
-use Rattle.table.specs.Keys.{key}
-use Rattle.table.proofs.Keys.{part-bytes}
+use Rattle.keyed.specs.Keys.{key}
+use Rattle.keyed.proofs.Keys.{part-bytes}
 use Rattle.quotients.specs.declared.Written.the-variants.{Length, Refused}
 use Rattle.quotients.proofs.Image.{images-mem, images-length, image-length}
 use Rattle.writing.specs.Keys.{recordOf, Holds}

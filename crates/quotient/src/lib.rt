@@ -13,7 +13,7 @@ use limits::Limits;
 use members::put_states;
 use numbering::class_count;
 use quotients::Written;
-use table::Section;
+use view::Section;
 use writing::put_table;
 
 // The quotient over the version and the parts of a table: its length is known before anything is written.
@@ -67,11 +67,11 @@ fn write_read(table: &[u8], starts: Starts, words: &[u64], map: &[u8], out: &mut
 {
     write_parts(
         table::version_of(table),
-        table::part(table, starts, Section::Symbols),
-        table::part(table, starts, Section::States),
-        table::part(table, starts, Section::Internals),
-        table::part(table, starts, Section::Calls),
-        table::part(table, starts, Section::Returns),
+        view::part(table, starts, Section::Symbols),
+        view::part(table, starts, Section::States),
+        view::part(table, starts, Section::Internals),
+        view::part(table, starts, Section::Calls),
+        view::part(table, starts, Section::Returns),
         words,
         map,
         out,

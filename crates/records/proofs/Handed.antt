@@ -20,9 +20,9 @@ use Rattle.format.specs.declared.Starts.{Starts}
 use Rattle.format.proofs.Bytes.{records-wide, read-well-formed}
 use Rattle.format.proofs.Passed.{formed-tested}
 use Rattle.format.proofs.Facts.{Fit, internals-fit, calls-fit, returns-fit, most-states}
-use Rattle.table.specs.Sections.{partOf}
-use Rattle.table.specs.declared.view.Section.the-variants.{Internals, Calls, Returns}
-use Rattle.table.proofs.Parts.{internals-read, calls-read, returns-read}
+use Rattle.view.specs.Sections.{partOf}
+use Rattle.view.specs.declared.Section.the-variants.{Internals, Calls, Returns}
+use Rattle.view.proofs.Parts.{internals-read, calls-read, returns-read}
 use Rattle.reach.specs.Tops.{live}
 use Rattle.relations.specs.Check.{mapTests, checkNumber}
 use Rattle.relations.proofs.Accepted.{accepted}

@@ -15,7 +15,7 @@ use format::Starts;
 use limits::Limits;
 use marks::count_of;
 use marks::mark_section;
-use table::Section;
+use view::Section;
 
 // The marks of the parts' records, one section behind the other.
 fn mark_parts(
@@ -73,9 +73,9 @@ fn tell_read(table: &[u8], starts: Starts, words: &[u64], map: &[u8], out: &mut 
     ensures { λ r. ⌜ record { answer = r; out = now (out .exit) } ≡ toldFor (fatesOf (tableOf (now (table .entry))) (now (map .entry))) (now (out .entry)) ⌝ }
 {
     tell_parts(
-        table::part(table, starts, Section::Internals),
-        table::part(table, starts, Section::Calls),
-        table::part(table, starts, Section::Returns),
+        view::part(table, starts, Section::Internals),
+        view::part(table, starts, Section::Calls),
+        view::part(table, starts, Section::Returns),
         words,
         map,
         out,

@@ -14,7 +14,7 @@ use Rattle.format.specs.File.{records}
 use Rattle.format.specs.Reading.{before, ascendFrom, ascend}
 use Rattle.format.proofs.Order.{before-transitive, ascend-rest}
 use Rattle.format.proofs.Bytes.{records-wide}
-use Rattle.table.specs.Spans.{startsWith}
+use Rattle.keyed.specs.Spans.{startsWith}
 
 -- numbers that ascend from m on
 data Rising : ℕ → List ℕ → Type 0 where

@@ -14,14 +14,14 @@ use Rattle.limits.specs.Limits.{stateMost}
 use Rattle.pairs.specs.Triangles.{apart}
 use Rattle.format.specs.File.{records}
 use Rattle.format.specs.Language.{targets}
-use Rattle.table.specs.Spans.{startsWith}
+use Rattle.keyed.specs.Spans.{startsWith}
 use Rattle.tops.proofs.Loops.{record-byte}
 use Rattle.encoding.specs.Clauses.{premise, moveClause}
 use Rattle.emit.specs.declared.literals.Literals.{Literals}
 use Rattle.emit.specs.Emit.{literalsOf, withAll, Holds, matchingFrom, lastBytes, State, emit}
 use Rattle.recordwise.specs.Sorted.{Sorted}
 use Rattle.emit.proofs.Tidying.{matching-one}
-use Rattle.emit.proofs.Targeting.{with-length}
+use Rattle.targets.proofs.Targeting.{with-length}
 use Rattle.emit.proofs.Stepping.{Along, along-on}
 use Rattle.recordwise.proofs.Few.{few-targets}
 

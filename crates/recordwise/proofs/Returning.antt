@@ -18,7 +18,7 @@ use Rattle.lists.proofs.Lowest.{LowestBit, trailing-lowest, keep-none, keep-low
 use Rattle.limits.specs.Limits.{stateMost}
 use Rattle.format.specs.File.{records}
 use Rattle.format.specs.Language.{targets}
-use Rattle.table.specs.Spans.{startsWith}
+use Rattle.keyed.specs.Spans.{startsWith}
 use Rattle.reach.specs.Tops.{live}
 use Rattle.tops.proofs.Loops.{record-byte}
 use Rattle.encoding.specs.Clauses.{premise, returnClause, topStates}

@@ -6,11 +6,11 @@ ghost use Rattle.encoding.specs.Clauses.{moveClause, moveClauses};
 ghost use Rattle.emit.specs.Emit.{state, Ordered, emit};
 ghost use Rattle.recordwise.specs.Sorted.{Sorted};
 use emit::Tally;
-use emit::matched;
 use emit::no_literals;
-use emit::with_premise;
-use table::move_key;
-use table::starting;
+use keyed::move_key;
+use keyed::starting;
+use targets::matched;
+use targets::with_premise;
 
 // The clause of a record (p, a, p') and a state q.
 fn move_clause(

@@ -10,11 +10,11 @@ ghost use Rattle.encoding.specs.Clauses.{topStates};
 ghost use Rattle.emit.specs.Emit.{state, Ordered, emit};
 ghost use Rattle.recordwise.specs.Sorted.{Sorted, returnOf, liveRecord, returnClausesBy};
 use emit::Tally;
-use emit::matched;
 use emit::no_literals;
-use emit::with_premise;
-use table::return_key;
-use table::starting;
+use keyed::return_key;
+use keyed::starting;
+use targets::matched;
+use targets::with_premise;
 use words::later_states;
 use words::next_state;
 

@@ -30,9 +30,9 @@ use Rattle.format.specs.Maps.{classes}
 use Rattle.format.specs.declared.Starts.{Starts}
 use Rattle.format.proofs.Bytes.{read-well-formed}
 use Rattle.format.proofs.Facts.{most-states}
-use Rattle.table.specs.Sections.{ReadAs, partOf}
-use Rattle.table.specs.declared.view.Section.the-variants.{States}
-use Rattle.table.proofs.Parts.{states-read}
+use Rattle.view.specs.Sections.{ReadAs, partOf}
+use Rattle.view.specs.declared.Section.the-variants.{States}
+use Rattle.view.proofs.Parts.{states-read}
 use Rattle.maps.specs.Sections.{Known}
 use Rattle.encoding.specs.Clauses.{clauseList, shortList, shortWords, ClausesDone}
 use Rattle.encoding.specs.Maps.{mapOf}

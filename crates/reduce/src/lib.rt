@@ -4,6 +4,7 @@ ghost use Prim.Native.Nat.{_≤_};
 ghost use lib.ListN.{length};
 ghost use Rattle.limits.specs.Limits.{standard};
 ghost use Rattle.format.specs.File.{tableOf};
+ghost use Rattle.format.specs.Reading.{Readable};
 ghost use Rattle.format.specs.Language.{count};
 ghost use Rattle.maps.specs.Sections.{Known, WhereReadable};
 ghost use Rattle.encoding.specs.Clauses.{shortWords};
@@ -12,13 +13,14 @@ ghost use Rattle.reductions.specs.Reduce.{Reduced, triedOfTable, deliver, after
 ghost use Rattle.reductions.specs.Demands.{Promises};
 ghost use Rattle.reduce.specs.Held.{MadeBy, HeldFor, ListWritten};
 use encoding::Listed;
+use format::Reading;
 use format::Starts;
 use joining::map_of;
 use limits::Limits;
 use quotients::Written;
 use reductions::Reduction;
-use table::Section;
 use turns::Ending;
+use view::Section;
 
 // The end of a search as its guesses, and whether none exists or the budget is spent.
 struct Made {
@@ -178,7 +180,7 @@ pub fn reduce_within(
     }
     let starts = examined.starts;
     let words = examined.words;
-    let states = table::part(table, starts, Section::States);
+    let states = view::part(table, starts, Section::States);
     let n = states.len();
     if map.len() < n {
         return Reduction::Refused(22);
@@ -201,4 +203,19 @@ pub fn reduce(
     ensures promises { λ r. ⌜ Promises standard (now (table .entry)) budget r (now (map .exit)) (now (out .exit)) ⌝ }
 {
     reduce_within(limits::standard(), table, budget, list, map, out)
+}
+
+// How many states a table has that is readable at the limits; 0 where it is not.
+pub fn state_count(limits: Limits, table: &[u8]) -> usize
+    ensures few { λ r. ⌜ r ≤ 40 ⌝ }
+    ensures states { λ r. ⌜ (Readable limits (now (table .entry)) → r ≡ count (tableOf (now (table .entry)))) ⌝ }
+{
+    let reading = table::read_within(limits, table);
+    match reading {
+        Reading::Sections(starts) => {
+            let states = view::part(table, starts, Section::States);
+            states.len()
+        }
+        Reading::Refused(_) => 0,
+    }
 }

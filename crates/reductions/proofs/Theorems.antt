@@ -27,10 +27,11 @@ use Rattle.encoding.specs.Maps.{mapOf}
 use Rattle.encoding.proofs.Formed.{list-horn}
 use Rattle.encoding.proofs.Theorems.{map-proper, none-coarser}
 use Rattle.quotients.specs.Quotient.{quotientBytes, quotientNumber}
+use Rattle.scripts.specs.Script.{yesValue}
 use Rattle.scripts.specs.Demands.{SameScripts}
 use Rattle.quotients.specs.Demands.{IsQuotient, ShowsSteps}
 use Rattle.quotients.proofs.Theorems.{is-quotient, keeps-words, keeps-marks, open-neither, keeps-steps, keeps-scripts}
-use Rattle.reductions.specs.Reduce.{Reduced, beforeSearch, searchOfTable, joinedPairs, deliver, triedOfTable, afterSearch, reduceOf, reductionNumber, spentValue, reductionValues, reduceNumber, ReduceSays}
+use Rattle.reductions.specs.Reduce.{Reduced, beforeSearch, searchOfTable, joinedPairs, deliver, triedOfTable, afterSearch, reduceOf, reductionNumber, reductionValues, reduceNumber, ReduceSays}
 use Rattle.reductions.specs.Demands.{OnDelivery, KeepsWords, DeliversQuotient, DeliversChecked, DeliversMaximal, FewGuesses, DeliversCeiling, SameSearch, SpentSaid, DeliversNoneOpen, DeliversSteps, KeepsMarks, KeepsScripts, Promises, mapWritten}
 use Rattle.reductions.specs.declared.Reduction.{Reduction}
 use Rattle.reductions.specs.declared.Reduction.the-variants.{Delivered, Refused}
@@ -209,7 +210,7 @@ module _ (L : Limits) (b : List ℕ) (budget : ℕ) (list map out : List ℕ) wh
   -- the number and the values of a delivery, or of a refusal behind the search
   delivery-says : (m : List ℕ) (g u : ℕ) (z : Bool) → let r = deliver L b list map out m g u z .answer in
       Says (reductionNumber r) (reductionValues r) (quotientNumber L b m out)
-      (classes m ∷ g ∷ length (shortWords (tableOf b)) ∷ length (quotientBytes b m) ∷ joinedPairs (count (tableOf b)) m ∷ u ∷ spentValue z ∷ [])
+      (classes m ∷ g ∷ length (shortWords (tableOf b)) ∷ length (quotientBytes b m) ∷ joinedPairs (count (tableOf b)) m ∷ u ∷ yesValue z ∷ [])
   unfolding deliver reductionNumber reductionValues
   delivery-says m g u z = says (quotientNumber L b m out) _ _ (λ (d : Reduced). reductionNumber (d .answer)) (λ (d : Reduced). reductionValues (d .answer)) refl refl refl refl
 

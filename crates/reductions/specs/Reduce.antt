@@ -6,6 +6,7 @@ use Prim.Native.Nat.{ℕ}
 use lib.ListN.{length}
 use lib.Dec.{eqb, leb}
 use Rattle.lists.specs.Lists.{keep, gather, upto, over, firstFailed, stage, Says}
+use Rattle.scripts.specs.Script.{yesValue}
 use Rattle.cnf.specs.Search.{Outcome, searchFrom, madeOf, isSpent}
 use Rattle.cnf.specs.Trials.{ceilingOf, Tried, searchTried}
 use Rattle.limits.specs.declared.Limits.{Limits}
@@ -87,13 +88,8 @@ unfoldable pub reductionNumber : Reduction → ℕ
 reductionNumber (Delivered c g w l j u s) = 0
 reductionNumber (Refused k) = k
 
--- spent as a value
-abbrev pub spentValue : Bool → ℕ
-spentValue true = 1
-spentValue false = 0
-
 unfoldable pub reductionValues : Reduction → List ℕ
-reductionValues (Delivered c g w l j u s) = c ∷ g ∷ w ∷ l ∷ j ∷ u ∷ spentValue s ∷ []
+reductionValues (Delivered c g w l j u s) = c ∷ g ∷ w ∷ l ∷ j ∷ u ∷ yesValue s ∷ []
 reductionValues (Refused k) = []
 
 -- 39, 1 to 8, 22, 10, then those of the quotient under the map of the trial that is held, of which only 21 comes out (proofs/Ways); or 0
@@ -106,4 +102,4 @@ ReduceSays L b budget list map out r =
     let e = triedOfTable b budget in
     let m = mapOf (e .trials .held) (count (tableOf b)) in
     Says (reductionNumber r) (reductionValues r) (reduceNumber L b budget list map out)
-    (classes m ∷ madeOf (e .outcome) ∷ length (shortWords (tableOf b)) ∷ length (quotientBytes b m) ∷ joinedPairs (count (tableOf b)) m ∷ ceilingOf (e .trials .ceiling) ∷ spentValue (isSpent (e .outcome)) ∷ [])
+    (classes m ∷ madeOf (e .outcome) ∷ length (shortWords (tableOf b)) ∷ length (quotientBytes b m) ∷ joinedPairs (count (tableOf b)) m ∷ ceilingOf (e .trials .ceiling) ∷ yesValue (isSpent (e .outcome)) ∷ [])

@@ -15,7 +15,7 @@ use Rattle.lists.specs.Bits.{has}
 use Rattle.lists.proofs.Counts.{gather-append}
 use Rattle.format.specs.File.{records}
 use Rattle.format.proofs.Facts.{three-bytes, four-bytes}
-use Rattle.table.proofs.Walks.{records-cons, records-end}
+use Rattle.keyed.proofs.Walks.{records-cons, records-end}
 use Rattle.reach.specs.Tops.{add, byInternals, byCalls, byReturns, live}
 use Rattle.reach.proofs.Walks.{length-add}
 use Rattle.tops.proofs.Loops.{record-byte}

@@ -1,7 +1,7 @@
 -- The tops of up to 600 pairs as rows of ten 64-bit words, as the code has them. Assumes nothing.
 use mathlib.Core.Logic.{_↔_, _≢_}
 use mathlib.Core.Path.{_≡_}
-use mathlib.Core.Bool.{Bool, true, false}
+use mathlib.Core.Bool.{Bool, true, false, not}
 use mathlib.Core.List.{List, [], _∷_, map, List·Memᴰ}
 use Prim.Native.Nat.{ℕ, zero, suc, _+_, _*_, _/_, _%_, _^_, _<_, _≤_}
 use lib.ListN.{length, getD, set}
@@ -23,6 +23,24 @@ pub record Holds (f F : List ℕ) : Type 0 where
   pub small : (i : ℕ) → getD f i 0 < 2 ^ 64
   pub narrow : (u x : ℕ) → Bit (getD F u 0) x → x < 640
   pub bits : (u x : ℕ) → u < 600 → x < 640 → Bit (getD f (u * 10 + x / 64) 0) (x % 64) ↔ Bit (getD F u 0) x
+
+-- ---- one row, whatever words the rows hold
+
+-- r tells bit x of row u
+abbrev pub HasBit : List ℕ → ℕ → ℕ → Bool → Type 0
+HasBit f u x r = (F : List ℕ) → Holds f F → r ≡ has F u x
+
+-- r tells whether row u has some bit
+abbrev pub HasAny : List ℕ → ℕ → Bool → Type 0
+HasAny f u r = (F : List ℕ) → Holds f F → r ≡ not (eqb (getD F u 0) 0)
+
+-- row u gains bit x
+abbrev pub GainsBit : ℕ → ℕ → List ℕ → List ℕ → Type 0
+GainsBit u x f g = (F : List ℕ) → Holds f F → u < length F → Holds g (add F u (2 ^ x))
+
+-- row v gains row u
+abbrev pub GainsRow : ℕ → ℕ → List ℕ → List ℕ → Type 0
+GainsRow u v f g = (F : List ℕ) → Holds f F → u < length F → v < length F → Holds g (add F v (getD F u 0))
 
 -- the first k words of row v gain those of row u
 unfoldable pub joined : ℕ → ℕ → ℕ → List ℕ → List ℕ
@@ -57,6 +75,13 @@ stepReturn u y v f = elim (has f u y) [ true ↦ add f v (getD f y 0) | false �
 pub record Turns (k n : ℕ) (f g : List ℕ) (T : List ℕ → List ℕ) : Type 0 where
   pub holds : (F : List ℕ) → Holds f F → length F ≡ k * suc n → Holds g (T F)
   pub long : (F : List ℕ) → length (T F) ≡ length F
+
+-- rows turn as a move from u to v says, and as a return from u over y to v
+abbrev pub MoveTurn : Kind → ℕ → ℕ → List ℕ → List ℕ → Type 0
+MoveTurn kind u v f g = (k n : ℕ) → u < k * suc n → v < k * suc n → Turns k n f g (stepKind kind u v)
+
+abbrev pub ReturnTurn : ℕ → ℕ → ℕ → List ℕ → List ℕ → Type 0
+ReturnTurn u y v f g = (k n : ℕ) → u < k * suc n → y < k * suc n → v < k * suc n → Turns k n f g (stepReturn u y v)
 
 -- records of w bytes that name states below k and symbols below 32
 pub record Named (w k : ℕ) (s : List ℕ) : Type 0 where

@@ -1,11 +1,10 @@
 // One round over the records of the first table: each with every state of the second, or with the number past them where it has no move.
 ghost use mathlib.Core.Path.{_≡_};
 ghost use mathlib.Core.List.{[], _∷_, map};
-ghost use Prim.Native.Nat.{ℕ, suc, _*_, _<_, _≤_};
+ghost use Prim.Native.Nat.{suc, _<_, _≤_};
 ghost use Rattle.lists.specs.Lists.{upto};
-ghost use Rattle.format.specs.File.{records};
 ghost use Rattle.fitting.specs.Fit.{pairReturn};
-ghost use Rattle.rounds.specs.Rows.{stepKind, stepReturn, Turns, Named, Nexts, MoveTurns, MovesTurn, overEach, ReturnTurns, ReturnsTurn};
+ghost use Rattle.rounds.specs.Rows.{MoveTurn, ReturnTurn, Named, Nexts, MoveTurns, MovesTurn, overEach, ReturnTurns, ReturnsTurn};
 use super::rows::any;
 use super::rows::held;
 use super::rows::join;
@@ -26,7 +25,7 @@ pub fn wide(x: u8) -> usize
 // By an internal from u to v the tops of u are tops of v; by a call u is one, if u has a top.
 fn move_pair(kind: Kind, u: usize, v: usize, rows: &mut [u64; 6000])
     requires { ⌜ (u < 600) × (v < 600) ⌝ }
-    ensures { λ _. ⌜ ((k n : ℕ) → u < k * suc n → v < k * suc n → Turns k n (now (rows .entry)) (now (rows .exit)) (stepKind kind u v)) ⌝ }
+    ensures { λ _. ⌜ MoveTurn kind u v (now (rows .entry)) (now (rows .exit)) ⌝ }
 {
     match kind {
         Kind::Internal => {
@@ -80,7 +79,7 @@ pub fn by_moves(kind: Kind, section: &[u8], next: &[u8; 800], n: usize, rows: &m
 // By a return from u to v that pops y the tops of y are tops of v, if y is a top of u.
 fn return_pair(u: usize, y: usize, v: usize, rows: &mut [u64; 6000])
     requires { ⌜ (u < 600) × (y < 600) × (v < 600) ⌝ }
-    ensures { λ _. ⌜ ((k n : ℕ) → u < k * suc n → y < k * suc n → v < k * suc n → Turns k n (now (rows .entry)) (now (rows .exit)) (stepReturn u y v)) ⌝ }
+    ensures { λ _. ⌜ ReturnTurn u y v (now (rows .entry)) (now (rows .exit)) ⌝ }
 {
     if held(rows, u, y) {
         join(rows, y, v);

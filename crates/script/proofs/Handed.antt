@@ -19,9 +19,9 @@ use Rattle.format.specs.declared.Starts.{Starts}
 use Rattle.format.proofs.Bytes.{read-well-formed}
 use Rattle.format.proofs.Passed.{formed-tested}
 use Rattle.format.proofs.Facts.{Fit, internals-fit, calls-fit, returns-fit, most-states}
-use Rattle.table.specs.Sections.{sectioned, partOf, HasRead}
-use Rattle.table.specs.declared.view.Section.the-variants.{Symbols, States, Internals, Calls, Returns}
-use Rattle.table.proofs.Parts.{symbols-read, states-read, internals-read, calls-read, returns-read}
+use Rattle.view.specs.Sections.{sectioned, partOf, HasRead}
+use Rattle.view.specs.declared.Section.the-variants.{Symbols, States, Internals, Calls, Returns}
+use Rattle.view.proofs.Parts.{symbols-read, states-read, internals-read, calls-read, returns-read}
 use Rattle.reach.specs.Tops.{startWords}
 use Rattle.scripts.specs.Script.{Levels, behind, ended, reads, started, scriptTests}
 use Rattle.script.specs.Sections.{Sections, Fits, sectionsRead}

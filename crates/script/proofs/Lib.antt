@@ -1,3 +1,2 @@
-pub mod Depths
 pub mod Walking
 pub mod Handed

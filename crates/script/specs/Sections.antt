@@ -5,7 +5,7 @@ use mathlib.Core.List.{List}
 use Prim.Native.Nat.{ℕ, _≤_}
 use lib.ListN.{length, getD}
 use Rattle.limits.specs.Limits.{stateMost}
-use Rattle.table.specs.Sections.{sectioned}
+use Rattle.view.specs.Sections.{sectioned}
 use Rattle.levels.specs.Levels.{Lent}
 use Rattle.scripts.specs.Script.{reads, started, symbolsFit, tooDeep}
 

@@ -1,15 +1,15 @@
 // Reading a script: by levels, which say what is reached on the empty stack and behind each open call.
 ghost use mathlib.Core.Path.{_≡_};
-ghost use mathlib.Core.Bool.{true};
-ghost use Prim.Native.Nat.{_≤_, _<_};
-ghost use lib.ListN.{length, getD};
+ghost use Prim.Native.Nat.{_≤_};
+ghost use lib.ListN.{length};
 ghost use Rattle.lists.specs.Lists.{firstFailed};
 ghost use Rattle.limits.specs.Limits.{standard};
 ghost use Rattle.format.specs.File.{tableOf};
-ghost use Rattle.table.specs.Sections.{HasRead};
-ghost use Rattle.scripts.specs.Script.{symbolsFit, tooDeep, scriptTests, answerBy, scriptOf, ScriptSays};
+ghost use Rattle.view.specs.Sections.{HasRead};
+ghost use Rattle.scripts.specs.Script.{scriptTests, answerBy, scriptOf, ScriptSays};
 ghost use Rattle.script.specs.Sections.{Sections, Fits, sectionsRead};
 ghost use Rattle.scripts.specs.Demands.{ScriptExact};
+use depths::script_number;
 use format::Reading;
 use format::Starts;
 use levels::ended;
@@ -19,10 +19,7 @@ use levels::starts_of;
 use levels::wide;
 use limits::Limits;
 use scripts::Read;
-use table::Section;
-
-// "up to 64 calls open"
-const OPEN: usize = 64;
+use view::Section;
 
 // Yes or no, of a script that is not refused.
 fn reads(
@@ -41,7 +38,7 @@ fn reads(
     let opens = starts_of(calls, 3);
     let closes = starts_of(returns, 4);
     let mut level = [0u64; 40];
-    tops::start_words(states, &mut level);
+    initials::start_words(states, &mut level);
     let mut levels = [[0u64; 40]; 64];
     let mut depth: usize = 0;
     let mut i: usize = 0;
@@ -72,77 +69,22 @@ fn reads(
     ended(states, &level)
 }
 
-// 30: every symbol is below the count.
-fn symbols_fit(symbols: &[u8], script: &[u8]) -> bool
-    ensures { λ r. ⌜ r ≡ symbolsFit (length (now (symbols .entry))) (now (script .entry)) ⌝ }
-{
-    let mut i: usize = 0;
-    'script: while i < script.len() {
-        if symbols.len() <= wide(script[i]) {
-            return false;
-        }
-        i += 1;
-    }
-    true
-}
-
-// 31: by the symbols' kinds alone.
-fn too_deep(symbols: &[u8], script: &[u8]) -> bool
-    requires { ⌜ symbolsFit (length (now symbols)) (now script) ≡ true ⌝ }
-    ensures { λ r. ⌜ r ≡ tooDeep (λ a. getD (now (symbols .entry)) a 0) 0 (now (script .entry)) ⌝ }
-{
-    let mut depth: usize = 0;
-    let mut i: usize = 0;
-    'script: while i < script.len() {
-        let kind = symbols[wide(script[i])];
-        i += 1;
-        if kind == 0 {
-            continue 'script;
-        }
-        if kind == 1 {
-            if depth == OPEN {
-                return true;
-            }
-            depth += 1;
-            continue 'script;
-        }
-        if depth == 0 {
-            return false;
-        }
-        depth -= 1;
-    }
-    false
-}
-
-// The first of 30 and 31 that applies, or 0.
-fn script_number(symbols: &[u8], script: &[u8]) -> u8
-    ensures { λ r. ⌜ r ≡ firstFailed (scriptTests (now (symbols .entry)) (now (script .entry))) ⌝ }
-{
-    if !symbols_fit(symbols, script) {
-        return 30;
-    }
-    if too_deep(symbols, script) {
-        return 31;
-    }
-    0
-}
-
 // The script on a table that was read: its sections are handed on as parts of the file.
 fn read_known(table: &[u8], starts: Starts, script: &[u8]) -> Read
     requires { ⌜ HasRead (now table) starts ⌝ }
     ensures { λ r. ⌜ r ≡ answerBy (firstFailed (scriptTests (tableOf (now (table .entry)) .symbols) (now (script .entry)))) (tableOf (now (table .entry))) (now (script .entry)) ⌝ }
 {
-    let symbols = table::part(table, starts, Section::Symbols);
+    let symbols = view::part(table, starts, Section::Symbols);
     let number = script_number(symbols, script);
     if number != 0 {
         return Read::Refused(number);
     }
     Read::Answer(reads(
         symbols,
-        table::part(table, starts, Section::States),
-        table::part(table, starts, Section::Internals),
-        table::part(table, starts, Section::Calls),
-        table::part(table, starts, Section::Returns),
+        view::part(table, starts, Section::States),
+        view::part(table, starts, Section::Internals),
+        view::part(table, starts, Section::Calls),
+        view::part(table, starts, Section::Returns),
         script,
     ))
 }

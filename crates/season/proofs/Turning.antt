@@ -8,7 +8,8 @@ use Rattle.limits.specs.declared.Limits.{Limits}
 use Rattle.format.specs.File.{tableOf}
 use Rattle.format.specs.Reading.{Readable}
 use Rattle.format.specs.Language.{count}
-use Rattle.reductions.specs.Reduce.{Reduced, reduceOf, spentValue}
+use Rattle.scripts.specs.Script.{yesValue}
+use Rattle.reductions.specs.Reduce.{Reduced, reduceOf}
 use Rattle.reductions.specs.declared.Reduction.{Reduction}
 use Rattle.reductions.specs.declared.Reduction.the-variants.{Delivered, Refused}
 use Rattle.reductions.proofs.Ways.{Ways, refused-first, refused-short, delivers, reduce-ways}
@@ -26,7 +27,7 @@ module _ (L : Limits) (b : List ℕ) (budget : ℕ) (list map out : List ℕ) wh
   done = reduceOf L b budget list map out
 
   pub turn-delivered : {r : Reduction} {list' map' out' : List ℕ} {c g w l j u : ℕ} {s : Bool} {x n : ℕ}
-      → record { answer = r; list = list'; map = map'; out = out' } ≡ done → r ≡ Delivered c g w l j u s → x ≡ spentValue s → (Readable L b → n ≡ count (tableOf b))
+      → record { answer = r; list = list'; map = map'; out = out' } ≡ done → r ≡ Delivered c g w l j u s → x ≡ yesValue s → (Readable L b → n ≡ count (tableOf b))
       → Turned L b budget list map out (record { row = 0 ∷ c ∷ g ∷ w ∷ l ∷ j ∷ u ∷ x ∷ []; states = n; length = l; guesses = g }) list' map' out'
   unfolding row guessesIn mapTaken outTaken
   turn-delivered {r} {list'} {map'} {out'} {c} {g} {w} {l} {j} {u} {s} {x} {n} e d hx hn =

@@ -1,23 +1,19 @@
 // Reducing the tables of a season, in order, with shared guesses.
 ghost use mathlib.Core.Path.{_≡_};
 ghost use mathlib.Core.Bool.{true};
-ghost use Prim.Native.Nat.{_*_, _<_, _≤_, _^_};
+ghost use Prim.Native.Nat.{_*_, _<_, _^_};
 ghost use lib.ListN.{length};
 ghost use lib.Seq.{paste};
 ghost use Rattle.limits.specs.Limits.{standard};
-ghost use Rattle.format.specs.File.{tableOf};
-ghost use Rattle.format.specs.Reading.{Readable};
-ghost use Rattle.format.specs.Language.{count};
-ghost use Rattle.reductions.specs.Reduce.{spentValue};
 ghost use Rattle.seasons.specs.Seasons.{lengthsFit, SeasonDone, refusedBy, seasonOf};
 ghost use Rattle.seasons.specs.Demands.{SeasonPromises};
 ghost use Rattle.season.specs.Turns.{Turned, Ran};
-use format::Reading;
 use lengths::lengths_fit;
 use limits::Limits;
+use reduce::state_count;
 use reductions::Reduction;
 use seasons::Season;
-use table::Section;
+use stored::yes_value;
 
 // One table's turn: its row of numbers, how many bytes of the maps and of the reduced tables it took, and its guesses.
 struct Turn {
@@ -25,27 +21,6 @@ struct Turn {
     states: usize,
     length: usize,
     guesses: u64,
-}
-
-// How many states a table has that is readable at the limits.
-fn state_count(limits: Limits, table: &[u8]) -> usize
-    ensures { λ r. ⌜ (Readable limits (now (table .entry)) → r ≡ count (tableOf (now (table .entry)))) ⌝ }
-{
-    let reading = table::read_within(limits, table);
-    match reading {
-        Reading::Sections(starts) => {
-            let states = table::part(table, starts, Section::States);
-            states.len()
-        }
-        Reading::Refused(_) => 0,
-    }
-}
-
-// The value of an answer: 1 or 0.
-fn bit(so: bool) -> u64
-    ensures { λ r. ⌜ r ≡ spentValue so ⌝ }
-{
-    if so { 1 } else { 0 }
 }
 
 // Reduces one table with what is left of the buffers.
@@ -78,7 +53,7 @@ fn take_turn(
                 length as u64,
                 joined as u64,
                 ceiling as u64,
-                bit(spent),
+                yes_value(spent),
             ],
             states: state_count(limits, table),
             length,

@@ -9,14 +9,15 @@ use Rattle.limits.specs.declared.Limits.{Limits}
 use Rattle.limits.specs.Limits.{limitsFit}
 use Rattle.format.specs.File.{tableOf}
 use Rattle.format.specs.Language.{count}
-use Rattle.reductions.specs.Reduce.{reduceOf, spentValue}
+use Rattle.scripts.specs.Script.{yesValue}
+use Rattle.reductions.specs.Reduce.{reduceOf}
 use Rattle.reductions.specs.declared.Reduction.{Reduction}
 use Rattle.reductions.specs.declared.Reduction.the-variants.{Delivered, Refused}
 use Rattle.seasons.specs.declared.Season.{Season}
 
 -- an answer as 8 numbers: its refusal's number, or 0 and its values
 unfoldable pub row : Reduction → List ℕ
-row (Delivered c g w l j u s) = 0 ∷ c ∷ g ∷ w ∷ l ∷ j ∷ u ∷ spentValue s ∷ []
+row (Delivered c g w l j u s) = 0 ∷ c ∷ g ∷ w ∷ l ∷ j ∷ u ∷ yesValue s ∷ []
 row (Refused k) = k ∷ 0 ∷ 0 ∷ 0 ∷ 0 ∷ 0 ∷ 0 ∷ 0 ∷ []
 
 -- "A refused table .. counts as no guesses"

@@ -16,7 +16,7 @@ use Rattle.limits.specs.Limits.{stateMost}
 use Rattle.format.specs.File.{Table, records}
 use Rattle.format.specs.Language.{count}
 use Rattle.format.proofs.Bytes.{records-wide}
-use Rattle.table.specs.Sections.{sectioned}
+use Rattle.view.specs.Sections.{sectioned}
 use Rattle.reach.specs.Tops.{add, live, byInternals, byCalls, byReturns, round, rounds, startWords, topWords, topWordsAt}
 use Rattle.reach.proofs.Bounded.{Bounded, Moves, Pops}
 use Rattle.reach.proofs.Count.{count-ones, ones-first}

@@ -1,29 +1,27 @@
 -- The sections of bytes that are readable, and the answer that they give. Assumes nothing.
 use mathlib.Core.Path.{_≡_, refl, sym, ap, subst, _∙_}
-use mathlib.Core.Logic.{_≢_}
 use mathlib.Core.Bool.{Bool, true, false}
 use mathlib.Core.List.{List, [], _++_}
 use Prim.Native.Nat.{ℕ, zero, suc, _-_, _*_, _%_}
 use native.Mathlib.Omega.{arith}
 use lib.ListN.{length, replicate}
 use lib.Seq.{slice}
-use lib.Dec.{eqb}
-use borrow.Author.Tests.{eq-eqb, ne-eqb, eqb-true, eqb-false}
+use borrow.Author.Tests.{eq-eqb, ne-eqb}
 use Rattle.lists.specs.Lists.{same}
 use Rattle.lists.specs.Bits.{onesOver}
 use Rattle.limits.specs.declared.Limits.{Limits}
 use Rattle.limits.specs.Limits.{stateMost}
 use Rattle.format.specs.File.{Table, trailer, start, tableOf}
-use Rattle.format.specs.Reading.{readNumber, Readable, startsOf, readOf}
+use Rattle.format.specs.Reading.{readNumber, Readable, readOf}
 use Rattle.format.specs.declared.Starts.{Starts}
-use Rattle.format.specs.declared.Reading.{Reading}
 use Rattle.format.specs.declared.Reading.the-variants.{Sections as SectionsAt, Refused as RefusedBy}
 use Rattle.format.proofs.Passed.{ReadPasses, read-passed}
 use Rattle.format.proofs.Bytes.{length-between, length-from, read-well-formed}
 use Rattle.format.proofs.Facts.{internals-fit, calls-fit, returns-fit, most-states}
-use Rattle.table.specs.Sections.{sectioned, partOf, HasRead}
-use Rattle.table.specs.declared.view.Section.the-variants.{States, Internals, Calls, Returns}
-use Rattle.table.proofs.Parts.{states-at, internals-at, calls-at, returns-at}
+use Rattle.view.specs.Sections.{sectioned, partOf, HasRead}
+use Rattle.view.specs.declared.Section.the-variants.{States, Internals, Calls, Returns}
+use Rattle.view.proofs.Parts.{states-at, internals-at, calls-at, returns-at}
+use Rattle.view.proofs.Handed.{read-as, read-refused}
 use Rattle.reach.specs.Tops.{round, rounds, startWords, topWords, topWordsAt, topCount, topsOf}
 use Rattle.reach.specs.Demands.{TopsExact}
 use Rattle.reach.specs.declared.TopWords.{TopWords}
@@ -90,47 +88,31 @@ module _ (b : List ℕ) {s : Starts} (h : HasRead b s) {states internals calls r
 -- ---- the answer with the starts
 
 module _ (L : Limits) (b : List ℕ) where
-  pub read-sections : {s : Starts} → SectionsAt s ≡ readOf L b → Readable L b × (s ≡ startsOf b)
-  unfolding readOf
-  read-sections {s} e = go (eqb (readNumber L b) 0) refl e
-    where
-      go : (x : Bool) → eqb (readNumber L b) 0 ≡ x → _≡_ {A = Reading} (SectionsAt s) (elim x [ true ↦ SectionsAt (startsOf b) | false ↦ RefusedBy (readNumber L b) ]) → Readable L b × (s ≡ startsOf b)
-      go true p f = (eqb-true _ _ p, cc)
-      go false p f = let z : _≡_ {A = ℕ} 0 1 = cc in absurd (omega arith)
-
   pub read-handed : {s : Starts} → SectionsAt s ≡ readOf L b → HasRead b s
-  read-handed e = let r = read-sections e in record { limits = L; known = record { readable = r .0; starts = r .1 } }
-
-  pub read-refused : {k : ℕ} → RefusedBy k ≡ readOf L b → (readNumber L b ≡ k) × (k ≢ 0)
-  unfolding readOf
-  read-refused {k} e = go (eqb (readNumber L b) 0) refl e
-    where
-      go : (x : Bool) → eqb (readNumber L b) 0 ≡ x → _≡_ {A = Reading} (RefusedBy k) (elim x [ true ↦ SectionsAt (startsOf b) | false ↦ RefusedBy (readNumber L b) ]) → (readNumber L b ≡ k) × (k ≢ 0)
-      go true p f = let z : _≡_ {A = ℕ} 0 1 = cc in absurd (omega arith)
-      go false p f = let e : readNumber L b ≡ k = cc in (e, λ n. eqb-false _ _ p (e ∙ n))
+  read-handed {s} e = record { limits = L; known = read-as L b s (sym e) }
 
   pub examined : {s : Starts} {t : TopWords} → SectionsAt s ≡ readOf L b → t ≡ topsFound (tableOf b) → record { number = 0; starts = s; words = t .words; found = t .found } ≡ examinedOf L b
   unfolding examinedOf topsFound
   examined {s} {t} e f =
-      let r = read-sections e in
-      rw (eq-eqb (readNumber L b) 0 (r .0), examinedOf) (λ i. record { number = 0; starts = r .1 i; words = f i .words; found = f i .found })
+      let r = read-as L b s (sym e) in
+      rw (eq-eqb (readNumber L b) 0 (r .readable), examinedOf) (λ i. record { number = 0; starts = r .starts i; words = f i .words; found = f i .found })
 
   pub examined-refused : {k : ℕ} → RefusedBy k ≡ readOf L b → record { number = k; starts = record { symbols = 0; states = 0; internals = 0; calls = 0; returns = 0 }; words = replicate stateMost 0; found = 0 } ≡ examinedOf L b
   unfolding examinedOf
   examined-refused {k} e =
-      let r = read-refused e in
+      let r = read-refused L b k (sym e) in
       rw (ne-eqb (readNumber L b) 0 (λ z. r .1 (sym (r .0) ∙ z)), examinedOf) (λ i. record { number = sym (r .0) i; starts = record { symbols = 0; states = 0; internals = 0; calls = 0; returns = 0 }; words = replicate stateMost 0; found = 0 })
 
   -- the tops alone
   pub tops-answer : {s : Starts} {t : TopWords} → SectionsAt s ≡ readOf L b → t ≡ topsFound (tableOf b) → (t ≡ topsOf L b) × TopsExact L b t
   unfolding topsOf topsFound
   tops-answer {s} {t} e f =
-      let g : t ≡ topsOf L b = rw (eq-eqb (readNumber L b) 0 (read-sections e .0), topsOf) f in
+      let g : t ≡ topsOf L b = rw (eq-eqb (readNumber L b) 0 (read-as L b s (sym e) .readable), topsOf) f in
       (g, subst (λ (t : TopWords). TopsExact L b t) (sym g) (tops-exact L b))
 
   pub tops-refused : {k : ℕ} → RefusedBy k ≡ readOf L b → (record { number = k; words = replicate stateMost 0; found = 0 } ≡ topsOf L b) × TopsExact L b (record { number = k; words = replicate stateMost 0; found = 0 })
   unfolding topsOf
   tops-refused {k} e =
-      let r = read-refused e in
+      let r = read-refused L b k (sym e) in
       let g : record { number = k; words = replicate stateMost 0; found = 0 } ≡ topsOf L b = rw (ne-eqb (readNumber L b) 0 (λ z. r .1 (sym (r .0) ∙ z)), topsOf) (λ i. record { number = sym (r .0) i; words = replicate stateMost 0; found = 0 }) in
       (g, subst (λ (t : TopWords). TopsExact L b t) (sym g) (tops-exact L b))

@@ -17,7 +17,7 @@ use Rattle.lists.proofs.Words.{getD-padded}
 use Rattle.limits.specs.Limits.{stateMost}
 use Rattle.format.specs.File.{Table}
 use Rattle.format.specs.Reading.{isInitial}
-use Rattle.table.specs.Sections.{sectioned}
+use Rattle.view.specs.Sections.{sectioned}
 use Rattle.reach.specs.Tops.{add, live, byInternals, byCalls, byReturns, round, startWords}
 use Rattle.reach.proofs.Bounded.{Bounded}
 use Rattle.reach.proofs.Walks.{internalStep, callStep, returnStep, round-walk, walk-keeps, length-add}

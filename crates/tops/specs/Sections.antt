@@ -10,7 +10,7 @@ use Rattle.lists.specs.Bits.{has}
 use Rattle.limits.specs.declared.Limits.{Limits}
 use Rattle.limits.specs.Limits.{stateMost}
 use Rattle.format.specs.File.{Table, records, tableOf}
-use Rattle.format.specs.Reading.{isInitial, readNumber, startsOf}
+use Rattle.format.specs.Reading.{readNumber, startsOf}
 use Rattle.reach.specs.declared.TopWords.{TopWords}
 use Rattle.reach.specs.Tops.{add, byInternals, byCalls, byReturns, topWords, topCount}
 use Rattle.tops.specs.declared.Examined.{Examined}
@@ -27,10 +27,6 @@ abbrev pub widthOf : Kind → ℕ
 widthOf Internal = 3
 widthOf Call = 3
 widthOf Return = 4
-
--- a state's first word, by its byte
-unfoldable pub startWord : ℕ → ℕ
-startWord byte = elim (isInitial byte) [ true ↦ 2 ^ stateMost | false ↦ 0 ]
 
 -- what a record of a kind does to the words, by its first state, its third byte and its last one
 unfoldable pub stepBy : Kind → List ℕ → ℕ → ℕ → ℕ → List ℕ

@@ -1,18 +1,20 @@
 // The reachable stack tops of a table.
 ghost use mathlib.Core.Path.{_≡_};
-ghost use Prim.Native.Nat.{suc, _-_, _*_, _^_, _<_, _≤_};
-ghost use mathlib.Core.List.{[], _++_};
-ghost use lib.ListN.{length, take, replicate};
+ghost use Prim.Native.Nat.{suc, _*_, _<_, _≤_};
+ghost use mathlib.Core.List.{[]};
+ghost use lib.ListN.{length, take};
 ghost use lib.Count.{onesIn};
 ghost use Rattle.lists.specs.Bits.{has, onesOver};
-ghost use Rattle.limits.specs.Limits.{standard, stateMost};
+ghost use Rattle.limits.specs.Limits.{standard};
 ghost use Rattle.format.specs.File.{records, tableOf};
-ghost use Rattle.table.specs.Sections.{sectioned, HasRead};
-ghost use Rattle.reach.specs.Tops.{add, startWords, rounds, topWords, topsOf};
+ghost use Rattle.view.specs.Sections.{sectioned, HasRead};
+ghost use Rattle.reach.specs.Tops.{add, rounds, topWords, topsOf};
 ghost use Rattle.reach.specs.Demands.{TopsExact};
-ghost use Rattle.tops.specs.Sections.{Section, Sections, Small, sumOf, startWord, widthOf, stepBy, byRecords, topsFound, examinedOf};
+ghost use Rattle.tops.specs.Sections.{Section, Sections, Small, sumOf, widthOf, stepBy, byRecords, topsFound, examinedOf};
 use format::Reading;
 use format::Starts;
+use initials::bit;
+use initials::start_words;
 use limits::Limits;
 use reach::TopWords;
 
@@ -37,14 +39,6 @@ fn wide(x: u8) -> usize
     x as usize
 }
 
-// The word whose only bit is x.
-fn bit(x: usize) -> u64
-    requires { ⌜ x < 64 ⌝ }
-    ensures { λ r. ⌜ r ≡ 2 ^ x ⌝ }
-{
-    1u64 << x
-}
-
 // Top x is in word q.
 fn has_top(words: &[u64], q: usize, x: usize) -> bool
     requires { ⌜ (q < length (now words)) × (x < 64) ⌝ }
@@ -59,41 +53,6 @@ pub fn add(words: &mut [u64], q: usize, w: u64)
     ensures { λ _. ⌜ now (words .exit) ≡ add (now (words .entry)) q w ⌝ }
 {
     words[q] = words[q] | w;
-}
-
-// All words are zero.
-fn clear(words: &mut [u64])
-    requires { ⌜ length (now words) ≡ 40 ⌝ }
-    ensures { λ _. ⌜ now (words .exit) ≡ replicate 40 0 ⌝ }
-{
-    let mut q: usize = 0;
-    'words: while q < 40 {
-        words[q] = 0;
-        q += 1;
-    }
-}
-
-// A state's first word, by its byte: an initial state has bottom, numbered 40.
-fn start_word(byte: u8) -> u64
-    ensures { λ r. ⌜ r ≡ startWord byte ⌝ }
-{
-    if byte % 2 == 1 {
-        return bit(40);
-    }
-    0
-}
-
-// The words of the states at the start, and zeros behind them.
-pub fn start_words(states: &[u8], words: &mut [u64])
-    requires { ⌜ (length (now states) ≤ 40) × (length (now words) ≡ 40) ⌝ }
-    ensures { λ _. ⌜ now (words .exit) ≡ startWords stateMost (sectioned 0 [] (now (states .entry)) [] [] []) ++ replicate (40 - length (now (states .entry))) 0 ⌝ }
-{
-    clear(words);
-    let mut q: usize = 0;
-    'states: while q < states.len() {
-        words[q] = start_word(states[q]);
-        q += 1;
-    }
 }
 
 // The bytes of a record.
@@ -234,10 +193,10 @@ pub fn tops_read(table: &[u8], starts: Starts, words: &mut [u64]) -> u32
     ensures { λ r. ⌜ record { number = 0; words = now (words .exit); found = r } ≡ topsFound (tableOf (now (table .entry))) ⌝ }
 {
     tops_of(
-        table::part(table, starts, table::Section::States),
-        table::part(table, starts, table::Section::Internals),
-        table::part(table, starts, table::Section::Calls),
-        table::part(table, starts, table::Section::Returns),
+        view::part(table, starts, view::Section::States),
+        view::part(table, starts, view::Section::Internals),
+        view::part(table, starts, view::Section::Calls),
+        view::part(table, starts, view::Section::Returns),
         words,
     )
 }

@@ -1,20 +1,20 @@
 -- Adding lines up one by one: what is still to come of the sums and the total, and a law for each way through the loops of src/. Assumes nothing.
 use mathlib.Core.Path.{_≡_, refl, sym, ap, _∙_}
-use mathlib.Core.Bool.{Bool, true, false, _&&_}
+use mathlib.Core.Bool.{Bool, true, false}
 use mathlib.Core.List.{List, [], _∷_, map}
 use Prim.Native.Nat.{ℕ, _+_, _-_, _*_, _≤_, _<_}
 use native.Mathlib.Omega.{arith}
 use lib.ListN.{length, getD, set, take, drop, replicate, length-set}
 use lib.Seq.{ext-getD, getD-set-same, getD-set-other}
-use lib.Dec.{eqb, ltb}
+use lib.Dec.{eqb}
 use borrow.Author.Tests.{eqb-true, eqb-false}
-use Rattle.lists.specs.Lists.{all, keep, sum}
+use Rattle.lists.specs.Lists.{keep, sum}
 use Rattle.lists.proofs.Members.{zeros}
 use Rattle.limits.specs.Limits.{stateMost}
 use Rattle.format.specs.File.{records}
 use Rattle.format.specs.Maps.{classOf}
-use Rattle.table.proofs.Walks.{record-on, records-end}
-use Rattle.usage.specs.Uses.{Line, lineOf, linesOf, usesIn, classSum, classSums, statesFit, counted}
+use Rattle.keyed.proofs.Walks.{record-on, records-end}
+use Rattle.usage.specs.Uses.{Line, lineOf, linesOf, usesIn, classSum, classSums, counted}
 use Rattle.usage.specs.Demands.{Fits}
 use Rattle.usage.proofs.Sums.{weigh, sum-first, length-sums, sum-at}
 
@@ -27,15 +27,6 @@ lines-on s at h = ap (map lineOf) (record-on 5 s at (omega arith) h)
 pub lines-end : (s : List ℕ) (at : ℕ) → length s - at < 5 → linesOf (drop at s) ≡ []
 unfolding linesOf
 lines-end s at h = ap (map lineOf) (records-end 5 s at h)
-
--- 33 is told by the records
-pub states-tests : (n : ℕ) (s : List ℕ) → statesFit n s ≡ all (λ r. ltb (lineOf r .state) n) (records 5 s)
-unfolding statesFit linesOf all
-states-tests n s = go (records 5 s)
-  where
-    go : (rs : List (List ℕ)) → all (λ l. ltb (l .state) n) (map lineOf rs) ≡ all (λ r. ltb (lineOf r .state) n) rs
-    go [] = refl
-    go (r ∷ rs) = λ i. ltb (lineOf r .state) n && go rs i
 
 -- ---- the sums
 

@@ -5,77 +5,18 @@ ghost use lib.ListN.{length};
 ghost use Rattle.lists.specs.Lists.{firstFailed};
 ghost use Rattle.limits.specs.Limits.{standard};
 ghost use Rattle.format.specs.Maps.{classOf};
-ghost use Rattle.usage.specs.Uses.{lineOf, statesFit, linesTests, counted, refusedBy, answerBy, usesOf};
+ghost use Rattle.usage.specs.Uses.{linesTests, counted, refusedBy, answerBy, usesOf};
 ghost use Rattle.usage.specs.Demands.{Fits, Promises};
 use limits::Limits;
 use relations::Checked;
 use usage::Counted;
+use used::index;
+use used::lines_number;
+use used::state_in;
+use used::uses_in;
 
-// The bytes of a line: "a state (one byte) and a use count (32 bits, little-endian)".
+// The bytes of a line.
 const LINE: usize = 5;
-
-// "over 65,536 lines"
-const LINES: usize = 65536;
-
-fn wide(x: u8) -> u64
-    ensures { λ r. ⌜ (r ≡ x) × (r < 256) ⌝ }
-{
-    x as u64
-}
-
-fn index(x: u8) -> usize
-    ensures { λ r. ⌜ r ≡ x ⌝ }
-{
-    x as usize
-}
-
-// The state of a line.
-fn state_in(line: &[u8]) -> usize
-    requires { ⌜ length (now line) ≡ 5 ⌝ }
-    ensures { λ r. ⌜ r ≡ lineOf (now (line .entry)) .state ⌝ }
-{
-    index(line[0])
-}
-
-// The use count of a line, the lowest byte first.
-fn uses_in(line: &[u8]) -> u64
-    requires { ⌜ length (now line) ≡ 5 ⌝ }
-    ensures { λ r. ⌜ r ≡ lineOf (now (line .entry)) .uses ⌝ }
-    ensures small { λ r. ⌜ r ≤ 4294967295 ⌝ }
-{
-    wide(line[1]) + 256 * wide(line[2]) + 65536 * wide(line[3]) + 16777216 * wide(line[4])
-}
-
-// 33: every line's state is below n.
-fn states_fit(lines: &[u8], n: usize) -> bool
-    ensures { λ r. ⌜ r ≡ statesFit n (now (lines .entry)) ⌝ }
-{
-    let mut at: usize = 0;
-    'lines: while LINE <= lines.len() - at {
-        let next = at + LINE;
-        if n <= state_in(&lines[at..next]) {
-            return false;
-        }
-        at = next;
-    }
-    true
-}
-
-// The first of 32 and 33 that applies, for a table of n states; or 0.
-fn lines_number(lines: &[u8], n: usize) -> u8
-    ensures { λ r. ⌜ r ≡ firstFailed (linesTests n (now (lines .entry))) ⌝ }
-{
-    if lines.len() % LINE != 0 {
-        return 32;
-    }
-    if LINES < lines.len() / LINE {
-        return 32;
-    }
-    if !states_fit(lines, n) {
-        return 33;
-    }
-    0
-}
 
 // The sums and the total, in one pass over the lines.
 fn add_lines(lines: &[u8], map: &[u8]) -> Counted

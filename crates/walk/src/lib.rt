@@ -1,94 +1,17 @@
 // Most tops of pairs, before the rounds: a row that changed is marked and looked at again. What is found is a top; that none is missing the rounds
 // confirm, so nothing is asked of the marks, of the tops noted as done and of the places.
-ghost use mathlib.Core.Path.{_≡_};
-ghost use mathlib.Core.Option.{some};
-ghost use Prim.Native.Nat.{_+_, _*_, _<_, _≤_};
-ghost use lib.ListN.{getD};
-ghost use Rattle.format.specs.File.{Table};
-ghost use Rattle.fitting.specs.Fit.{pairCount};
+ghost use Prim.Native.Nat.{_<_, _≤_};
 ghost use Rattle.rounds.specs.Rows.{Named, Nexts};
-ghost use Rattle.walk.specs.Quick.{coveredIn, PairTop, Follows, Partly, Links, LinkOn, AddsTops, Place, Places, Fed, PushesOn, PopsOver, PopsOn, LooksOn, LinksOn, AllLinks, AnyMarked};
+ghost use Rattle.linking.specs.Quick.{AddsTops, Place, Places, Fed, PushesOn, PopsOn, SpreadOn, LooksOn, LinksOn, AllLinks, AnyMarked};
+use linking::after_move;
+use linking::flow;
+use linking::gain;
+use linking::pair;
+use linking::pop_over;
 use rounds::any;
 use rounds::held;
-use rounds::join;
 use rounds::put;
 use rounds::wide;
-
-// Row v has every bit of row u.
-fn covers(rows: &[u64; 6000], u: usize, v: usize) -> bool
-    requires { ⌜ (u < 600) × (v < 600) ⌝ }
-    ensures { λ r. ⌜ r ≡ coveredIn 10 u v (now (rows .entry)) ⌝ }
-{
-    let mut k: usize = 10;
-    'words: while 0 < k {
-        k -= 1;
-        let i = v * 10 + k;
-        if (rows[i] | rows[u * 10 + k]) != rows[i] {
-            return false;
-        }
-    }
-    true
-}
-
-// Row v gains the bits of row u; it is marked if it changed.
-fn flow(u: usize, v: usize, rows: &mut [u64; 6000], marks: &mut [u8; 600])
-    requires { ⌜ (u < 600) × (v < 600) ⌝ }
-    ensures { λ _. ⌜ ((s t : Table) → u < pairCount s t → v < pairCount s t → Follows s t u v → Partly s t (now (rows .entry)) → Partly s t (now (rows .exit))) ⌝ }
-{
-    if covers(rows, u, v) {
-        return;
-    }
-    join(rows, u, v);
-    marks[v] = 1;
-}
-
-// Row v gains the pair x; it is marked if it changed.
-fn gain(v: usize, x: usize, rows: &mut [u64; 6000], marks: &mut [u8; 600])
-    requires { ⌜ (v < 600) × (x < 600) ⌝ }
-    ensures { λ _. ⌜ ((s t : Table) → v < pairCount s t → x < pairCount s t → PairTop s t v (some x) → Partly s t (now (rows .entry)) → Partly s t (now (rows .exit))) ⌝ }
-{
-    if held(rows, v, x) {
-        return;
-    }
-    put(rows, v, x);
-    marks[v] = 1;
-}
-
-// The link from y to v, and what flows along it at once.
-fn link(y: usize, v: usize, rows: &mut [u64; 6000], links: &mut [u64; 6000], marks: &mut [u8; 600])
-    requires { ⌜ (y < 600) × (v < 600) ⌝ }
-    ensures { λ _. ⌜ LinkOn y v (now (rows .entry)) (now (links .entry)) (now (rows .exit)) (now (links .exit)) ⌝ }
-{
-    if held(links, y, v) {
-        return;
-    }
-    put(links, y, v);
-    flow(y, v, rows, marks);
-}
-
-// The number of a pair.
-fn pair(p: usize, b: usize, n: usize) -> usize
-    requires { ⌜ (p < 24) × (b ≤ n) × (n ≤ 24) ⌝ }
-    ensures { λ r. ⌜ (r ≡ p * (n + 1) + b) × (r < 600) ⌝ }
-{
-    p * (n + 1) + b
-}
-
-// Where the second table goes from b by a move.
-fn after_move(next: &[u8; 800], b: usize, a: usize, n: usize) -> usize
-    requires { ⌜ Nexts n (now next) × (b ≤ n) × (a < 32) ⌝ }
-    ensures { λ r. ⌜ (r ≡ getD (now (next .entry)) (b * 32 + a) 0) × (r ≤ n) ⌝ }
-{
-    wide(next[b * 32 + a])
-}
-
-// Where it goes from b by a return over c.
-fn after_return(next: &[u8; 20000], b: usize, a: usize, c: usize, n: usize) -> usize
-    requires { ⌜ Nexts n (now next) × (b ≤ n) × (a < 32) × (c ≤ n) ⌝ }
-    ensures { λ r. ⌜ (r ≡ getD (now (next .entry)) ((b * 32 + a) * 25 + c) 0) × (r ≤ n) ⌝ }
-{
-    wide(next[(b * 32 + a) * 25 + c])
-}
 
 // The place of the first record of each state, or some other place where a state has none.
 pub fn firsts(section: &[u8], width: usize) -> [usize; 24]
@@ -141,42 +64,6 @@ fn push_all(
     }
 }
 
-// By the returns of the state p from a place on: where the pair of p and b goes when it pops y is linked with y.
-fn pop_over(
-    from: usize,
-    p: usize,
-    b: usize,
-    y: usize,
-    returns: &[u8],
-    pops: &[u8; 20000],
-    n: usize,
-    rows: &mut [u64; 6000],
-    links: &mut [u64; 6000],
-    marks: &mut [u8; 600],
-)
-    requires { ⌜ Place 4 (now returns) from × Named 4 24 (now returns) × Nexts n (now pops) × (p < 24) × (b ≤ n) × (y < 600) ⌝ }
-    ensures { λ _. ⌜ PopsOver p b y n (now (returns .entry)) (now (pops .entry)) (now (rows .entry)) (now (links .entry)) (now (rows .exit)) (now (links .exit)) ⌝ }
-{
-    let width = n + 1;
-    let under = y / width;
-    let c = y % width;
-    let mut at = from;
-    'records: while 4 <= returns.len() - at {
-        if wide(returns[at]) != p {
-            return;
-        }
-        if wide(returns[at + 2]) != under {
-            at += 4;
-            continue 'records;
-        }
-        let a = wide(returns[at + 1]);
-        let q = wide(returns[at + 3]);
-        let v = pair(q, after_return(pops, b, a, c, n), n);
-        link(y, v, rows, links, marks);
-        at += 4;
-    }
-}
-
 // Over each pair on top of the pair of p and b that was not yet popped; a word without one is left at once.
 fn pop_all(
     from: usize,
@@ -226,7 +113,7 @@ fn spread(
     marks: &mut [u8; 600],
 )
     requires { ⌜ (u < 600) × (pairs ≤ 600) ⌝ }
-    ensures { λ _. ⌜ ((s t : Table) → pairs ≡ pairCount s t → u < pairs → Links s t (now (links .entry)) → Partly s t (now (rows .entry)) → Partly s t (now (rows .exit))) ⌝ }
+    ensures { λ _. ⌜ SpreadOn u pairs (now (links .entry)) (now (rows .entry)) (now (rows .exit)) ⌝ }
 {
     let mut v: usize = 0;
     'links: while v < pairs {

@@ -3,7 +3,7 @@ use mathlib.Core.Path.{_≡_}
 use mathlib.Core.List.{List, [], _∷_, map}
 use Prim.Native.Nat.{ℕ, _-_, _/_, _%_}
 use lib.ListN.{length, take, drop}
-use Rattle.table.specs.Keys.{key}
+use Rattle.keyed.specs.Keys.{key}
 
 abbrev pub keysOf : List (List ℕ) → List ℕ
 keysOf = map key

@@ -2,16 +2,16 @@
 use borrow.Author.Needs.{needs}
 use mathlib.Core.Path.{sym, ap, _∙_}
 use Rattle.reductions.specs.Reduce.{reductionNumber, reductionValues}
-use Rattle.answers.specs.Storing.{stored}
-use Rattle.answers.proofs.Storing.{stored-none}
+use Rattle.stored.specs.Storing.{stored}
+use Rattle.stored.proofs.Storing.{stored-none}
 use Rattle.answers.proofs.say_reduction.Statement.{statement}
 use Rattle.answers.proofs.say_reduction.Tie as tie
 
 enum-known-reduction : tie.Need-enum-known-reduction
 enum-known-reduction c = search needs
 
-spent-value-requires : tie.Need-spent-value-requires
-spent-value-requires c κs = search needs
+yes-value-requires : tie.Need-yes-value-requires
+yes-value-requires c κs = search needs
 
 slice-aggregate-store : tie.Need-slice-aggregate-store
 slice-aggregate-store c = search needs
@@ -33,7 +33,7 @@ unfolding reductionNumber reductionValues
 returns c =
     let f = c .before .before .before .before .before .before .before .reduction .given .1 in
     let v = c .before .before .before .before .before .before .before .before .before .before .args .values .now in
-    (sym (ap reductionNumber f), (rw (c .before .before .before .before .before .spent-value .ensures) at (c .before .before .store .ensures)) ∙ ap (λ vs. stored vs v) (sym (ap reductionValues f)))
+    (sym (ap reductionNumber f), (rw (c .before .before .before .before .before .yes-value .ensures) at (c .before .before .store .ensures)) ∙ ap (λ vs. stored vs v) (sym (ap reductionValues f)))
 
 returns-2 : tie.Need-returns-2
 unfolding reductionNumber reductionValues
@@ -47,7 +47,7 @@ say-reduction-spec =
     tie.close
     (tie.spec
     enum-known-reduction
-    spent-value-requires
+    yes-value-requires
     slice-aggregate-store
     store-requires
     enum-known-reduction-2

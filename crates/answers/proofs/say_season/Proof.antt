@@ -1,8 +1,9 @@
 -- `answers::say_season` meets its contract: the rows are stored, a refusal has none. Assumes nothing.
 use borrow.Author.Needs.{needs}
 use mathlib.Core.Path.{refl, sym, ap, _∙_}
-use Rattle.answers.specs.Storing.{stored}
-use Rattle.answers.proofs.Storing.{stored-none, season-reduced, season-refused}
+use Rattle.stored.specs.Storing.{stored}
+use Rattle.stored.proofs.Storing.{stored-none}
+use Rattle.answers.proofs.Rows.{season-reduced, season-refused}
 use Rattle.answers.proofs.say_season.Statement.{statement}
 use Rattle.answers.proofs.say_season.Tie as tie
 

@@ -1,7 +1,7 @@
 -- `fit::fit` meets its contract: the first table's refusal, or the answer for a first table that was read. Assumes nothing.
 use borrow.Author.Needs.{needs}
 use mathlib.Core.Path.{sym, _∙_}
-use Rattle.table.proofs.Handed.{read-as, read-refused}
+use Rattle.view.proofs.Handed.{read-as, read-refused}
 use Rattle.fitting.proofs.Theorems.{promised}
 use Rattle.fit.proofs.Answers.{first-refused}
 use Rattle.fit.proofs.fit.Statement.{statement}

@@ -6,7 +6,7 @@ use lib.ListN.{length}
 use Rattle.lists.specs.Lists.{any}
 use Rattle.format.specs.File.{records}
 use Rattle.format.specs.Maps.{joins}
-use Rattle.table.proofs.Walks.{Still, begin}
+use Rattle.keyed.proofs.Walks.{Still, begin}
 use Rattle.matching.proofs.Reaching.{goes, missed, met, none-met, over-targets}
 use borrow.Author.Needs.{needs}
 use Rattle.matching.proofs.reaches.Statement.{statement}

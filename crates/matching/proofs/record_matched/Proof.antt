@@ -3,7 +3,7 @@ use mathlib.Core.Path.{sym, _∙_, subst}
 use mathlib.Core.List.{[], _∷_}
 use native.Mathlib.Omega.{arith}
 use lib.ListN.{getD}
-use Rattle.table.specs.Keys.{Keyed}
+use Rattle.keyed.specs.Keys.{Keyed}
 use Rattle.matching.proofs.Matched.{record-move, return-lent, return-long, return-live, record-return}
 use borrow.Author.Needs.{needs}
 use Rattle.matching.proofs.record_matched.Statement.{statement}

@@ -1,7 +1,7 @@
 -- `matching::records_matched` meets its contract: the records before this one are matched. Assumes nothing.
 use Rattle.matching.specs.Matching.{recordMet}
 use Rattle.format.specs.File.{records}
-use Rattle.table.proofs.Walks.{Still, begin, records-passed, records-failed, records-done}
+use Rattle.keyed.proofs.Walks.{Still, begin, records-passed, records-failed, records-done}
 use Rattle.lists.specs.Lists.{all}
 use borrow.Author.Tests.{not-true, not-false}
 use lib.ListN.{length}

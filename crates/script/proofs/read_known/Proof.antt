@@ -4,7 +4,7 @@ use Rattle.script.proofs.Handed.{parts-sections, parts-symbols, parts-r
 use Rattle.scripts.proofs.Answers.{answered, refused}
 use Rattle.scripts.specs.Script.{scriptTests}
 use Rattle.scripts.specs.declared.Read.the-variants.{Refused}
-use Rattle.table.proofs.Parts.{symbols-read}
+use Rattle.view.proofs.Parts.{symbols-read}
 use Rattle.lists.specs.Lists.{firstFailed}
 use mathlib.Core.Path.{sym, ap, _∙_}
 use Rattle.script.proofs.read_known.Statement.{statement}

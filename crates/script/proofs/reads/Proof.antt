@@ -8,9 +8,9 @@ use Rattle.format.specs.File.{records}
 use Rattle.scripts.specs.Script.{moved, returned, started, ended}
 use Rattle.levels.proofs.Index.{lent-more}
 use Rattle.script.proofs.Walking.{Walking, walking, walked, walked-open, room, walk-internal, walk-call, walk-none, walk-return}
-use Rattle.script.proofs.Depths.{symbol-inside}
+use Rattle.depths.proofs.Depths.{symbol-inside}
 use Rattle.script.specs.Sections.{sectionsRead}
-use Rattle.table.specs.Sections.{sectioned}
+use Rattle.view.specs.Sections.{sectioned}
 use lib.ListN.{length, getD}
 use Prim.Native.Nat.{_-_}
 use mathlib.Core.Path.{refl, ap, _∙_}

@@ -2,7 +2,7 @@
 use borrow.Author.Needs.{needs}
 use Rattle.scripts.proofs.Promises.{promised}
 use Rattle.scripts.proofs.Answers.{script-read, script-unread}
-use Rattle.table.proofs.Handed.{read-as, read-refused}
+use Rattle.view.proofs.Handed.{read-as, read-refused}
 use mathlib.Core.Path.{sym, _∙_}
 use Rattle.script.proofs.script_within.Statement.{statement}
 use Rattle.script.proofs.script_within.Tie as tie

@@ -10,8 +10,8 @@ reduce-within-requires c κs = search needs
 enum-known-answer : tie.Need-enum-known-answer
 enum-known-answer c = search needs
 
-bit-requires : tie.Need-bit-requires
-bit-requires c κs = search needs
+yes-value-requires : tie.Need-yes-value-requires
+yes-value-requires c κs = search needs
 
 state-count-requires : tie.Need-state-count-requires
 state-count-requires c κs = search needs
@@ -34,7 +34,7 @@ same-length-3 c = search needs
 returns : tie.Need-returns
 returns c =
     let s = c .before .before .before .before .before .before .before .before .before .before .before .before .before .before .before .before .before .before .before in
-    turn-delivered (s .args .limits) (s .args .table .now) (s .args .budget) (s .args .list .now) (s .args .map .now) (s .args .out .now) (c .before .before .before .before .before .before .before .before .before .before .before .reduce-within .ensures .0) (c .before .before .before .answer .given .1) (c .before .bit .ensures) (c .state-count .ensures)
+    turn-delivered (s .args .limits) (s .args .table .now) (s .args .budget) (s .args .list .now) (s .args .map .now) (s .args .out .now) (c .before .before .before .before .before .before .before .before .before .before .before .reduce-within .ensures .0) (c .before .before .before .answer .given .1) (c .before .yes-value .ensures) (c .state-count .ensures .1)
 
 same-length-4 : tie.Need-same-length-4
 same-length-4 c = search needs
@@ -56,7 +56,7 @@ take-turn-spec =
     (tie.spec
     reduce-within-requires
     enum-known-answer
-    bit-requires
+    yes-value-requires
     state-count-requires
     enum-known-answer-2
     cast-t31

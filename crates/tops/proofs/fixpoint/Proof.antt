@@ -6,7 +6,7 @@ use native.Mathlib.Omega.{arith}
 use mathlib.Core.List.{[]}
 use lib.ListN.{length}
 use Rattle.reach.specs.Tops.{rounds}
-use Rattle.table.specs.Sections.{sectioned}
+use Rattle.view.specs.Sections.{sectioned}
 use Rattle.tops.proofs.Loops.{resting, rounded, spent, few-rounds, section-within}
 use Rattle.tops.proofs.Sums.{Told, told-small, told-on, told-end}
 use Rattle.tops.proofs.fixpoint.Statement.{statement}

@@ -1,7 +1,7 @@
 -- `walk::any_marked` meets its contract: the marks still to come. Assumes nothing.
 use Prim.Native.Nat.{_-_}
 use borrow.Author.Needs.{needs}
-use Rattle.walk.proofs.Quickly.{Marking, marking, none-marked, one-marked, marking-on}
+use Rattle.linking.proofs.Quickly.{Marking, marking, none-marked, one-marked, marking-on}
 use Rattle.walk.proofs.any_marked.Statement.{statement}
 use Rattle.walk.proofs.any_marked.Tie as tie
 

@@ -4,7 +4,7 @@ use Prim.Native.Nat.{_-_}
 use native.Mathlib.Omega.{arith}
 use lib.ListN.{length}
 use borrow.Author.Needs.{needs}
-use Rattle.walk.proofs.Quickly.{Placing, placing, placing-on, placing-set}
+use Rattle.linking.proofs.Quickly.{Placing, placing, placing-on, placing-set}
 use Rattle.walk.proofs.firsts.Statement.{statement}
 use Rattle.walk.proofs.firsts.Tie as tie
 

@@ -1,7 +1,7 @@
 -- `walk::inner_link` meets its contract. The invariant: the rows hold links only. Assumes nothing.
 use Prim.Native.Nat.{_+_, _-_}
 use borrow.Author.Needs.{needs}
-use Rattle.walk.proofs.Quickly.{Linking, linking, linking-on}
+use Rattle.linking.proofs.Quickly.{Linking, linking, linking-on}
 use Rattle.walk.proofs.inner_link.Statement.{statement}
 use Rattle.walk.proofs.inner_link.Tie as tie
 

@@ -3,7 +3,7 @@ use Prim.Native.Nat.{_-_}
 use native.Mathlib.Omega.{arith}
 use lib.ListN.{length}
 use borrow.Author.Needs.{needs}
-use Rattle.walk.proofs.Quickly.{AllLinking, all-linking, all-linking-on, move-small}
+use Rattle.linking.proofs.Quickly.{AllLinking, all-linking, all-linking-on, move-small}
 use Rattle.walk.proofs.inner_links.Statement.{statement}
 use Rattle.walk.proofs.inner_links.Tie as tie
 

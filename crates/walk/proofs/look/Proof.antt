@@ -4,7 +4,7 @@ use native.Mathlib.Omega.{arith}
 use borrow.Author.Needs.{needs}
 use borrow.Author.Tests.{not-false}
 use Rattle.rounds.proofs.Passing.{few-pairs}
-use Rattle.walk.proofs.Quickly.{look-told}
+use Rattle.linking.proofs.Quickly.{look-told}
 use Rattle.walk.proofs.look.Statement.{statement}
 use Rattle.walk.proofs.look.Tie as tie
 

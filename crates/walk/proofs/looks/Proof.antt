@@ -1,6 +1,6 @@
 -- `walk::looks` meets its contract. The invariant: the rows hold tops and links only. Assumes nothing.
 use borrow.Author.Needs.{needs}
-use Rattle.walk.specs.Quick.{LooksOn}
+use Rattle.linking.specs.Quick.{LooksOn}
 use Rattle.rounds.proofs.Passing.{few-pairs}
 use Rattle.walk.proofs.looks.Statement.{statement}
 use Rattle.walk.proofs.looks.Tie as tie

@@ -2,7 +2,7 @@
 use Prim.Native.Nat.{_-_}
 use borrow.Author.Needs.{needs}
 use Rattle.rounds.proofs.Passing.{few-pairs}
-use Rattle.walk.proofs.Quickly.{Looking, looking, looking-past, looking-on, first-there, second-there}
+use Rattle.linking.proofs.Quickly.{Looking, looking, looking-past, looking-on, first-there, second-there}
 use Rattle.walk.proofs.pass.Statement.{statement}
 use Rattle.walk.proofs.pass.Tie as tie
 

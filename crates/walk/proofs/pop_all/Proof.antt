@@ -5,7 +5,7 @@ use native.Mathlib.Omega.{arith}
 use borrow.Author.Needs.{needs}
 use borrow.Author.Tests.{not-false}
 use Rattle.rounds.proofs.Passing.{few-pairs}
-use Rattle.walk.proofs.Quickly.{PoppingOn, popping-on, tops-on}
+use Rattle.linking.proofs.Quickly.{PoppingOn, popping-on, tops-on}
 use Rattle.walk.proofs.pop_all.Statement.{statement}
 use Rattle.walk.proofs.pop_all.Tie as tie
 

@@ -4,7 +4,7 @@ use Prim.Native.Nat.{_-_}
 use native.Mathlib.Omega.{arith}
 use lib.ListN.{length}
 use borrow.Author.Needs.{needs}
-use Rattle.walk.proofs.Quickly.{PushingOn, pushing-first, push-on, move-small}
+use Rattle.linking.proofs.Quickly.{PushingOn, pushing-first, push-on, move-small}
 use Rattle.walk.proofs.push_all.Statement.{statement}
 use Rattle.walk.proofs.push_all.Tie as tie
 

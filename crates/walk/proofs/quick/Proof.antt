@@ -1,6 +1,6 @@
 -- `walk::quick` meets its contract: from no links to all internals, then looks. Assumes nothing.
 use borrow.Author.Needs.{needs}
-use Rattle.walk.proofs.Quickly.{no-links}
+use Rattle.linking.proofs.Quickly.{no-links}
 use Rattle.walk.proofs.quick.Statement.{statement}
 use Rattle.walk.proofs.quick.Tie as tie
 

@@ -4,7 +4,7 @@ use Prim.Native.Nat.{_-_}
 use native.Mathlib.Omega.{arith}
 use borrow.Author.Needs.{needs}
 use borrow.Author.Tests.{not-false}
-use Rattle.walk.proofs.Quickly.{Spreading, spreading, spread-on}
+use Rattle.linking.proofs.Quickly.{Spreading, spreading, spread-on}
 use Rattle.walk.proofs.spread.Statement.{statement}
 use Rattle.walk.proofs.spread.Tie as tie
 

@@ -1,0 +1,9 @@
+-- The word of a state at the start. Assumes nothing.
+use mathlib.Core.Bool.{true, false}
+use Prim.Native.Nat.{ℕ, _^_}
+use Rattle.limits.specs.Limits.{stateMost}
+use Rattle.format.specs.Reading.{isInitial}
+
+-- a state's first word, by its byte
+unfoldable pub startWord : ℕ → ℕ
+startWord byte = elim (isInitial byte) [ true ↦ 2 ^ stateMost | false ↦ 0 ]

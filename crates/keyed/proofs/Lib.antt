@@ -1,0 +1,4 @@
+pub mod Keys
+pub mod Spans
+pub mod Spanning
+pub mod Walks

@@ -1,0 +1,18 @@
+-- `used::state_in` meets its contract: the first byte. Assumes nothing.
+use borrow.Author.Needs.{needs}
+use Rattle.usage.specs.Uses.{lineOf}
+use Rattle.used.proofs.state_in.Statement.{statement}
+use Rattle.used.proofs.state_in.Tie as tie
+
+shared-slice-read-index : tie.Need-shared-slice-read-index
+shared-slice-read-index c = search needs
+
+index-requires : tie.Need-index-requires
+index-requires c κs = search needs
+
+returns : tie.Need-returns
+unfolding lineOf
+returns c = search needs
+
+pub state-in-spec : {M : Type 1} → statement M
+state-in-spec = tie.close (tie.spec shared-slice-read-index index-requires returns)
