@@ -6,6 +6,9 @@ use crate::plain;
 use basilvault_tests::{flat, random::Random, reference::LARGEST};
 use std::time::Instant;
 
+/// How many links the chain has.
+const LINKS: usize = 700;
+
 /// A list in the making: how many variables are taken, and the words. A variable goes by the literal that says it is true; one more says it is false.
 #[derive(Default)]
 struct List {
@@ -27,9 +30,9 @@ impl List {
     }
 
     /// A chain that x sets off and x false as well: from its front, or with `both` from its back. Its end makes a variable true and false.
-    fn chain(&mut self, x: u16, links: usize, both: bool) -> Vec<u16> {
-        let (chain, z) = (self.take(links), self.take(1)[0]);
-        let (front, back) = (chain[0], chain[links - 1]);
+    fn chain(&mut self, x: u16, both: bool) -> Vec<u16> {
+        let (chain, z) = (self.take(LINKS), self.take(1)[0]);
+        let (front, back) = (chain[0], chain[LINKS - 1]);
         self.clause(&[x + 1, front]);
         self.clause(&[x, if both { back } else { front }]);
         for pair in chain.windows(2) {
@@ -64,11 +67,11 @@ impl List {
 }
 
 /// Clauses that hold by their first literal from the first guess on; or wait, by two literals that are unset throughout.
-fn steady(length: usize, links: usize, both: bool, wait: bool) -> List {
+fn steady(length: usize, both: bool, wait: bool) -> List {
     let mut list = List::default();
     let (guesses, x, held) = (list.take(18), list.take(1)[0], list.take(8));
     held.iter().for_each(|&l| list.clause(&[guesses[0] + 1, l]));
-    let chain = list.chain(x, links, both);
+    let chain = list.chain(x, both);
     let unset = list.take(8);
     list.fill(length, chain, |r| {
         let i = r.below(8);
@@ -77,7 +80,7 @@ fn steady(length: usize, links: usize, both: bool, wait: bool) -> List {
 }
 
 /// Clauses that hold by one of their first four literals, from run to run by another one.
-fn in_turn(length: usize, links: usize) -> List {
+fn in_turn(length: usize) -> List {
     let mut list = List::default();
     let (_, y, x) = (list.take(17), list.take(1)[0], list.take(1)[0]);
     let held = [(); 4].map(|_| list.take(8));
@@ -86,7 +89,7 @@ fn in_turn(length: usize, links: usize) -> List {
             all.iter().for_each(|&l| list.clause(&[a, b, if i == j { l } else { l + 1 }]));
         }
     }
-    let chain = list.chain(x, links, false);
+    let chain = list.chain(x, false);
     list.fill(length, chain, |r| held.iter().map(|all| all[r.below(8)]).collect())
 }
 
@@ -105,18 +108,18 @@ fn row(name: &str, length: usize, list: List) {
     println!("| {name} | {length} | {variables} | {library:.2} | {plain:.2} | {:.2} |", library / plain);
 }
 
-/// A row for each list, by the length of its clauses and of its chain.
+/// A row for each list, by the length of its clauses.
 pub fn print() {
     println!("| clauses | length | variables | library s | plain s | ratio |\n| --- | --- | --- | --- | --- | --- |");
-    for (links, length) in [100, 700].into_iter().flat_map(|links| [2, 3, 4, 6, 10, 30, 100].map(|length| (links, length))) {
+    for length in [2, 3, 6, 10, 100] {
         for (both, ends) in [(false, "one end"), (true, "both ends")] {
-            row(&format!("held, {ends}"), length, steady(length, links, both, false));
+            row(&format!("held, {ends}"), length, steady(length, both, false));
             if length > 2 {
-                row(&format!("waiting, {ends}"), length, steady(length, links, both, true));
+                row(&format!("waiting, {ends}"), length, steady(length, both, true));
             }
         }
         if length > 4 {
-            row("held in turn", length, in_turn(length, links));
+            row("held in turn", length, in_turn(length));
         }
     }
     println!();
