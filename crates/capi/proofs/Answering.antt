@@ -17,7 +17,7 @@ use Rattle.reach.specs.declared.TopWords.{TopWords}
 use Rattle.reach.specs.Tops.{topWords, topsOf, topsValues}
 use Rattle.reach.proofs.Exact.{length-words}
 use Rattle.reach.proofs.Formed.{bounded}
-use Rattle.tops.specs.Sections.{topsFound}
+use Rattle.tops.specs.Steps.{topsFound}
 use Rattle.view.proofs.Handed.{read-as, read-refused}
 use Rattle.tops.proofs.Read.{tops-answer, tops-refused as unread}
 use Rattle.usage.specs.declared.Counted.{Counted}

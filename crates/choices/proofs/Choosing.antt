@@ -20,7 +20,7 @@ use Rattle.format.proofs.Passed.{read-within, formed-tested}
 use Rattle.relations.specs.declared.Checked.{Checked}
 use Rattle.relations.specs.declared.Checked.the-variants.{Accepted, Refused}
 use Rattle.relations.specs.Check.{checkNumber, checkOf}
-use Rattle.relations.specs.Accepting.{IsAccepted}
+use Rattle.relations.specs.Demands.{IsAccepted}
 use Rattle.relations.proofs.Accepted.{accepted, Accepted as Accepted′}
 use Rattle.relations.proofs.Answers.{Answers, passes-by, refuses-by, answers}
 use Rattle.choices.specs.declared.Which.{Which}

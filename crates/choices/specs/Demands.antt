@@ -9,7 +9,7 @@ use Rattle.limits.specs.declared.Limits.{Limits}
 use Rattle.format.specs.Reading.{Readable}
 use Rattle.format.specs.Maps.{classes}
 use Rattle.relations.specs.Check.{checkOf}
-use Rattle.relations.specs.Accepting.{IsAccepted}
+use Rattle.relations.specs.Demands.{IsAccepted}
 use Rattle.choices.specs.declared.Which.the-variants.{Neither}
 use Rattle.choices.specs.declared.Choice.{Choice}
 use Rattle.choices.specs.Choose.{chooseNumber}

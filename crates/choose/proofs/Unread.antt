@@ -4,7 +4,7 @@ use mathlib.Core.List.{List}
 use Prim.Native.Nat.{ℕ}
 use Rattle.limits.specs.declared.Limits.{Limits}
 use Rattle.tops.specs.declared.Examined.{Examined}
-use Rattle.tops.specs.Sections.{examinedOf}
+use Rattle.tops.specs.Steps.{examinedOf}
 use Rattle.relations.proofs.Answers.{check-refused}
 use Rattle.maps.proofs.Checking.{examined-number, unread}
 use Rattle.choices.specs.declared.Which.the-variants.{Neither}

@@ -1,7 +1,7 @@
 // Two maps on the desk: that one of them which the check accepts.
 ghost use mathlib.Core.Path.{_≡_};
 ghost use Rattle.limits.specs.Limits.{standard};
-ghost use Rattle.maps.specs.Sections.{Known, WhereReadable};
+ghost use Rattle.maps.specs.Known.{Known, WhereReadable};
 ghost use Rattle.choices.specs.Choose.{whichOf, chooseNumber, choiceOf, sliceOf, chooseOf};
 ghost use Rattle.choices.specs.Demands.{NumberTells, NeitherPasses, HandedBack};
 use choices::Choice;

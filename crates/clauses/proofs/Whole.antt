@@ -20,11 +20,11 @@ use Rattle.view.specs.Sections.{partOf}
 use Rattle.view.specs.declared.Section.the-variants.{States, Internals, Calls, Returns}
 use Rattle.view.proofs.Parts.{states-at, internals-at, calls-at, returns-at}
 use Rattle.reach.specs.Tops.{topWords, liveReturns}
-use Rattle.tops.specs.Sections.{examinedOf}
+use Rattle.tops.specs.Steps.{examinedOf}
 use Rattle.tops.specs.declared.Examined.{Examined}
 use Rattle.tops.proofs.Loops.{section-within}
 use Rattle.tops.proofs.Read.{sections-read}
-use Rattle.maps.specs.Sections.{Known}
+use Rattle.maps.specs.Known.{Known}
 use Rattle.maps.proofs.Checking.{examined-number}
 use Rattle.encoding.specs.declared.Listed.the-variants.{Refused}
 use Rattle.encoding.specs.Clauses.{lookClauses, transitivity, moveClauses, returnClauses, clauseList, shortList, clauseWords, clausesNumber, ClausesDone, clausesOf}

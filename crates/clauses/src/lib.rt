@@ -4,7 +4,7 @@ ghost use Prim.Native.Nat.{_≤_};
 ghost use lib.ListN.{length};
 ghost use Rattle.limits.specs.Limits.{standard, stateMost};
 ghost use Rattle.format.specs.File.{tableOf, ofStates};
-ghost use Rattle.maps.specs.Sections.{Known};
+ghost use Rattle.maps.specs.Known.{Known};
 ghost use Rattle.encoding.specs.Clauses.{clausesOf, ClausesSays};
 ghost use Rattle.encoding.specs.Demands.{ListSound};
 ghost use Rattle.emit.specs.Emit.{state, Ordered, emit};

@@ -8,6 +8,7 @@ ghost use Rattle.lists.specs.Lists.{any, all, firstFailed};
 ghost use Rattle.format.specs.File.{records};
 ghost use Rattle.format.specs.Reading.{countsFit, stateByteMost, bytesFit, isInitial, recordFits, recordsFit, ascend, orderFits, tableTests};
 ghost use Rattle.view.specs.Sections.{sectioned};
+use casts::wide;
 use keyed::number_at;
 use limits::Limits;
 
@@ -15,13 +16,6 @@ use limits::Limits;
 const MOVES: usize = 1024;
 
 const RETURNS: usize = 4096;
-
-// A byte as an index.
-pub fn wide(x: u8) -> usize
-    ensures { λ r. ⌜ r ≡ x ⌝ }
-{
-    x as usize
-}
 
 // Every byte is below a limit.
 fn all_below(bytes: &[u8], limit: usize) -> bool

@@ -4,15 +4,10 @@ ghost use mathlib.Core.Bool.{true};
 ghost use lib.ListN.{length, getD};
 ghost use Rattle.lists.specs.Lists.{firstFailed};
 ghost use Rattle.scripts.specs.Script.{symbolsFit, tooDeep, scriptTests};
+use casts::wide;
 
 // "up to 64 calls open"
 const OPEN: usize = 64;
-
-fn wide(x: u8) -> usize
-    ensures { λ r. ⌜ r ≡ x ⌝ }
-{
-    x as usize
-}
 
 // 30: every symbol is below the count.
 fn symbols_fit(symbols: &[u8], script: &[u8]) -> bool

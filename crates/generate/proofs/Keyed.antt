@@ -21,7 +21,7 @@ use Rattle.writing.proofs.Keys.{Same, keys-back}
 use Rattle.loads.specs.Loads.{Load, symbolBytes, stateBytes, possible, present, possibleInternals, possibleCalls, possibleReturns, seedCalls, seedReturns, described, describedBytes, recordsFew}
 use Rattle.draws.specs.Draws.{Draws}
 use Rattle.draws.specs.declared.Drawn.{Drawn}
-use Rattle.generate.specs.Sections.{Counts, FewKeys, drawnFor}
+use Rattle.generate.specs.Counts.{Counts, FewKeys, drawnFor}
 use Rattle.loads.proofs.Tuples.{Possible, possible-of}
 use Rattle.loads.proofs.Present.{present-mem}
 

@@ -19,7 +19,7 @@ use Rattle.writing.specs.Keys.{Holds}
 use Rattle.writing.specs.Tables.{keyedTable, writtenFor}
 use Rattle.writing.proofs.Whole.{bytes-long}
 use Rattle.loads.specs.Loads.{Load, symbolBytes, stateBytes, described, describedBytes, sizesFit, recordsFew, generateNumber, generateOf}
-use Rattle.generate.specs.Sections.{Counts, drawnFor}
+use Rattle.generate.specs.Counts.{Counts, drawnFor}
 use Rattle.loads.proofs.Bytes.{length-symbols, length-states}
 use Rattle.loads.proofs.Described.{sizes-sized}
 

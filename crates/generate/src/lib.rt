@@ -4,7 +4,7 @@ ghost use Prim.Native.Nat.{_+_};
 ghost use Rattle.limits.specs.Limits.{standard};
 ghost use Rattle.loads.specs.Loads.{loadOf, sizesFit, generateOf, GenerateSays};
 ghost use Rattle.loads.specs.Demands.{Promises};
-ghost use Rattle.generate.specs.Sections.{Counts, drawnFor};
+ghost use Rattle.generate.specs.Counts.{Counts, drawnFor};
 use draws::collect;
 use limits::Limits;
 use quotients::Written;

@@ -6,7 +6,7 @@ ghost use Rattle.lists.specs.Lists.{over};
 ghost use Rattle.format.specs.File.{bytesOf};
 ghost use Rattle.writing.specs.Tables.{keyedTable, writtenFor};
 ghost use Rattle.loads.specs.Loads.{kindOf, symbolBytes, stateByte, stateBytes};
-ghost use Rattle.generate.specs.Sections.{Counts, FewKeys};
+ghost use Rattle.generate.specs.Counts.{Counts, FewKeys};
 use quotients::Written;
 
 // The byte of a symbol: "numbered in that order".

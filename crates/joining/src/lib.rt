@@ -4,6 +4,7 @@ ghost use Prim.Native.Nat.{_≤_};
 ghost use lib.ListN.{length};
 ghost use Rattle.pairs.specs.Pairs.{pairs};
 ghost use Rattle.joining.specs.Lowest.{LowestJoined, MapOf};
+use casts::wide;
 
 // A class for each of the first states, and how many classes there are.
 pub struct Classes {
@@ -54,12 +55,6 @@ const ITSELF: [u8; 40] = [
     38,
     39,
 ];
-
-fn wide(x: u8) -> usize
-    ensures { λ r. ⌜ r ≡ x ⌝ }
-{
-    x as usize
-}
 
 // For each state the lowest state that is joined to it, or itself: a true variable names a pair.
 fn lowest_joined(values: &[u8], n: u8) -> [u8; 40]

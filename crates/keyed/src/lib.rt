@@ -7,7 +7,7 @@ ghost use Rattle.keyed.specs.Keys.{key, Keyed};
 ghost use Rattle.keyed.specs.Spans.{FirstOf, LastFrom, StartingOf};
 
 // One byte more behind the bytes of a number.
-fn with_byte(number: u32, byte: u8) -> u32
+pub fn with_byte(number: u32, byte: u8) -> u32
     requires { ⌜ number < 16777216 ⌝ }
     ensures { λ r. ⌜ r ≡ number * 256 + byte ⌝ }
 {

@@ -9,14 +9,9 @@ ghost use Rattle.format.specs.File.{records};
 ghost use Rattle.view.specs.Sections.{sectioned};
 ghost use Rattle.scripts.specs.Script.{gain, moved, returned, ended};
 ghost use Rattle.levels.specs.Levels.{Lent, Indexed, Filled, allGain, popped};
+use casts::wide;
 
-// A byte, and an entry of an index, as numbers of the machine.
-pub fn wide(x: u8) -> usize
-    ensures { λ r. ⌜ r ≡ x ⌝ }
-{
-    x as usize
-}
-
+// An entry of an index as a number of the machine.
 fn place(x: u16) -> usize
     ensures { λ r. ⌜ r ≡ x ⌝ }
 {

@@ -21,9 +21,9 @@ use Rattle.view.specs.Sections.{partOf}
 use Rattle.view.specs.declared.Section.the-variants.{States, Internals, Calls, Returns}
 use Rattle.view.proofs.Parts.{states-read, internals-read, calls-read, returns-read}
 use Rattle.tops.specs.declared.Examined.{Examined}
-use Rattle.tops.specs.Sections.{examinedOf}
+use Rattle.tops.specs.Steps.{examinedOf}
 use Rattle.relations.specs.Check.{looksAgree, movesMatched, returnsMatched, mapTests, checkNumber}
-use Rattle.maps.specs.Sections.{Known, Parted, partTests}
+use Rattle.maps.specs.Known.{Known, Parted, partTests}
 use Rattle.matching.specs.Matching.{recordMatched, recordsMatched, Lent}
 
 -- ---- 15 to 20, over the parts of a table

@@ -27,7 +27,7 @@ use Rattle.view.specs.declared.Section.the-variants.{Symbols, States, Internals
 use Rattle.view.proofs.Parts.{symbols-read, states-read, internals-read, calls-read, returns-read}
 use Rattle.reach.specs.Tops.{live, liveReturns}
 use Rattle.relations.specs.Check.{checkNumber}
-use Rattle.maps.specs.Sections.{Known}
+use Rattle.maps.specs.Known.{Known}
 use Rattle.matching.specs.Matching.{kept}
 use Rattle.matching.proofs.Matched.{move-kept, return-kept}
 use Rattle.quotients.specs.Quotient.{image, images, memberHas, classMark, classByte, quotientTable, quotientBytes, quotientNumber, quotientOf}
@@ -40,7 +40,7 @@ use Rattle.writing.specs.Tables.{keyedTable, writtenFor}
 use Rattle.writing.proofs.Keys.{Same, keys-back}
 use Rattle.writing.proofs.Whole.{bytes-long}
 use Rattle.images.proofs.Collecting.{image-bytes}
-use Rattle.quotient.specs.Sections.{Sized, imageKeys, partedQuotient}
+use Rattle.quotient.specs.Parts.{Sized, imageKeys, partedQuotient}
 use Rattle.members.specs.Classes.{classBytes}
 use Rattle.members.proofs.ClassBytes.{length-bytes}
 

@@ -2,11 +2,11 @@
 ghost use mathlib.Core.Path.{_≡_};
 ghost use Rattle.limits.specs.Limits.{standard};
 ghost use Rattle.format.specs.File.{bytesOf};
-ghost use Rattle.maps.specs.Sections.{Known, WhereReadable};
+ghost use Rattle.maps.specs.Known.{Known, WhereReadable};
 ghost use Rattle.quotients.specs.Quotient.{quotientBytes, quotientOf, QuotientSays};
 ghost use Rattle.quotients.specs.Demands.{Promises};
 ghost use Rattle.writing.specs.Tables.{writtenFor};
-ghost use Rattle.quotient.specs.Sections.{Sized, partedQuotient};
+ghost use Rattle.quotient.specs.Parts.{Sized, partedQuotient};
 use format::Starts;
 use images::collect;
 use limits::Limits;

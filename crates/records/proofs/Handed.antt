@@ -28,7 +28,7 @@ use Rattle.relations.specs.Check.{mapTests, checkNumber}
 use Rattle.relations.proofs.Accepted.{accepted}
 use Rattle.relations.proofs.Answers.{tested}
 use Rattle.relations.proofs.Numbered.{classes-few}
-use Rattle.maps.specs.Sections.{Known}
+use Rattle.maps.specs.Known.{Known}
 use Rattle.matching.specs.Matching.{kept}
 use Rattle.matching.proofs.Matched.{move-kept, return-kept}
 use Rattle.fates.specs.declared.Recorded.the-variants.{Counts, Refused}

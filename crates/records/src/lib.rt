@@ -6,7 +6,7 @@ ghost use Rattle.lists.specs.Lists.{over, firstFailed};
 ghost use Rattle.limits.specs.Limits.{standard};
 ghost use Rattle.format.specs.File.{tableOf};
 ghost use Rattle.relations.specs.Check.{mapTests};
-ghost use Rattle.maps.specs.Sections.{Known, WhereReadable};
+ghost use Rattle.maps.specs.Known.{Known, WhereReadable};
 ghost use Rattle.fates.specs.Fates.{fatesOf, recordsOf, RecordsSays};
 ghost use Rattle.fates.specs.Demands.{Promises};
 ghost use Rattle.records.specs.Told.{FittingParts, partedFates, toldFor};

@@ -10,14 +10,14 @@ use Rattle.limits.specs.Limits.{stateMost}
 use Rattle.format.specs.File.{records}
 use Rattle.format.specs.Reading.{ascend}
 use Rattle.reach.specs.Tops.{live}
-use Rattle.tops.specs.Sections.{Section}
+use Rattle.tops.specs.Steps.{StateRecords}
 use Rattle.encoding.specs.Clauses.{returnClause, topStates}
 use Rattle.recordwise.specs.declared.returns.Return.{Return}
 
 -- a section of records of w bytes that ascend and that name states
 pub record Sorted (w : ℕ) (s : List ℕ) : Type 0 where
   pub ascends : ascend (records w s) ≡ true
-  pub names : Section w stateMost s
+  pub names : StateRecords w stateMost s
 
 -- group 5: the clause of a return, a state and a top
 abbrev pub returnOf : List (List ℕ) → Return → ℕ → ℕ → List (List ℕ)

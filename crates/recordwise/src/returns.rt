@@ -9,6 +9,7 @@ ghost use Rattle.format.specs.File.{records};
 ghost use Rattle.encoding.specs.Clauses.{topStates};
 ghost use Rattle.emit.specs.Emit.{state, Ordered, emit};
 ghost use Rattle.recordwise.specs.Sorted.{Sorted, returnOf, liveRecord, returnClausesBy};
+use casts::wide;
 use emit::Tally;
 use emit::no_literals;
 use keyed::return_key;
@@ -24,12 +25,6 @@ pub struct Return {
     pub symbol: u8,
     pub under: u8,
     pub to: u8,
-}
-
-fn wide(x: u8) -> usize
-    ensures { λ r. ⌜ r ≡ x ⌝ }
-{
-    x as usize
 }
 
 // q = p with u = s

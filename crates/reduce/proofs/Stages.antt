@@ -33,7 +33,7 @@ use Rattle.format.proofs.Facts.{most-states}
 use Rattle.view.specs.Sections.{ReadAs, partOf}
 use Rattle.view.specs.declared.Section.the-variants.{States}
 use Rattle.view.proofs.Parts.{states-read}
-use Rattle.maps.specs.Sections.{Known}
+use Rattle.maps.specs.Known.{Known}
 use Rattle.encoding.specs.Clauses.{clauseList, shortList, shortWords, ClausesDone}
 use Rattle.encoding.specs.Maps.{mapOf}
 use Rattle.encoding.specs.declared.Listed.{Listed}

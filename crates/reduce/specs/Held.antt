@@ -10,7 +10,7 @@ use Rattle.cnf.specs.Trials.{notFalse}
 use Rattle.pairs.specs.Pairs.{pairs}
 use Rattle.format.specs.File.{Table, tableOf}
 use Rattle.format.specs.Language.{count}
-use Rattle.maps.specs.Sections.{WhereReadable}
+use Rattle.maps.specs.Known.{WhereReadable}
 use Rattle.encoding.specs.Clauses.{shortWords}
 use Rattle.encoding.specs.Maps.{mapOf}
 use Rattle.turns.specs.declared.Ending.{Ending}

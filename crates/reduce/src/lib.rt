@@ -6,7 +6,7 @@ ghost use Rattle.limits.specs.Limits.{standard};
 ghost use Rattle.format.specs.File.{tableOf};
 ghost use Rattle.format.specs.Reading.{Readable};
 ghost use Rattle.format.specs.Language.{count};
-ghost use Rattle.maps.specs.Sections.{Known, WhereReadable};
+ghost use Rattle.maps.specs.Known.{Known, WhereReadable};
 ghost use Rattle.encoding.specs.Clauses.{shortWords};
 ghost use Rattle.encoding.specs.Maps.{mapOf};
 ghost use Rattle.reductions.specs.Reduce.{Reduced, triedOfTable, deliver, afterSearch, reduceOf, ReduceSays};

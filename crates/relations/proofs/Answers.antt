@@ -13,7 +13,7 @@ use Rattle.format.specs.Maps.{classes, Proper, RaqMap}
 use Rattle.relations.specs.declared.Checked.{Checked}
 use Rattle.relations.specs.declared.Checked.the-variants.{Accepted, Refused}
 use Rattle.relations.specs.Check.{mapTests, checkNumber, checkOf, checkedNumber, checkedValues, CheckSays}
-use Rattle.relations.specs.Accepting.{IsAccepted, AcceptsExactly}
+use Rattle.relations.specs.Demands.{IsAccepted, AcceptsExactly}
 use Rattle.relations.proofs.Accepted.{accepted, accepts}
 
 module _ (L : Limits) (b m : List ℕ) where

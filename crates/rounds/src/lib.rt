@@ -5,7 +5,6 @@ mod rows;
 pub use pairs::Kind;
 pub use pairs::by_moves;
 pub use pairs::by_returns;
-pub use pairs::wide;
 pub use rows::any;
 pub use rows::held;
 pub use rows::join;

@@ -9,17 +9,12 @@ use super::rows::any;
 use super::rows::held;
 use super::rows::join;
 use super::rows::put;
+use casts::wide;
 
 // The moves that push nothing, or one state.
 pub enum Kind {
     Internal,
     Call,
-}
-
-pub fn wide(x: u8) -> usize
-    ensures { λ r. ⌜ r ≡ x ⌝ }
-{
-    x as usize
 }
 
 // By an internal from u to v the tops of u are tops of v; by a call u is one, if u has a top.

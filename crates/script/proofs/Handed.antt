@@ -24,7 +24,7 @@ use Rattle.view.specs.declared.Section.the-variants.{Symbols, States, Internals
 use Rattle.view.proofs.Parts.{symbols-read, states-read, internals-read, calls-read, returns-read}
 use Rattle.reach.specs.Tops.{startWords}
 use Rattle.scripts.specs.Script.{Levels, behind, ended, reads, started, scriptTests}
-use Rattle.script.specs.Sections.{Sections, Fits, sectionsRead}
+use Rattle.script.specs.Parts.{LentParts, Fits, sectionsRead}
 use Rattle.levels.specs.Levels.{Lent}
 
 -- what is read does not hang on the version
@@ -69,7 +69,7 @@ lent e most f up few fit =
 
 module _ (b : List ℕ) {s : Starts} (h : HasRead b s) {symbols states internals calls returns : List ℕ}
     (e0 : symbols ≡ partOf b s Symbols) (e1 : states ≡ partOf b s States) (e2 : internals ≡ partOf b s Internals) (e3 : calls ≡ partOf b s Calls) (e4 : returns ≡ partOf b s Returns) where
-  pub parts-sections : Sections states internals calls returns
+  pub parts-sections : LentParts states internals calls returns
   parts-sections =
       let wf = read-well-formed (h .limits) b (h .known .readable) in
       let c = formed-tested wf in

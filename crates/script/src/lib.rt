@@ -7,8 +7,9 @@ ghost use Rattle.limits.specs.Limits.{standard};
 ghost use Rattle.format.specs.File.{tableOf};
 ghost use Rattle.view.specs.Sections.{HasRead};
 ghost use Rattle.scripts.specs.Script.{scriptTests, answerBy, scriptOf, ScriptSays};
-ghost use Rattle.script.specs.Sections.{Sections, Fits, sectionsRead};
+ghost use Rattle.script.specs.Parts.{LentParts, Fits, sectionsRead};
 ghost use Rattle.scripts.specs.Demands.{ScriptExact};
+use casts::wide;
 use depths::script_number;
 use format::Reading;
 use format::Starts;
@@ -16,7 +17,6 @@ use levels::ended;
 use levels::moved;
 use levels::returned;
 use levels::starts_of;
-use levels::wide;
 use limits::Limits;
 use scripts::Read;
 use view::Section;
@@ -30,7 +30,7 @@ fn reads(
     returns: &[u8],
     script: &[u8],
 ) -> bool
-    requires { ⌜ Sections (now states) (now internals) (now calls) (now returns) × (length (now symbols) ≤ 64) × Fits (now symbols) (now script) ⌝ }
+    requires { ⌜ LentParts (now states) (now internals) (now calls) (now returns) × (length (now symbols) ≤ 64) × Fits (now symbols) (now script) ⌝ }
     ensures { λ r. ⌜ r ≡ sectionsRead (now (symbols .entry)) (now (states .entry)) (now (internals .entry)) (now (calls .entry)) (now (returns .entry)) (now (script .entry)) ⌝ }
 {
     let n = states.len();

@@ -22,7 +22,7 @@ use Rattle.reach.specs.Tops.{add, live, byInternals, byCalls, byReturns, round,
 use Rattle.tops.specs.declared.Kind.{Kind}
 use Rattle.tops.specs.declared.Kind.the-variants.{Internal, Call, Return}
 use Rattle.reach.proofs.Walks.{length-add}
-use Rattle.tops.specs.Sections.{Section, widthOf, stepBy, byRecords, total}
+use Rattle.tops.specs.Steps.{StateRecords, widthOf, stepBy, byRecords, total}
 
 -- ---- records
 
@@ -62,7 +62,7 @@ pub record Walking (k : Kind) (s before : List ℕ) (at : ℕ) (words : List ℕ
   pub long : length words ≡ length before
   pub meets : byRecords k (records (widthOf k) s) before ≡ byRecords k (records (widthOf k) (drop at s)) words
 
-pub walking : (k : Kind) {s : List ℕ} (f : List ℕ) → Section (widthOf k) stateMost s → Walking k s f 0 f
+pub walking : (k : Kind) {s : List ℕ} (f : List ℕ) → StateRecords (widthOf k) stateMost s → Walking k s f 0 f
 walking k f h = record { inside = omega arith; whole = rw sub-zero (h .whole); states = h .states; long = refl; meets = refl }
 
 -- a step keeps the number of words
@@ -172,7 +172,7 @@ ones-total k (w ∷ ws) = ap (λ n. onesIn k w + n) (ones-total k ws)
 
 -- ---- the rounds
 
-pub section-within : {w n : ℕ} {s : List ℕ} → n ≤ stateMost → Section w n s → Section w stateMost s
+pub section-within : {w n : ℕ} {s : List ℕ} → n ≤ stateMost → StateRecords w n s → StateRecords w stateMost s
 section-within h k = record { whole = k .whole; states = λ r m i n l. let g = k .states r m i n l in omega arith }
 
 -- the words that are to come out, and those that so many rounds are still to be made from

@@ -21,7 +21,7 @@ use Rattle.reach.specs.Tops.{add, live, byInternals, byCalls, byReturns, round,
 use Rattle.reach.proofs.Bounded.{Bounded, Moves, Pops}
 use Rattle.reach.proofs.Count.{count-ones, ones-first}
 use Rattle.reach.proofs.Walks.{internalStep, callStep, returnStep, walk, round-walk, Grows, internal-grows, call-grows, return-grows, walk-wide}
-use Rattle.tops.specs.Sections.{Section, Sections, topsFound}
+use Rattle.tops.specs.Steps.{StateRecords, StateParts, topsFound}
 
 same-append : (f g z : List ℕ) → length f ≡ length g → same (f ++ z) (g ++ z) ≡ same f g
 unfolding same
@@ -107,23 +107,23 @@ words-padded {most} {t} bounded = rounds-padded (most - count t) bounded (suc (c
 
 -- ---- the sections that the code is lent
 
-moves-of : {n : ℕ} {s : List ℕ} → Section 3 n s → (r : List ℕ) → List·Memᴰ r (records 3 s) → Moves n r
+moves-of : {n : ℕ} {s : List ℕ} → StateRecords 3 n s → (r : List ℕ) → List·Memᴰ r (records 3 s) → Moves n r
 moves-of {n} {s} h r m = record { wide = records-wide 3 s r m; from = h .states r m 0 (λ e. omega arith) (omega arith); to = h .states r m 2 (λ e. omega arith) (omega arith) }
 
-pops-of : {n : ℕ} {s : List ℕ} → Section 4 n s → (r : List ℕ) → List·Memᴰ r (records 4 s) → Pops n r
+pops-of : {n : ℕ} {s : List ℕ} → StateRecords 4 n s → (r : List ℕ) → List·Memᴰ r (records 4 s) → Pops n r
 pops-of {n} {s} h r m = record { wide = records-wide 4 s r m; from = h .states r m 0 (λ e. omega arith) (omega arith); under = h .states r m 2 (λ e. omega arith) (omega arith); to = h .states r m 3 (λ e. omega arith) (omega arith) }
 
-pub sections-bounded : {s i c r : List ℕ} → Sections s i c r → Bounded stateMost (sectioned 0 [] s i c r)
+pub sections-bounded : {s i c r : List ℕ} → StateParts s i c r → Bounded stateMost (sectioned 0 [] s i c r)
 unfolding sectioned
 sections-bounded h = record { states = h .few; internals = moves-of (h .internals-whole); calls = moves-of (h .calls-whole); returns = pops-of (h .returns-whole) }
 
 -- the words that the code starts with, and those that its rounds come to
-pub words-made : {s i c r start end : List ℕ} → Sections s i c r → start ≡ startWords stateMost (sectioned 0 [] s [] [] []) ++ replicate (stateMost - length s) 0 → end ≡ rounds (suc (length s * suc (length s))) (sectioned 0 [] s i c r) start → end ≡ topWords (sectioned 0 [] s i c r)
+pub words-made : {s i c r start end : List ℕ} → StateParts s i c r → start ≡ startWords stateMost (sectioned 0 [] s [] [] []) ++ replicate (stateMost - length s) 0 → end ≡ rounds (suc (length s * suc (length s))) (sectioned 0 [] s i c r) start → end ≡ topWords (sectioned 0 [] s i c r)
 unfolding startWords sectioned
 words-made {s} {i} {c} {r} h e f = f ∙ ap (rounds (suc (length s * suc (length s))) (sectioned 0 [] s i c r)) e ∙ words-padded (sections-bounded h)
 
 -- .. and the answer made of them
-pub answer-made : {s i c r words : List ℕ} {found : ℕ} → Sections s i c r → words ≡ topWords (sectioned 0 [] s i c r) → found ≡ onesOver 64 (take (length s) words) → record { number = 0; words = words; found = found } ≡ topsFound (sectioned 0 [] s i c r)
+pub answer-made : {s i c r words : List ℕ} {found : ℕ} → StateParts s i c r → words ≡ topWords (sectioned 0 [] s i c r) → found ≡ onesOver 64 (take (length s) words) → record { number = 0; words = words; found = found } ≡ topsFound (sectioned 0 [] s i c r)
 unfolding topsFound sectioned
 answer-made {s} h e f =
     let n = f ∙ ap (λ (ws : List ℕ). onesOver 64 (take (length s) ws)) e ∙ ones-first (sections-bounded h) 64 ∙ count-ones (sections-bounded h) 64 (omega arith) in

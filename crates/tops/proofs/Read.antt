@@ -14,7 +14,7 @@ use Rattle.limits.specs.Limits.{stateMost}
 use Rattle.format.specs.File.{Table, trailer, start, tableOf}
 use Rattle.format.specs.Reading.{readNumber, Readable, readOf}
 use Rattle.format.specs.declared.Starts.{Starts}
-use Rattle.format.specs.declared.Reading.the-variants.{Sections as SectionsAt, Refused as RefusedBy}
+use Rattle.format.specs.declared.Reading.the-variants.{StateParts as SectionsAt, Refused as RefusedBy}
 use Rattle.format.proofs.Passed.{ReadPasses, read-passed}
 use Rattle.format.proofs.Bytes.{length-between, length-from, read-well-formed}
 use Rattle.format.proofs.Facts.{internals-fit, calls-fit, returns-fit, most-states}
@@ -26,7 +26,7 @@ use Rattle.reach.specs.Tops.{round, rounds, startWords, topWords, topWordsAt, t
 use Rattle.reach.specs.Demands.{TopsExact}
 use Rattle.reach.specs.declared.TopWords.{TopWords}
 use Rattle.reach.proofs.Theorems.{tops-exact}
-use Rattle.tops.specs.Sections.{Sections, topsFound, examinedOf}
+use Rattle.tops.specs.Steps.{StateParts, topsFound, examinedOf}
 use Rattle.tops.specs.declared.Examined.{Examined}
 
 -- ---- the tops do not look at the version and the symbols
@@ -59,7 +59,7 @@ module _ (L : Limits) (b : List ℕ) (readable : Readable L b) where
   p : ReadPasses L b
   p = read-passed L b readable
 
-  pub sections-read : Sections (slice (start b 1) (start b 2) b) (slice (start b 2) (start b 3) b) (slice (start b 3) (start b 4) b) (slice (start b 4) (trailer b) b)
+  pub sections-read : StateParts (slice (start b 1) (start b 2) b) (slice (start b 2) (start b 3) b) (slice (start b 3) (start b 4) b) (slice (start b 4) (trailer b) b)
   unfolding tableOf
   sections-read =
       let wf = read-well-formed L b readable in
@@ -79,7 +79,7 @@ tops-read b = let t = tableOf b in found-alike (t .states) (t .internals) (t .ca
 
 module _ (b : List ℕ) {s : Starts} (h : HasRead b s) {states internals calls returns : List ℕ}
     (e1 : states ≡ partOf b s States) (e2 : internals ≡ partOf b s Internals) (e3 : calls ≡ partOf b s Calls) (e4 : returns ≡ partOf b s Returns) where
-  pub parts-sections : Sections states internals calls returns
+  pub parts-sections : StateParts states internals calls returns
   parts-sections = let starts = h .known .starts in rw (e1 ∙ states-at b starts, e2 ∙ internals-at b starts, e3 ∙ calls-at b starts, e4 ∙ returns-at b starts) (sections-read (h .limits) b (h .known .readable))
 
   pub parts-tops : topsFound (sectioned 0 [] states internals calls returns) ≡ topsFound (tableOf b)

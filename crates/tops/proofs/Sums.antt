@@ -21,7 +21,7 @@ use Rattle.view.specs.Sections.{sectioned}
 use Rattle.reach.specs.Tops.{add, live, byInternals, byCalls, byReturns, round, startWords}
 use Rattle.reach.proofs.Bounded.{Bounded}
 use Rattle.reach.proofs.Walks.{internalStep, callStep, returnStep, round-walk, walk-keeps, length-add}
-use Rattle.tops.specs.Sections.{Sections, Small, total, sumOf}
+use Rattle.tops.specs.Steps.{StateParts, Small, total, sumOf}
 use Rattle.tops.proofs.Padded.{sections-bounded}
 use Rattle.tops.proofs.Loops.{Resting, rest-on, rested}
 
@@ -99,7 +99,7 @@ sum-tells (x ∷ f) (y ∷ g) l h e =
     let rest = sum-tells f g (omega arith) (λ q. h (suc q)) (omega arith) in
     λ i. here i ∷ rest i
 
-module _ {s i c r f g : List ℕ} (h : Sections s i c r) (small : Small f) (e : g ≡ round (sectioned 0 [] s i c r) f) where
+module _ {s i c r f g : List ℕ} (h : StateParts s i c r) (small : Small f) (e : g ≡ round (sectioned 0 [] s i c r) f) where
   pub small-on : Small g
   small-on = rw e (round-grown f (sections-bounded h) small .small)
 
@@ -142,7 +142,7 @@ pub record Told (t : Table) (end words : List ℕ) (left sum : ℕ) : Type 0 whe
   pub small : Small words
   pub summed : sum ≡ sumOf words
 
-module _ {s i c r end words new : List ℕ} {left sum : ℕ} (p : Told (sectioned 0 [] s i c r) end words left sum) (h : Sections s i c r) (l : 0 < left) (e : new ≡ round (sectioned 0 [] s i c r) words) where
+module _ {s i c r end words new : List ℕ} {left sum : ℕ} (p : Told (sectioned 0 [] s i c r) end words left sum) (h : StateParts s i c r) (l : 0 < left) (e : new ≡ round (sectioned 0 [] s i c r) words) where
   pub told-small : Small new
   told-small = small-on h (p .small) e
 

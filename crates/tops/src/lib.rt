@@ -10,7 +10,8 @@ ghost use Rattle.format.specs.File.{records, tableOf};
 ghost use Rattle.view.specs.Sections.{sectioned, HasRead};
 ghost use Rattle.reach.specs.Tops.{add, rounds, topWords, topsOf};
 ghost use Rattle.reach.specs.Demands.{TopsExact};
-ghost use Rattle.tops.specs.Sections.{Section, Sections, Small, sumOf, widthOf, stepBy, byRecords, topsFound, examinedOf};
+ghost use Rattle.tops.specs.Steps.{StateRecords, StateParts, Small, sumOf, widthOf, stepBy, byRecords, topsFound, examinedOf};
+use casts::wide;
 use format::Reading;
 use format::Starts;
 use initials::bit;
@@ -31,12 +32,6 @@ enum Kind {
     Internal,
     Call,
     Return,
-}
-
-fn wide(x: u8) -> usize
-    ensures { λ r. ⌜ r ≡ x ⌝ }
-{
-    x as usize
 }
 
 // Top x is in word q.
@@ -93,7 +88,7 @@ fn step(kind: Kind, from: usize, under: usize, to: usize, words: &mut [u64])
 
 // The records of a section, in file order.
 fn by_records(kind: Kind, section: &[u8], words: &mut [u64])
-    requires { ⌜ Section (widthOf kind) 40 (now section) × (length (now words) ≡ 40) ⌝ }
+    requires { ⌜ StateRecords (widthOf kind) 40 (now section) × (length (now words) ≡ 40) ⌝ }
     ensures { λ _. ⌜ now (words .exit) ≡ byRecords kind (records (widthOf kind) (now (section .entry))) (now (words .entry)) ⌝ }
 {
     let width = width_of(kind);
@@ -124,7 +119,7 @@ fn sum_of(words: &[u64]) -> u64
 
 // All records pass until a round changes nothing: words only gain tops, so their sum tells. So many rounds are enough (reach/proofs/Exact).
 fn fixpoint(states: &[u8], internals: &[u8], calls: &[u8], returns: &[u8], words: &mut [u64])
-    requires { ⌜ Sections (now states) (now internals) (now calls) (now returns) × Small (now words) ⌝ }
+    requires { ⌜ StateParts (now states) (now internals) (now calls) (now returns) × Small (now words) ⌝ }
     ensures { λ _. ⌜
         now (words .exit)
         ≡ rounds (suc (length (now (states .entry)) * suc (length (now (states .entry)))))
@@ -148,7 +143,7 @@ fn fixpoint(states: &[u8], internals: &[u8], calls: &[u8], returns: &[u8], words
 
 // The top words of the table with these sections.
 fn words_of(states: &[u8], internals: &[u8], calls: &[u8], returns: &[u8], words: &mut [u64])
-    requires { ⌜ Sections (now states) (now internals) (now calls) (now returns) × (length (now words) ≡ 40) ⌝ }
+    requires { ⌜ StateParts (now states) (now internals) (now calls) (now returns) × (length (now words) ≡ 40) ⌝ }
     ensures { λ _. ⌜ now (words .exit) ≡ topWords (sectioned 0 [] (now (states .entry)) (now (internals .entry)) (now (calls .entry)) (now (returns .entry))) ⌝ }
 {
     start_words(states, words);
@@ -178,7 +173,7 @@ fn count_tops(words: &[u64], n: usize) -> u32
 
 // The top words of the table with these sections, and the number of tops.
 fn tops_of(states: &[u8], internals: &[u8], calls: &[u8], returns: &[u8], words: &mut [u64]) -> u32
-    requires { ⌜ Sections (now states) (now internals) (now calls) (now returns) × (length (now words) ≡ 40) ⌝ }
+    requires { ⌜ StateParts (now states) (now internals) (now calls) (now returns) × (length (now words) ≡ 40) ⌝ }
     ensures { λ r. ⌜
         record { number = 0; words = now (words .exit); found = r }
         ≡ topsFound (sectioned 0 [] (now (states .entry)) (now (internals .entry)) (now (calls .entry)) (now (returns .entry))) ⌝ }

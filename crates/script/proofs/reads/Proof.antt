@@ -9,7 +9,7 @@ use Rattle.scripts.specs.Script.{moved, returned, started, ended}
 use Rattle.levels.proofs.Index.{lent-more}
 use Rattle.script.proofs.Walking.{Walking, walking, walked, walked-open, room, walk-internal, walk-call, walk-none, walk-return}
 use Rattle.depths.proofs.Depths.{symbol-inside}
-use Rattle.script.specs.Sections.{sectionsRead}
+use Rattle.script.specs.Parts.{sectionsRead}
 use Rattle.view.specs.Sections.{sectioned}
 use lib.ListN.{length, getD}
 use Prim.Native.Nat.{_-_}

@@ -1,7 +1,7 @@
 -- `tops::step` meets its contract. Assumes nothing.
 use borrow.Author.Needs.{needs}
 use borrow.Author.Tests.{eq-eqb, ne-eqb}
-use Rattle.tops.specs.Sections.{stepBy}
+use Rattle.tops.specs.Steps.{stepBy}
 use Rattle.tops.proofs.step.Statement.{statement}
 use Rattle.tops.proofs.step.Tie as tie
 

@@ -5,7 +5,7 @@ use lib.Seq.{take-all}
 use Prim.Native.Nat.{suc, _-_, _^_}
 use native.Mathlib.Omega.{arith}
 use Rattle.limits.specs.Limits.{stateMost}
-use Rattle.tops.specs.Sections.{sumOf}
+use Rattle.tops.specs.Steps.{sumOf}
 use Rattle.tops.proofs.Loops.{Summing, summing, sum-on, sum-fits, summed}
 use Rattle.tops.proofs.sum_of.Statement.{statement}
 use Rattle.tops.proofs.sum_of.Tie as tie

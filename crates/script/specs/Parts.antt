@@ -10,7 +10,7 @@ use Rattle.levels.specs.Levels.{Lent}
 use Rattle.scripts.specs.Script.{reads, started, symbolsFit, tooDeep}
 
 -- at most 40 states, and such records
-pub record Sections (states internals calls returns : List ℕ) : Type 0 where
+pub record LentParts (states internals calls returns : List ℕ) : Type 0 where
   pub few : length states ≤ stateMost
   pub internals-lent : Lent 3 (length states) internals
   pub calls-lent : Lent 3 (length states) calls

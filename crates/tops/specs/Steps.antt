@@ -18,7 +18,7 @@ use Rattle.tops.specs.declared.Kind.{Kind}
 use Rattle.tops.specs.declared.Kind.the-variants.{Internal, Call, Return}
 
 -- a whole number of records of w bytes, of which all but the second are below n
-pub record Section (w n : ℕ) (s : List ℕ) : Type 0 where
+pub record StateRecords (w n : ℕ) (s : List ℕ) : Type 0 where
   pub whole : length s % w ≡ 0
   pub states : (r : List ℕ) → List·Memᴰ r (records w s) → (i : ℕ) → i ≢ 1 → i < w → getD r i 0 < n
 
@@ -41,11 +41,11 @@ byRecords Call rs f = byCalls rs f
 byRecords Return rs f = byReturns rs f
 
 -- at most 40 states, and records that name states
-pub record Sections (states internals calls returns : List ℕ) : Type 0 where
+pub record StateParts (states internals calls returns : List ℕ) : Type 0 where
   pub few : length states ≤ stateMost
-  pub internals-whole : Section 3 (length states) internals
-  pub calls-whole : Section 3 (length states) calls
-  pub returns-whole : Section 4 (length states) returns
+  pub internals-whole : StateRecords 3 (length states) internals
+  pub calls-whole : StateRecords 3 (length states) calls
+  pub returns-whole : StateRecords 4 (length states) returns
 
 -- a word for each possible state, none with a bit past bottom's
 pub record Small (f : List ℕ) : Type 0 where
