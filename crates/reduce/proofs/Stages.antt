@@ -40,10 +40,10 @@ use Rattle.encoding.specs.declared.Listed.{Listed}
 use Rattle.encoding.specs.declared.Listed.the-variants.{List as Words, Refused as NotListed}
 use Rattle.encoding.proofs.Short.{short-formed, short-tried}
 use Rattle.clauses.specs.Whole.{listedBy}
-use Rattle.turns.specs.Turns.{noneSet, Fresh, EndsWith}
+use Rattle.turning.specs.Turns.{noneSet, Fresh, EndsWith}
 use Rattle.rows.specs.Conclusions.{withTriangles}
-use Rattle.turns.specs.declared.Ending.{Ending}
-use Rattle.turns.specs.declared.Ending.the-variants.{Found, Absent, Spent}
+use Rattle.turning.specs.declared.Ending.{Ending}
+use Rattle.turning.specs.declared.Ending.the-variants.{Found, Absent, Spent}
 use Rattle.search.proofs.Answering.{prefix-is, prefix-values}
 use Rattle.quotients.specs.Quotient.{quotientNumber, QuotientDone, quotientOf}
 use Rattle.quotients.specs.declared.Written.{Written}

@@ -13,8 +13,8 @@ use Rattle.format.specs.Language.{count}
 use Rattle.maps.specs.Known.{WhereReadable}
 use Rattle.encoding.specs.Clauses.{shortWords}
 use Rattle.encoding.specs.Maps.{mapOf}
-use Rattle.turns.specs.declared.Ending.{Ending}
-use Rattle.turns.specs.declared.Ending.the-variants.{Found, Absent, Spent}
+use Rattle.turning.specs.declared.Ending.{Ending}
+use Rattle.turning.specs.declared.Ending.the-variants.{Found, Absent, Spent}
 use Rattle.reductions.specs.Reduce.{joinedPairs, Reduced}
 use Rattle.reductions.specs.declared.Reduction.{Reduction}
 use Rattle.reduce.specs.declared.Made.{Made}

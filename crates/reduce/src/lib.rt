@@ -19,7 +19,7 @@ use joining::map_of;
 use limits::Limits;
 use quotients::Written;
 use reductions::Reduction;
-use turns::Ending;
+use turning::Ending;
 use view::Section;
 
 // The end of a search as its guesses, and whether none exists or the budget is spent.

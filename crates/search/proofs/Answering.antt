@@ -11,12 +11,12 @@ use Rattle.cnf.specs.Clauses.{clausesIn, whole}
 use Rattle.cnf.specs.Search.{solved, none-exists, spent, searchFrom}
 use Rattle.cnf.specs.Trials.{searchTried}
 use Rattle.cnf.specs.Closing.{Formed}
-use Rattle.turns.specs.declared.Ending.{Ending}
-use Rattle.turns.specs.declared.Ending.the-variants.{Found, Absent, Spent}
+use Rattle.turning.specs.declared.Ending.{Ending}
+use Rattle.turning.specs.declared.Ending.the-variants.{Found, Absent, Spent}
 use Rattle.rows.specs.Conclusions.{withTriangles}
-use Rattle.turns.specs.Turns.{noneSet, Fresh, EndsWith, outcomeOf}
+use Rattle.turning.specs.Turns.{noneSet, Fresh, EndsWith, outcomeOf}
 use Rattle.conclude.proofs.Triangles.{with-none}
-use Rattle.turns.proofs.Ends.{ends-outcome}
+use Rattle.turning.proofs.Ends.{ends-outcome}
 
 -- ---- the values and the outcome
 

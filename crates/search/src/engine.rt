@@ -10,7 +10,8 @@ ghost use Rattle.rows.specs.Conclusions.{withTriangles};
 ghost use Rattle.rows.specs.Rows.{Rows};
 ghost use Rattle.search.specs.Room.{WordRoom};
 ghost use Rattle.tallies.specs.Tallies.{Tallied};
-ghost use Rattle.turns.specs.Turns.{Fresh, Begun, Rested, Prepared, EndsWith};
+ghost use Rattle.turning.specs.Turns.{Fresh, Begun, Rested, EndsWith};
+ghost use Rattle.turns.specs.Preparing.{Prepared};
 use occurrences::index;
 use occurrences::no_firsts;
 use pairs::pair_table;
@@ -21,7 +22,7 @@ use sifting::lighten;
 use sifting::sift;
 use tallies::tally;
 use trial::not_false;
-use turns::Ending;
+use turning::Ending;
 use turns::places;
 use turns::turns;
 

@@ -6,12 +6,12 @@ ghost use Rattle.limits.specs.Limits.{standard, limitsFit};
 ghost use Rattle.pairs.specs.Pairs.{pairs};
 ghost use Rattle.solutions.specs.Answers.{Searched, searchAt, searchOf, SearchSays};
 ghost use Rattle.solutions.specs.Demands.{SearchSound};
-ghost use Rattle.turns.specs.Turns.{noneSet};
+ghost use Rattle.turning.specs.Turns.{noneSet};
 use fits::list_fits;
 use limits::Limits;
 use limits::limits_fit;
 use solutions::Solution;
-use turns::Ending;
+use turning::Ending;
 
 mod engine;
 

@@ -17,8 +17,9 @@ use Rattle.tallies.specs.Behind.{Behind}
 use Rattle.tallies.proofs.Lagging.{behind-guess, behind-grown, behind-rested}
 use Rattle.propagate.specs.Sinking.{Room}
 use Rattle.restore.specs.Restoring.{Lags, Passed, Sized}
-use Rattle.turns.specs.Turns.{NextUnset, Prepared, TalliedIf, CaughtIf}
-use Rattle.turns.proofs.Ends.{Turning, after-size, after-count, after-places, counted-before, room-left, list-formed}
+use Rattle.turning.specs.Turns.{NextUnset}
+use Rattle.turning.proofs.Ends.{Turning, after-size, after-count, after-places, counted-before, room-left, list-formed}
+use Rattle.turns.specs.Preparing.{Prepared, TalliedIf, CaughtIf}
 
 -- the latest guess is at the place where the values were last closed, or before it
 pub record Marked (ms : List ℕ) (depth at : ℕ) : Type 0 where

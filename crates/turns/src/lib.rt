@@ -8,7 +8,8 @@ ghost use Rattle.rows.specs.Conclusions.{withTriangles};
 ghost use Rattle.rows.specs.Rows.{Rows};
 ghost use Rattle.rows.specs.Trail.{Ready, Queue, Settles};
 ghost use Rattle.restore.specs.Restoring.{Lags};
-ghost use Rattle.turns.specs.Turns.{NextUnset, Rested, Prepared, TalliedIf, CaughtIf, EndsWith};
+ghost use Rattle.turning.specs.Turns.{NextUnset, Rested, EndsWith};
+ghost use Rattle.turns.specs.Preparing.{Prepared, TalliedIf, CaughtIf};
 use conclude::Reached;
 use passes::settle;
 use propagate::settle_indexed;
@@ -17,13 +18,7 @@ use restore::retreat;
 use rows::force;
 use rows::wide;
 use trial::walk_back;
-
-// How the search ends, with the guesses made. The values left are those found, or where the budget is spent the trial that is held.
-pub enum Ending {
-    Found(u64),
-    Absent(u64),
-    Spent(u64),
-}
+use turning::Ending;
 
 // Room for 780 places.
 pub fn places() -> [u16; 780]

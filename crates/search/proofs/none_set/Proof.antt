@@ -1,6 +1,6 @@
 -- `search::none_set` meets its contract. Assumes nothing.
 use mathlib.Core.Path.{refl}
-use Rattle.turns.specs.Turns.{noneSet}
+use Rattle.turning.specs.Turns.{noneSet}
 use Rattle.search.proofs.none_set.Statement.{statement}
 use Rattle.search.proofs.none_set.Tie as tie
 

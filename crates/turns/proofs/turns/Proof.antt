@@ -10,7 +10,7 @@ use Rattle.cnf.specs.Trials.{notFalse}
 use Rattle.rows.specs.Conclusions.{withTriangles}
 use Rattle.rows.specs.Rows.{Rows}
 use Rattle.restore.specs.Restoring.{Lags}
-use Rattle.turns.proofs.Ends as laws
+use Rattle.turning.proofs.Ends as laws
 use Rattle.turns.proofs.Wording as wording
 use Rattle.turns.proofs.turns.Statement.{statement}
 use Rattle.turns.proofs.turns.Tie as tie

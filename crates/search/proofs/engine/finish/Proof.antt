@@ -1,5 +1,5 @@
 -- `search::engine::finish` meets its contract: the first closing ends the search, or the turns go on from there. Assumes nothing.
-use Rattle.turns.proofs.Ends as laws
+use Rattle.turning.proofs.Ends as laws
 use borrow.Author.Needs.{needs}
 use Rattle.search.proofs.engine.finish.Statement.{statement}
 use Rattle.search.proofs.engine.finish.Tie as tie

@@ -1,5 +1,5 @@
 -- `search::engine::solve` meets its contract. Assumes nothing.
-use Rattle.turns.proofs.Ends as laws
+use Rattle.turning.proofs.Ends as laws
 use borrow.Author.Needs.{needs}
 use Rattle.search.proofs.engine.solve.Statement.{statement}
 use Rattle.search.proofs.engine.solve.Tie as tie

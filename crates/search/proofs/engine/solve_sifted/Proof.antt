@@ -1,7 +1,7 @@
 -- `search::engine::solve_sifted` meets its contract: what the first pass leaves of the list has the outcome of the list. Assumes nothing.
 use native.Mathlib.Omega.{arith}
 use mathlib.Core.Path.{sym}
-use Rattle.turns.proofs.Ends as laws
+use Rattle.turning.proofs.Ends as laws
 use borrow.Author.Needs.{needs}
 use Rattle.search.proofs.engine.solve_sifted.Statement.{statement}
 use Rattle.search.proofs.engine.solve_sifted.Tie as tie

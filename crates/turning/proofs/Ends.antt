@@ -33,10 +33,10 @@ use Rattle.rows.specs.Trail.{unsetting, Ready, Grown, Worked, Queue, closedBy, 
 use Rattle.rows.specs.Rows.{Rows, Own, Settable, Forced}
 use Rattle.rows.specs.Conclusions.{withTriangles}
 use Rattle.trial.specs.Trial.{heldIf, backAlong, Retraceable}
-use Rattle.turns.specs.Turns.{NextUnset, Fresh, Begun, Rested, EndsWith, outcomeOf}
+use Rattle.turning.specs.Turns.{NextUnset, Fresh, Begun, Rested, EndsWith, outcomeOf}
 use Rattle.rows.specs.Undo.{Undoable, Undone}
-use Rattle.turns.specs.declared.Ending.{Ending}
-use Rattle.turns.specs.declared.Ending.the-variants.{Found, Absent, Spent}
+use Rattle.turning.specs.declared.Ending.{Ending}
+use Rattle.turning.specs.declared.Ending.the-variants.{Found, Absent, Spent}
 use Rattle.rows.proofs.Trails.{unsetting-append, length-unsetting, unsetting-store, grown-length, grown-store}
 use Rattle.rows.proofs.Working.{worked-length, worked-on, worked-part, ready-part}
 use Rattle.passes.proofs.Attending.{to-cs}

@@ -1,7 +1,7 @@
 -- The turns of the search: what the functions around the closing of the values promise. Assumes nothing.
 use mathlib.Core.Path.{_≡_}
 use mathlib.Core.Logic.{_≢_}
-use mathlib.Core.Bool.{Bool, true}
+use mathlib.Core.Bool.{true}
 use mathlib.Core.List.{List, List·Memᴰ}
 use mathlib.Core.Option.{some}
 use Prim.Native.Nat.{ℕ, _+_, _≤_, _<_}
@@ -14,11 +14,8 @@ use Rattle.pairs.specs.Pairs.{pairs}
 use Rattle.pairs.specs.Triangles.{triangles}
 use Rattle.rows.specs.Trail.{Ready, Queue}
 use Rattle.rows.specs.Conclusions.{withTriangles}
-use Rattle.tallies.specs.Tallies.{Tallied}
-use Rattle.propagate.specs.Sinking.{Room, Caught}
-use Rattle.restore.specs.Restoring.{IndexedIf}
-use Rattle.turns.specs.declared.Ending.{Ending}
-use Rattle.turns.specs.declared.Ending.the-variants.{Found, Absent, Spent}
+use Rattle.turning.specs.declared.Ending.{Ending}
+use Rattle.turning.specs.declared.Ending.the-variants.{Found, Absent, Spent}
 
 -- r is the first unset variable from low on, or the number of variables
 pub record NextUnset (v : List ℕ) (low r : ℕ) : Type 0 where
@@ -39,19 +36,6 @@ pub record Fresh (ws : List ℕ) (n : ℕ) (v : List ℕ) : Type 0 where
   pub most : length v ≤ 780
   pub few : n ≤ 40
   pub size : 0 < n → length v ≡ pairs n
-
--- whole clauses, indexed where there is room for each place, and room for their words and to note as many as there are places
-pub record Prepared (ws firsts clauses words noted : List ℕ) : Type 0 where
-  pub all-there : whole ws ≡ true
-  pub indexed : IndexedIf ws firsts clauses
-  pub room : Room clauses words noted
-
--- where they are indexed, the words are those of the values; after a closing, where no clause is broken
-abbrev pub TalliedIf : List ℕ → List ℕ → List ℕ → List ℕ → Type 0
-TalliedIf ws clauses v words = length ws ≤ length clauses → Tallied ws v words
-
-abbrev pub CaughtIf : List ℕ → List ℕ → List ℕ → List ℕ → Bool → Type 0
-CaughtIf ws clauses v words isBroken = length ws ≤ length clauses → Caught ws v words isBroken
 
 -- clauses over at most 780 variables; the trail's first count variables are set, as they are wherever the clauses are at rest, and group 2 waits for them
 pub record Begun (ws : List ℕ) (n : ℕ) (v t : List ℕ) (count : ℕ) : Type 0 where
