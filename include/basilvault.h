@@ -12,7 +12,7 @@
  * What a call takes. Nothing is allocated or kept, and there are no globals: calls from several threads are fine, each on buffers of its own. A call
  * needs at most BASILVAULT_STACK bytes of stack. Every call ends. The time of basilvault_search, basilvault_reduce and basilvault_season grows with the
  * guesses that they make, at most the budget. On the hardest tables that were found a guess of a reduction takes 0.1 to 0.3 microseconds; where the
- * clause list has over 32,768 words each guess goes over the whole list. A guess of basilvault_search can take some 50 microseconds, on lists that were made to
+ * clause list has over 32,768 words each guess goes over the whole list. A guess of basilvault_search can take some 40 microseconds, on lists that were made to
  * be slow (bench/README.md). basilvault_fit took an eighth of a second on the worst tables that were made. */
 #ifndef BASILVAULT_H
 #define BASILVAULT_H

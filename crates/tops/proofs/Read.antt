@@ -14,7 +14,7 @@ use Rattle.limits.specs.Limits.{stateMost}
 use Rattle.format.specs.File.{Table, trailer, start, tableOf}
 use Rattle.format.specs.Reading.{readNumber, Readable, readOf}
 use Rattle.format.specs.declared.Starts.{Starts}
-use Rattle.format.specs.declared.Reading.the-variants.{StateParts as SectionsAt, Refused as RefusedBy}
+use Rattle.format.specs.declared.Reading.the-variants.{Sections as SectionsAt, Refused as RefusedBy}
 use Rattle.format.proofs.Passed.{ReadPasses, read-passed}
 use Rattle.format.proofs.Bytes.{length-between, length-from, read-well-formed}
 use Rattle.format.proofs.Facts.{internals-fit, calls-fit, returns-fit, most-states}
