@@ -5,7 +5,8 @@ use basilvault::raw::{self, Values};
 use basilvault::{Counts as TableCounts, Reduced, Refusal};
 use basilvault_tests::flat;
 use basilvault_tests::random::{self, Random};
-use basilvault_tests::reference::{self, Delivery, LARGEST, Limits, Load, STANDARD, Table};
+use basilvault_tests::reference::{self, Configuration, Delivery, LARGEST, Limits, Load, STANDARD, Table};
+use std::collections::BTreeSet;
 use std::io::Write;
 use std::process::{Command, Stdio};
 
@@ -303,31 +304,36 @@ fn compare_many_lines() {
     }
 }
 
+/// Where the runs over a word end.
+type Ends = BTreeSet<Configuration>;
+
+/// The ends of a word's runs over both tables: accepted by both or by neither and never with something open, and in states of the same marks.
+fn compare_ends(word: &[u8], (a, ours): (&Table, &Ends), (b, theirs): (&Table, &Ends)) {
+    let accepted = reference::accepting(a, ours);
+    assert_eq!(accepted, reference::accepting(b, theirs), "word {word:?} separates {a:?} and {b:?}");
+    let kinds = |k: u8| word.iter().filter(|&&s| a.symbols[s as usize] == k).count();
+    assert!(!accepted || kinds(1) == kinds(2), "word {word:?} leaves something open, and {a:?} accepts it");
+    assert_eq!(reference::end_marks(a, ours), reference::end_marks(b, theirs), "the marks after {word:?} tell {a:?} and {b:?} apart");
+}
+
 /// Every word of up to eight symbols over both tables where these are at most 10,000, else as many random ones.
 fn compare_words(r: &mut Random, a: &Table, b: &Table, c: &mut Counts) {
     let k = a.symbols.len();
-    let mut words: Vec<Vec<u8>> = vec![vec![]];
     if (0..9).map(|n| k.pow(n)).sum::<usize>() <= 10_000 {
-        let mut done = 0;
-        while done < words.len() {
-            let w = words[done].clone();
-            done += 1;
-            if w.len() < 8 {
-                words.extend((0..k as u8).map(|s| [&w[..], &[s]].concat()));
+        let mut words = vec![(Vec::new(), reference::starts(a), reference::starts(b))];
+        while let Some((word, ours, theirs)) = words.pop() {
+            compare_ends(&word, (a, &ours), (b, &theirs));
+            if word.len() < 8 {
+                words.extend((0..k as u8).map(|s| ([&word[..], &[s]].concat(), reference::later(a, &ours, s), reference::later(b, &theirs, s))));
             }
         }
     } else {
+        compare_ends(&[], (a, &reference::starts(a)), (b, &reference::starts(b)));
         for _ in 0..400 {
-            let n = r.below(9);
-            words.push((0..n).map(|_| r.below(k) as u8).collect());
+            let word: Vec<u8> = (0..r.below(9)).map(|_| r.below(k) as u8).collect();
+            let ends = |t| word.iter().fold(reference::starts(t), |now, &s| reference::later(t, &now, s));
+            compare_ends(&word, (a, &ends(a)), (b, &ends(b)));
         }
-    }
-    for w in &words {
-        let accepted = reference::accepts(a, w);
-        assert_eq!(accepted, reference::accepts(b, w), "word {w:?} separates {a:?} and {b:?}");
-        let kinds = |k: u8| w.iter().filter(|&&s| a.symbols[s as usize] == k).count();
-        assert!(!accepted || kinds(1) == kinds(2), "word {w:?} leaves something open, and {a:?} accepts it");
-        assert_eq!(reference::end_marks(a, w), reference::end_marks(b, w), "the marks after {w:?} tell {a:?} and {b:?} apart");
     }
     c.add("words of input and quotient", Ok(()));
 }
@@ -342,7 +348,7 @@ fn compare_steps(r: &mut Random, t: &Table, map: &[u8], small: &Table, c: &mut C
         if ours.len() > 3000 {
             return;
         }
-        let shown: std::collections::BTreeSet<_> = ours.iter().map(|run| reference::classes_of(map, run)).collect();
+        let shown: BTreeSet<_> = ours.iter().map(|run| reference::classes_of(map, run)).collect();
         assert!(shown == reference::runs(small, &word), "runs over {word:?} of {t:?} and of its quotient under {map:?} differ");
         longest = if shown.is_empty() { longest } else { word.len() };
     }

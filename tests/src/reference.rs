@@ -841,20 +841,28 @@ fn steps(t: &Table, (q, stack): &Configuration, a: u8) -> Vec<Configuration> {
 }
 
 /// Where runs start.
-fn starts(t: &Table) -> BTreeSet<Configuration> {
+pub fn starts(t: &Table) -> BTreeSet<Configuration> {
     (0..t.count()).filter(|&q| t.initial(q)).map(|q| (q as u8, Vec::new())).collect()
 }
 
-/// Whether a run over the whole word ends in an accepting state on the empty stack: all configurations at once.
-pub fn accepts(t: &Table, word: &[u8]) -> bool {
-    let last = word.iter().fold(starts(t), |now, &a| now.iter().flat_map(|c| steps(t, c, a)).collect());
+/// Where runs are one symbol later: all configurations at once.
+pub fn later(t: &Table, now: &BTreeSet<Configuration>, a: u8) -> BTreeSet<Configuration> {
+    now.iter().flat_map(|c| steps(t, c, a)).collect()
+}
+
+/// Whether one of the configurations is an accepting state on the empty stack.
+pub fn accepting(t: &Table, last: &BTreeSet<Configuration>) -> bool {
     last.iter().any(|(q, stack)| stack.is_empty() && t.accepting(*q as usize))
 }
 
-/// The marks of the states, accepting or not, in which runs over the whole word end on the empty stack.
-pub fn end_marks(t: &Table, word: &[u8]) -> BTreeSet<u8> {
-    let last = word.iter().fold(starts(t), |now, &a| now.iter().flat_map(|c| steps(t, c, a)).collect());
+/// The marks of the states, accepting or not, among the configurations on the empty stack.
+pub fn end_marks(t: &Table, last: &BTreeSet<Configuration>) -> BTreeSet<u8> {
     last.iter().filter(|(_, stack)| stack.is_empty()).map(|(q, _)| t.mark(*q as usize)).collect()
+}
+
+/// Whether a run over the whole word ends in an accepting state on the empty stack.
+pub fn accepts(t: &Table, word: &[u8]) -> bool {
+    accepting(t, &word.iter().fold(starts(t), |now, &a| later(t, &now, a)))
 }
 
 /// The same by summaries, for words of any length: at each level the pairs of the state in which it was entered and the state now.
