@@ -190,7 +190,9 @@ pub fn table_number(
     calls: &[u8],
     returns: &[u8],
 ) -> u8
-    ensures { λ r. ⌜ r ≡ firstFailed (tableTests limits (sectioned version (now (symbols .entry)) (now (states .entry)) (now (internals .entry)) (now (calls .entry)) (now (returns .entry)))) ⌝ }
+    ensures { λ r. ⌜
+        r
+        ≡ firstFailed (tableTests limits (sectioned version (now (symbols .entry)) (now (states .entry)) (now (internals .entry)) (now (calls .entry)) (now (returns .entry)))) ⌝ }
 {
     if !counts_fit(limits, symbols, states, internals, calls, returns) {
         return 4;

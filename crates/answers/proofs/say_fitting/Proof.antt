@@ -37,9 +37,12 @@ same-length c = search needs
 returns : tie.Need-returns
 unfolding fittingNumber fittingValues
 returns c =
-    let f = c .before .before .before .before .before .enum-told .given .1 in
-    let v = c .before .before .before .before .before .before .before .before .args .values .now in
-    (sym (ap fittingNumber f), c .before .before .store .ensures ∙ ap (λ vs. stored vs v) (sym (ap fittingValues f)))
+    let c2 = c .before .before in
+    let c5 = c2 .before .before .before in
+    let c8 = c5 .before .before .before in
+    let f = c5 .enum-told .given .1 in
+    let v = c8 .args .values .now in
+    (sym (ap fittingNumber f), c2 .store .ensures ∙ ap (λ vs. stored vs v) (sym (ap fittingValues f)))
 
 same-length-2 : tie.Need-same-length-2
 same-length-2 c = search needs
@@ -47,9 +50,12 @@ same-length-2 c = search needs
 returns-2 : tie.Need-returns-2
 unfolding fittingNumber fittingValues
 returns-2 c =
-    let f = c .before .before .before .before .before .enum-told2 .given .1 in
-    let v = c .before .before .before .before .before .before .before .before .args .values .now in
-    (sym (ap fittingNumber f), c .before .before .store2 .ensures ∙ ap (λ vs. stored vs v) (sym (ap fittingValues f)))
+    let c2 = c .before .before in
+    let c5 = c2 .before .before .before in
+    let c8 = c5 .before .before .before in
+    let f = c5 .enum-told2 .given .1 in
+    let v = c8 .args .values .now in
+    (sym (ap fittingNumber f), c2 .store2 .ensures ∙ ap (λ vs. stored vs v) (sym (ap fittingValues f)))
 
 returns-3 : tie.Need-returns-3
 unfolding fittingNumber fittingValues

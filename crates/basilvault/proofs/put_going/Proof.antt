@@ -32,14 +32,22 @@ same-length c = search needs
 
 returns : tie.Need-returns
 returns c =
-    let a = c .before .before .before .before .before .before .before .before .before .before .before .before .before .before in
-    let e = rw (c .before .before .before .before .before .before .before .before .before .before .widest .ensures) at (c .before .before .before .before .before .before .before .before .records-within .ensures .0) in
-    put-same (ap recordedText (sym (c .before .before .before .before .before .recorded .given .1) ∙ going-told widest (a .args .table .now) (a .args .map .now) (a .pre .0) e)) (c .before .before .put-records .ensures)
+    let c2 = c .before .before in
+    let c5 = c2 .before .before .before in
+    let c8 = c5 .before .before .before in
+    let c10 = c8 .before .before in
+    let c14 = c10 .before .before .before .before in
+    let a = c14 in
+    let e = rw (c10 .widest .ensures) at (c8 .records-within .ensures .0) in
+    put-same (ap recordedText (sym (c5 .recorded .given .1) ∙ going-told widest (a .args .table .now) (a .args .map .now) (a .pre .0) e)) (c2 .put-records .ensures)
 
 returns-2 : tie.Need-returns-2
 returns-2 c =
-    let a = c .before .before .before .before .before .before .before .before .before in
-    let e = rw (c .before .before .before .before .before .widest .ensures) at (c .before .before .before .records-within .ensures .0) in
+    let c3 = c .before .before .before in
+    let c5 = c3 .before .before in
+    let c9 = c5 .before .before .before .before in
+    let a = c9 in
+    let e = rw (c5 .widest .ensures) at (c3 .records-within .ensures .0) in
     put-same (ap recordedText (sym (c .enum-told .given .1) ∙ going-told widest (a .args .table .now) (a .args .map .now) (a .pre .0) e)) (put-none (a .args .at) (a .args .text .now) (omega (arith, a .pre .1)))
 
 pub put-going-spec : {M : Type 1} → statement M

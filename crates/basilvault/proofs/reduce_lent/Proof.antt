@@ -46,8 +46,12 @@ map-room c = omega (arith, c .state-count .ensures .0, c .before .before .before
 
 checked : (c : tie.After-state-count) → (c .state-count .result ≡ count (tableOf (c .before .before .before .before .before .before .before .before .before .before .before .before .before .before .args .table .now))) × (checkNumber widest (c .before .before .before .before .before .before .before .before .before .before .before .before .before .before .args .table .now) (take (c .state-count .result) (c .before .before .before .before .before .before .before .reduce-within .last .1 .1 .1 .1 .0)) ≡ 0)
 checked c =
-    let b = c .before .before .before .before .before .before .before .before .before .before .before .before .before .before .args .table .now in
-    map-checked widest b _ (c .state-count .ensures .1) (delivered-checked widest b _ (c .before .before .answer .given .1) (rw (c .before .before .before .before .before .before .before .before .before .before .before .widest .ensures) at (c .before .before .before .before .before .before .before .reduce-within .ensures .1 .1 .checked)))
+    let c2 = c .before .before in
+    let c7 = c2 .before .before .before .before .before in
+    let c11 = c7 .before .before .before .before in
+    let c14 = c11 .before .before .before in
+    let b = c14 .args .table .now in
+    map-checked widest b _ (c .state-count .ensures .1) (delivered-checked widest b _ (c2 .answer .given .1) (rw (c11 .widest .ensures) at (c7 .reduce-within .ensures .1 .1 .checked)))
 
 put-counts-requires : tie.Need-put-counts-requires
 put-counts-requires c κs = search needs
@@ -60,25 +64,36 @@ slice-aggregate-put-map c = sym (length-take-le _ _ (map-room (c .before .before
 
 put-map-requires : tie.Need-put-map-requires
 put-map-requires c κs =
-    let the-put-counts = c .before .before .before .before .put-counts in
-    simp length-take (omega (arith, c .before .before .before .before .before .before .before .before .before .before .before .before .before .before .before .before .before .before .before .before .pre, the-put-counts .ensures .1, the-put-counts .ensures .0 .long, c .before .before .before .before .before .before .before .before .before .before .before .before .before .reduce-within .kept .1 .1 .1 .1 .0, length-replicate {A = ℕ} 40 0))
+    let c4 = c .before .before .before .before in
+    let c13 = c4 .before .before .before .before .before .before .before .before .before in
+    let c20 = c13 .before .before .before .before .before .before .before in
+    let the-put-counts = c4 .put-counts in
+    simp length-take (omega (arith, c20 .pre, the-put-counts .ensures .1, the-put-counts .ensures .0 .long, c13 .reduce-within .kept .1 .1 .1 .1 .0, length-replicate {A = ℕ} 40 0))
 
 array-share-prefix-out : tie.Need-array-share-prefix-out
 array-share-prefix-out c =
-    let the-reduce-within = c .before .before .before .before .before .before .before .before .before .before .before .before .before .before .before .before .reduce-within in
-    omega (arith, delivered-fits _ _ 100000 _ _ _ (the-reduce-within .ensures .0) (c .before .before .before .before .before .before .before .before .before .before .before .answer .given .1), the-reduce-within .kept .1 .1 .1 .1 .1 .0, length-replicate {A = ℕ} 22644 0)
+    let c11 = c .before .before .before .before .before .before .before .before .before .before .before in
+    let c16 = c11 .before .before .before .before .before in
+    let the-reduce-within = c16 .reduce-within in
+    omega (arith, delivered-fits _ _ 100000 _ _ _ (the-reduce-within .ensures .0) (c11 .answer .given .1), the-reduce-within .kept .1 .1 .1 .1 .1 .0, length-replicate {A = ℕ} 22644 0)
 
 slice-aggregate-put-table : tie.Need-slice-aggregate-put-table
 slice-aggregate-put-table c =
-    let the-reduce-within = c .before .before .before .before .before .before .before .before .before .before .before .before .before .before .before .before .before .reduce-within in
-    sym (length-take-le _ _ (omega (arith, delivered-fits _ _ 100000 _ _ _ (the-reduce-within .ensures .0) (c .before .before .before .before .before .before .before .before .before .before .before .before .answer .given .1), the-reduce-within .kept .1 .1 .1 .1 .1 .0, length-replicate {A = ℕ} 22644 0)))
+    let c12 = c .before .before .before .before .before .before .before .before .before .before .before .before in
+    let c17 = c12 .before .before .before .before .before in
+    let the-reduce-within = c17 .reduce-within in
+    sym (length-take-le _ _ (omega (arith, delivered-fits _ _ 100000 _ _ _ (the-reduce-within .ensures .0) (c12 .answer .given .1), the-reduce-within .kept .1 .1 .1 .1 .1 .0, length-replicate {A = ℕ} 22644 0)))
 
 put-table-requires : tie.Need-put-table-requires
 put-table-requires c κs =
-    let the-put-map = c .before .before .before .before .put-map in
-    let the-put-counts = c .before .before .before .before .before .before .before .before .before .put-counts in
-    let the-reduce-within = c .before .before .before .before .before .before .before .before .before .before .before .before .before .before .before .before .before .before .reduce-within in
-    simp length-take (omega (arith, c .before .before .before .before .before .before .before .before .before .before .before .before .before .before .before .before .before .before .before .before .before .before .before .before .before .pre, the-put-counts .ensures .1, the-put-counts .ensures .0 .long, simp length-take at (the-put-map .ensures .1), the-put-map .ensures .0 .long, the-reduce-within .kept .1 .1 .1 .1 .0, length-replicate {A = ℕ} 40 0, the-reduce-within .kept .1 .1 .1 .1 .1 .0, length-replicate {A = ℕ} 22644 0))
+    let c4 = c .before .before .before .before in
+    let c9 = c4 .before .before .before .before .before in
+    let c18 = c9 .before .before .before .before .before .before .before .before .before in
+    let c25 = c18 .before .before .before .before .before .before .before in
+    let the-put-map = c4 .put-map in
+    let the-put-counts = c9 .put-counts in
+    let the-reduce-within = c18 .reduce-within in
+    simp length-take (omega (arith, c25 .pre, the-put-counts .ensures .1, the-put-counts .ensures .0 .long, simp length-take at (the-put-map .ensures .1), the-put-map .ensures .0 .long, the-reduce-within .kept .1 .1 .1 .1 .0, length-replicate {A = ℕ} 40 0, the-reduce-within .kept .1 .1 .1 .1 .1 .0, length-replicate {A = ℕ} 22644 0))
 
 array-share-prefix-map-2 : tie.Need-array-share-prefix-map-2
 array-share-prefix-map-2 c = search needs
@@ -88,11 +103,17 @@ slice-aggregate-put-going c = sym (length-take-le _ _ (map-room (c .before .befo
 
 put-going-requires : tie.Need-put-going-requires
 put-going-requires c κs =
-    let the-put-table = c .before .before .before .before .put-table in
-    let the-put-map = c .before .before .before .before .before .before .before .before .before .put-map in
-    let the-put-counts = c .before .before .before .before .before .before .before .before .before .before .before .before .before .before .put-counts in
-    let the-reduce-within = c .before .before .before .before .before .before .before .before .before .before .before .before .before .before .before .before .before .before .before .before .before .before .before .reduce-within in
-    (checked (c .before .before .before .before .before .before .before .before .before .before .before .before .before .before .before .before) .1, omega (arith, c .before .before .before .before .before .before .before .before .before .before .before .before .before .before .before .before .before .before .before .before .before .before .before .before .before .before .before .before .before .before .pre, the-put-counts .ensures .1, the-put-counts .ensures .0 .long, simp length-take at (the-put-map .ensures .1), the-put-map .ensures .0 .long, simp length-take at (the-put-table .ensures .1), the-put-table .ensures .0 .long, the-reduce-within .kept .1 .1 .1 .1 .0, length-replicate {A = ℕ} 40 0, the-reduce-within .kept .1 .1 .1 .1 .1 .0, length-replicate {A = ℕ} 22644 0))
+    let c4 = c .before .before .before .before in
+    let c9 = c4 .before .before .before .before .before in
+    let c14 = c9 .before .before .before .before .before in
+    let c16 = c14 .before .before in
+    let c23 = c16 .before .before .before .before .before .before .before in
+    let c30 = c23 .before .before .before .before .before .before .before in
+    let the-put-table = c4 .put-table in
+    let the-put-map = c9 .put-map in
+    let the-put-counts = c14 .put-counts in
+    let the-reduce-within = c23 .reduce-within in
+    (checked (c16) .1, omega (arith, c30 .pre, the-put-counts .ensures .1, the-put-counts .ensures .0 .long, simp length-take at (the-put-map .ensures .1), the-put-map .ensures .0 .long, simp length-take at (the-put-table .ensures .1), the-put-table .ensures .0 .long, the-reduce-within .kept .1 .1 .1 .1 .0, length-replicate {A = ℕ} 40 0, the-reduce-within .kept .1 .1 .1 .1 .1 .0, length-replicate {A = ℕ} 22644 0))
 
 enum-known-answer-2 : tie.Need-enum-known-answer-2
 enum-known-answer-2 c = search needs
@@ -113,23 +134,46 @@ put-requires : tie.Need-put-requires
 put-requires c κs = search needs
 
 same-length : tie.Need-same-length
-same-length c = c .before .before .put-going .ensures .long ∙ c .before .before .before .before .before .before .before .put-table .ensures .0 .long ∙ c .before .before .before .before .before .before .before .before .before .before .before .before .put-map .ensures .0 .long ∙ c .before .before .before .before .before .before .before .before .before .before .before .before .before .before .before .before .before .put-counts .ensures .0 .long
+same-length c =
+    let c2 = c .before .before in
+    let c7 = c2 .before .before .before .before .before in
+    let c12 = c7 .before .before .before .before .before in
+    let c17 = c12 .before .before .before .before .before in
+    c2 .put-going .ensures .long ∙ c7 .put-table .ensures .0 .long ∙ c12 .put-map .ensures .0 .long ∙ c17 .put-counts .ensures .0 .long
 
 returns : tie.Need-returns
 returns c =
-    let b = c .before .before .before .before .before .before .before .before .before .before .before .before .before .before .before .before .before .before .before .before .before .before .before .before .before .before .before .before .before .before .before .before .before .args .table .now in
-    let e = rw (c .before .before .before .before .before .before .before .before .before .before .before .before .before .before .before .before .before .before .before .before .before .before .before .before .before .before .before .before .before .before .widest .ensures) at (c .before .before .before .before .before .before .before .before .before .before .before .before .before .before .before .before .before .before .before .before .before .before .before .before .before .before .reduce-within .ensures .0) in
-    put-whole (delivered-text b e (c .before .before .before .before .before .before .before .before .before .before .before .before .before .before .before .before .before .before .before .before .before .answer .given .1) (checked (c .before .before .before .before .before .before .before .before .before .before .before .before .before .before .before .before .before .before .before) .0)) (put-on (put-on (put-on (c .before .before .before .before .before .before .before .before .before .before .before .before .before .before .before .before .before .put-counts .ensures .0) (c .before .before .before .before .before .before .before .before .before .before .before .before .put-map .ensures .0)) (c .before .before .before .before .before .before .before .put-table .ensures .0)) (c .before .before .put-going .ensures))
+    let c2 = c .before .before in
+    let c7 = c2 .before .before .before .before .before in
+    let c12 = c7 .before .before .before .before .before in
+    let c17 = c12 .before .before .before .before .before in
+    let c19 = c17 .before .before in
+    let c21 = c19 .before .before in
+    let c26 = c21 .before .before .before .before .before in
+    let c30 = c26 .before .before .before .before in
+    let c33 = c30 .before .before .before in
+    let b = c33 .args .table .now in
+    let e = rw (c30 .widest .ensures) at (c26 .reduce-within .ensures .0) in
+    put-whole (delivered-text b e (c21 .answer .given .1) (checked (c19) .0)) (put-on (put-on (put-on (c17 .put-counts .ensures .0) (c12 .put-map .ensures .0)) (c7 .put-table .ensures .0)) (c2 .put-going .ensures))
 
 same-length-2 : tie.Need-same-length-2
-same-length-2 c = c .before .before .put .ensures .long ∙ c .before .before .before .before .before .before .before .put-number .ensures .0 .long
+same-length-2 c =
+    let c2 = c .before .before in
+    let c7 = c2 .before .before .before .before .before in
+    c2 .put .ensures .long ∙ c7 .put-number .ensures .0 .long
 
 returns-2 : tie.Need-returns-2
 unfolding refusedText
 returns-2 c =
-    let b = c .before .before .before .before .before .before .before .before .before .before .before .before .before .before .before .before .before .before .before .before .before .before .before .args .table .now in
-    let e = rw (c .before .before .before .before .before .before .before .before .before .before .before .before .before .before .before .before .before .before .before .before .widest .ensures) at (c .before .before .before .before .before .before .before .before .before .before .before .before .before .before .before .before .reduce-within .ensures .0) in
-    put-whole (refused-text b e (c .before .before .before .before .before .before .before .before .before .before .before .answer2 .given .1)) (put-on (c .before .before .before .before .before .before .before .put-number .ensures .0) (c .before .before .put .ensures))
+    let c2 = c .before .before in
+    let c7 = c2 .before .before .before .before .before in
+    let c11 = c7 .before .before .before .before in
+    let c16 = c11 .before .before .before .before .before in
+    let c20 = c16 .before .before .before .before in
+    let c23 = c20 .before .before .before in
+    let b = c23 .args .table .now in
+    let e = rw (c20 .widest .ensures) at (c16 .reduce-within .ensures .0) in
+    put-whole (refused-text b e (c11 .answer2 .given .1)) (put-on (c7 .put-number .ensures .0) (c2 .put .ensures))
 
 pub reduce-lent-spec : {M : Type 1} → statement M
 reduce-lent-spec =

@@ -45,9 +45,12 @@ same-length c = search needs
 returns-2 : tie.Need-returns-2
 unfolding chooseOut
 returns-2 c =
-    let d = c .before .before .before .before .before .before .before .decide-within in
-    let e = first-chosen (d .result) (d .ensures .1) (c .before .before .before .before .before .enum-told2 .given .1) in
-    answered _ (e .0) (e .1) (c .before .before .store .ensures) ∙ ap (chooseOut _) (d .ensures .0)
+    let c2 = c .before .before in
+    let c5 = c2 .before .before .before in
+    let c7 = c5 .before .before in
+    let d = c7 .decide-within in
+    let e = first-chosen (d .result) (d .ensures .1) (c5 .enum-told2 .given .1) in
+    answered _ (e .0) (e .1) (c2 .store .ensures) ∙ ap (chooseOut _) (d .ensures .0)
 
 same-length-2 : tie.Need-same-length-2
 same-length-2 c = search needs
@@ -55,9 +58,12 @@ same-length-2 c = search needs
 returns-3 : tie.Need-returns-3
 unfolding chooseOut
 returns-3 c =
-    let d = c .before .before .before .before .before .before .before .decide-within in
-    let e = second-chosen (d .result) (d .ensures .1) (c .before .before .before .before .before .enum-told3 .given .1) in
-    answered _ (e .0) (e .1) (c .before .before .store2 .ensures) ∙ ap (chooseOut _) (d .ensures .0)
+    let c2 = c .before .before in
+    let c5 = c2 .before .before .before in
+    let c7 = c5 .before .before in
+    let d = c7 .decide-within in
+    let e = second-chosen (d .result) (d .ensures .1) (c5 .enum-told3 .given .1) in
+    answered _ (e .0) (e .1) (c2 .store2 .ensures) ∙ ap (chooseOut _) (d .ensures .0)
 
 pub basilvault-choose-within-spec : {M : Type 1} → statement M
 basilvault-choose-within-spec =

@@ -21,8 +21,10 @@ same-length-2 c = search needs
 returns : tie.Need-returns
 unfolding clausesOut
 returns c =
-    let w = c .before .before .say-listed .ensures in
-    answered _ (sym (w .0)) refl (w .1) ∙ ap (clausesOut _) (c .before .before .before .before .before .before .clauses-within .ensures .0)
+    let c2 = c .before .before in
+    let c6 = c2 .before .before .before .before in
+    let w = c2 .say-listed .ensures in
+    answered _ (sym (w .0)) refl (w .1) ∙ ap (clausesOut _) (c6 .clauses-within .ensures .0)
 
 pub basilvault-clauses-within-spec : {M : Type 1} → statement M
 basilvault-clauses-within-spec = tie.close (tie.spec clauses-within-requires say-listed-requires same-length same-length-2 returns)

@@ -21,8 +21,10 @@ same-length-2 c = search needs
 returns : tie.Need-returns
 unfolding recordsOut
 returns c =
-    let w = c .before .before .say-recorded .ensures in
-    answered _ (sym (w .0)) refl (w .1) ∙ ap (recordsOut _) (c .before .before .before .before .before .before .records-within .ensures .0)
+    let c2 = c .before .before in
+    let c6 = c2 .before .before .before .before in
+    let w = c2 .say-recorded .ensures in
+    answered _ (sym (w .0)) refl (w .1) ∙ ap (recordsOut _) (c6 .records-within .ensures .0)
 
 pub basilvault-records-within-spec : {M : Type 1} → statement M
 basilvault-records-within-spec = tie.close (tie.spec records-within-requires say-recorded-requires same-length same-length-2 returns)

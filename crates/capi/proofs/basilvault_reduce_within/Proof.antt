@@ -27,8 +27,10 @@ same-length-4 c = search needs
 returns : tie.Need-returns
 unfolding reduceOut
 returns c =
-    let w = c .before .before .say-reduction .ensures in
-    answered _ (sym (w .0)) refl (w .1) ∙ ap (reduceOut _) (c .before .before .before .before .before .before .before .before .before .before .reduce-within .ensures .0)
+    let c2 = c .before .before in
+    let c10 = c2 .before .before .before .before .before .before .before .before in
+    let w = c2 .say-reduction .ensures in
+    answered _ (sym (w .0)) refl (w .1) ∙ ap (reduceOut _) (c10 .reduce-within .ensures .0)
 
 pub basilvault-reduce-within-spec : {M : Type 1} → statement M
 basilvault-reduce-within-spec = tie.close (tie.spec reduce-within-requires say-reduction-requires same-length same-length-2 same-length-3 same-length-4 returns)

@@ -27,8 +27,10 @@ same-length-4 c = search needs
 returns : tie.Need-returns
 unfolding seasonOut
 returns c =
-    let w = c .before .before .say-season .ensures in
-    answered _ (sym (w .0)) refl (w .1) ∙ ap (seasonOut _) (c .before .before .before .before .before .before .before .before .before .before .season-within .ensures .0)
+    let c2 = c .before .before in
+    let c10 = c2 .before .before .before .before .before .before .before .before in
+    let w = c2 .say-season .ensures in
+    answered _ (sym (w .0)) refl (w .1) ∙ ap (seasonOut _) (c10 .season-within .ensures .0)
 
 pub basilvault-season-within-spec : {M : Type 1} → statement M
 basilvault-season-within-spec = tie.close (tie.spec season-within-requires say-season-requires same-length same-length-2 same-length-3 same-length-4 returns)

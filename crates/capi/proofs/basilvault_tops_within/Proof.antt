@@ -21,10 +21,18 @@ slice-relend-prefix-tops-read : tie.Need-slice-relend-prefix-tops-read
 slice-relend-prefix-tops-read c = search needs
 
 slice-aggregate-tops-read : tie.Need-slice-aggregate-tops-read
-slice-aggregate-tops-read c = sym (length-take-le 40 (c .before .before .before .before .before .before .before .before .args .values .now) (omega (arith, c .before .if1 .left)))
+slice-aggregate-tops-read c =
+    let c1 = c .before in
+    let c8 = c1 .before .before .before .before .before .before .before in
+    sym (length-take-le 40 (c8 .args .values .now) (omega (arith, c1 .if1 .left)))
 
 tops-read-requires : tie.Need-tops-read-requires
-tops-read-requires c κs = (read-handed _ _ (sym (c .before .before .before .reading .given .1) ∙ c .before .before .before .before .before .read-within .ensures .0), length-take-le 40 (c .before .before .before .before .before .before .before .before .args .values .now) (omega (arith, c .before .if1 .left)))
+tops-read-requires c κs =
+    let c1 = c .before in
+    let c3 = c1 .before .before in
+    let c5 = c3 .before .before in
+    let c8 = c5 .before .before .before in
+    (read-handed _ _ (sym (c3 .reading .given .1) ∙ c5 .read-within .ensures .0), length-take-le 40 (c8 .args .values .now) (omega (arith, c1 .if1 .left)))
 
 cast-values : tie.Need-cast-values
 cast-values c = search needs
@@ -42,7 +50,12 @@ same-length : tie.Need-same-length
 same-length c = search needs
 
 returns-2 : tie.Need-returns-2
-returns-2 c = tops-stored _ _ _ (sym (c .before .before .before .before .before .before .reading .given .1) ∙ c .before .before .before .before .before .before .before .before .read-within .ensures .0) (omega (arith, c .before .before .before .before .if1 .left)) (c .before .before .tops-read .ensures) refl
+returns-2 c =
+    let c2 = c .before .before in
+    let c4 = c2 .before .before in
+    let c6 = c4 .before .before in
+    let c8 = c6 .before .before in
+    tops-stored _ _ _ (sym (c6 .reading .given .1) ∙ c8 .read-within .ensures .0) (omega (arith, c4 .if1 .left)) (c2 .tops-read .ensures) refl
 
 returns-3 : tie.Need-returns-3
 returns-3 c = tops-none _ _ _ (sym (c .before .reading2 .given .1) ∙ c .before .before .before .read-within .ensures .0)

@@ -27,9 +27,12 @@ same-length c = search needs
 returns-2 : tie.Need-returns-2
 unfolding usesOut
 returns-2 c =
-    let the-if1 = c .before .before .before .before .before .before .if1 in
-    let the-uses-within = c .before .before .before .before .before .before .before .uses-within in
-    answered _ (the-if1 .left) (uses-counted (the-uses-within .result) (the-if1 .left)) (c .before .before .store-words .ensures) ∙ ap (usesOut _) (the-uses-within .ensures .0)
+    let c2 = c .before .before in
+    let c6 = c2 .before .before .before .before in
+    let c7 = c6 .before in
+    let the-if1 = c6 .if1 in
+    let the-uses-within = c7 .uses-within in
+    answered _ (the-if1 .left) (uses-counted (the-uses-within .result) (the-if1 .left)) (c2 .store-words .ensures) ∙ ap (usesOut _) (the-uses-within .ensures .0)
 
 pub basilvault-uses-within-spec : {M : Type 1} → statement M
 basilvault-uses-within-spec =

@@ -58,13 +58,27 @@ same-requires : tie.Need-same-requires Inv-records μ-records
 same-requires c κs = search needs
 
 returns-2 : tie.Need-returns-2 Inv-records μ-records
-returns-2 c = let p = c .before .before .before .before .before .before .before .before .pre in neighbours-meet (p .0) (p .1) (c .before .before .before .before .before .records .inv) (c .before .before .before .before .records-test .taken) (c .before .same .ensures .0 (c .if2 .taken))
+returns-2 c =
+    let c1 = c .before in
+    let c4 = c1 .before .before .before in
+    let c5 = c4 .before in
+    let c8 = c5 .before .before .before in
+    let p = c8 .pre in neighbours-meet (p .0) (p .1) (c5 .records .inv) (c4 .records-test .taken) (c1 .same .ensures .0 (c .if2 .taken))
 
 records-less : tie.Need-records-less Inv-records μ-records
-records-less c = omega (arith, c .before .before .before .before .before .before .before .before .pre .0, c .before .before .before .before .before .records .inv .inside, c .before .before .before .before .records-test .taken)
+records-less c =
+    let c4 = c .before .before .before .before in
+    let c5 = c4 .before in
+    let c8 = c5 .before .before .before in
+    omega (arith, c8 .pre .0, c5 .records .inv .inside, c4 .records-test .taken)
 
 records-again : tie.Need-records-again Inv-records μ-records
-records-again c = let p = c .before .before .before .before .before .before .before .before .pre in neighbours-on (p .0) (p .1) (c .before .before .before .before .before .records .inv) (c .before .before .before .before .records-test .taken) (λ e. true≢false (sym (c .before .same .ensures .1 e) ∙ c .if2 .left))
+records-again c =
+    let c1 = c .before in
+    let c4 = c1 .before .before .before in
+    let c5 = c4 .before in
+    let c8 = c5 .before .before .before in
+    let p = c8 .pre in neighbours-on (p .0) (p .1) (c5 .records .inv) (c4 .records-test .taken) (λ e. true≢false (sym (c1 .same .ensures .1 e) ∙ c .if2 .left))
 
 returns-3 : tie.Need-returns-3 Inv-records μ-records
 returns-3 c =

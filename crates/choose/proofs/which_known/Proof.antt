@@ -29,13 +29,25 @@ class-count-requires-2 c κs = search needs
 
 returns-4 : tie.Need-returns-4
 returns-4 c =
-    λ L r. pick-fewer L _ _ _ (check-accepted L _ _ (tested L _ _ r (c .before .before .before .before .before .before .map-number .ensures)) (c .before .before .before .before .if1 .left) (c .before .class-count2 .ensures))
-    (check-accepted L _ _ (tested L _ _ r (c .before .before .before .before .before .map-number2 .ensures)) (c .before .before .before .if3 .left) (c .before .before .class-count .ensures)) (c .if4 .taken)
+    let c1 = c .before in
+    let c2 = c1 .before in
+    let c3 = c2 .before in
+    let c4 = c3 .before in
+    let c5 = c4 .before in
+    let c6 = c5 .before in
+    λ L r. pick-fewer L _ _ _ (check-accepted L _ _ (tested L _ _ r (c6 .map-number .ensures)) (c4 .if1 .left) (c1 .class-count2 .ensures))
+    (check-accepted L _ _ (tested L _ _ r (c5 .map-number2 .ensures)) (c3 .if3 .left) (c2 .class-count .ensures)) (c .if4 .taken)
 
 returns-5 : tie.Need-returns-5
 returns-5 c =
-    λ L r. pick-few L _ _ _ (check-accepted L _ _ (tested L _ _ r (c .before .before .before .before .before .before .map-number .ensures)) (c .before .before .before .before .if1 .left) (c .before .class-count2 .ensures))
-    (check-accepted L _ _ (tested L _ _ r (c .before .before .before .before .before .map-number2 .ensures)) (c .before .before .before .if3 .left) (c .before .before .class-count .ensures)) (c .if4 .left)
+    let c1 = c .before in
+    let c2 = c1 .before in
+    let c3 = c2 .before in
+    let c4 = c3 .before in
+    let c5 = c4 .before in
+    let c6 = c5 .before in
+    λ L r. pick-few L _ _ _ (check-accepted L _ _ (tested L _ _ r (c6 .map-number .ensures)) (c4 .if1 .left) (c1 .class-count2 .ensures))
+    (check-accepted L _ _ (tested L _ _ r (c5 .map-number2 .ensures)) (c3 .if3 .left) (c2 .class-count .ensures)) (c .if4 .left)
 
 pub which-known-spec : {M : Type 1} → statement M
 which-known-spec =

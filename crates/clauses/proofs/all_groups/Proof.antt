@@ -14,31 +14,51 @@ looks-apart-requires c κs = search needs
 
 closure-requires : tie.Need-closure-requires
 closure-requires c κs =
-    let the-pre = c .before .before .before .before .before .before .before .before .before .before .pre in
-    (omega (arith, the-pre .0 .few), ordered-by _ _ (c .before .before .before .looks-apart .ensures) (the-pre .1))
+    let c3 = c .before .before .before in
+    let c10 = c3 .before .before .before .before .before .before .before in
+    let the-pre = c10 .pre in
+    (omega (arith, the-pre .0 .few), ordered-by _ _ (c3 .looks-apart .ensures) (the-pre .1))
 
 moves-requires : tie.Need-moves-requires
 moves-requires c κs =
-    let the-pre = c .before .before .before .before .before .before .before .before .before .before .before .before .before .before .pre in
-    (the-pre .0 .internals-sorted, ordered-by _ _ (c .before .before .before .closure .ensures) (ordered-by _ _ (c .before .before .before .before .before .before .before .looks-apart .ensures) (the-pre .1)))
+    let c3 = c .before .before .before in
+    let c7 = c3 .before .before .before .before in
+    let c14 = c7 .before .before .before .before .before .before .before in
+    let the-pre = c14 .pre in
+    (the-pre .0 .internals-sorted, ordered-by _ _ (c3 .closure .ensures) (ordered-by _ _ (c7 .looks-apart .ensures) (the-pre .1)))
 
 moves-requires-2 : tie.Need-moves-requires-2
 moves-requires-2 c κs =
-    let the-pre = c .before .before .before .before .before .before .before .before .before .before .before .before .before .before .before .before .before .before .pre in
-    (the-pre .0 .calls-sorted, ordered-by _ _ (c .before .before .before .moves .ensures) (ordered-by _ _ (c .before .before .before .before .before .before .before .closure .ensures) (ordered-by _ _ (c .before .before .before .before .before .before .before .before .before .before .before .looks-apart .ensures) (the-pre .1))))
+    let c3 = c .before .before .before in
+    let c7 = c3 .before .before .before .before in
+    let c11 = c7 .before .before .before .before in
+    let c18 = c11 .before .before .before .before .before .before .before in
+    let the-pre = c18 .pre in
+    (the-pre .0 .calls-sorted, ordered-by _ _ (c3 .moves .ensures) (ordered-by _ _ (c7 .closure .ensures) (ordered-by _ _ (c11 .looks-apart .ensures) (the-pre .1))))
 
 live-returns-requires : tie.Need-live-returns-requires
 live-returns-requires c κs =
-    let the-pre = c .before .before .before .before .before .before .before .before .before .before .before .before .before .before .before .before .before .before .before .before .before .before .pre in
-    (the-pre .0 .returns-sorted, the-pre .0 .few, ordered-by _ _ (c .before .before .before .moves2 .ensures) (ordered-by _ _ (c .before .before .before .before .before .before .before .moves .ensures) (ordered-by _ _ (c .before .before .before .before .before .before .before .before .before .before .before .closure .ensures) (ordered-by _ _ (c .before .before .before .before .before .before .before .before .before .before .before .before .before .before .before .looks-apart .ensures) (the-pre .1)))))
+    let c3 = c .before .before .before in
+    let c7 = c3 .before .before .before .before in
+    let c11 = c7 .before .before .before .before in
+    let c15 = c11 .before .before .before .before in
+    let c22 = c15 .before .before .before .before .before .before .before in
+    let the-pre = c22 .pre in
+    (the-pre .0 .returns-sorted, the-pre .0 .few, ordered-by _ _ (c3 .moves2 .ensures) (ordered-by _ _ (c7 .moves .ensures) (ordered-by _ _ (c11 .closure .ensures) (ordered-by _ _ (c15 .looks-apart .ensures) (the-pre .1)))))
 
 same-length : tie.Need-same-length
 same-length c = search needs
 
 returns : tie.Need-returns
 returns c =
-    let the-args = c .before .before .before .before .before .before .before .before .before .before .before .before .before .before .before .before .before .before .before .before .before .before .before .before .before .args in
-    groups _ (the-args .states .now) (the-args .internals .now) (the-args .calls .now) (the-args .returns .now) (the-args .tops .now) _ (c .before .before .before .before .before .before .before .before .before .before .before .before .before .before .before .before .before .before .looks-apart .ensures) (c .before .before .before .before .before .before .before .before .before .before .before .before .before .before .closure .ensures) (c .before .before .before .before .before .before .before .before .before .before .moves .ensures) (c .before .before .before .before .before .before .moves2 .ensures) (c .before .before .live-returns .ensures)
+    let c2 = c .before .before in
+    let c6 = c2 .before .before .before .before in
+    let c10 = c6 .before .before .before .before in
+    let c14 = c10 .before .before .before .before in
+    let c18 = c14 .before .before .before .before in
+    let c25 = c18 .before .before .before .before .before .before .before in
+    let the-args = c25 .args in
+    groups _ (the-args .states .now) (the-args .internals .now) (the-args .calls .now) (the-args .returns .now) (the-args .tops .now) _ (c18 .looks-apart .ensures) (c14 .closure .ensures) (c10 .moves .ensures) (c6 .moves2 .ensures) (c2 .live-returns .ensures)
 
 pub all-groups-spec : {M : Type 1} → statement M
 all-groups-spec =

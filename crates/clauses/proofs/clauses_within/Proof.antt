@@ -16,18 +16,25 @@ returns c =
     promised _ (the-args .table .now) (the-args .list .now) (unread _ (the-args .table .now) (c .before .before .examine .ensures) (the-args .list .now) (c .if1 .taken))
 
 list-read-requires : tie.Need-list-read-requires
-list-read-requires c κs = read-known _ _ (c .before .before .before .before .before .before .examine .ensures) (c .before .before .before .before .if1 .left)
+list-read-requires c κs =
+    let c4 = c .before .before .before .before in
+    let c6 = c4 .before .before in
+    read-known _ _ (c6 .examine .ensures) (c4 .if1 .left)
 
 same-length : tie.Need-same-length
 same-length c = search needs
 
 returns-2 : tie.Need-returns-2
 returns-2 c =
-    let the-args = c .before .before .before .before .before .before .before .before .before .before .before .before .args in
+    let c2 = c .before .before in
+    let c7 = c2 .before .before .before .before .before in
+    let c9 = c7 .before .before in
+    let c12 = c9 .before .before .before in
+    let the-args = c12 .args in
     let b = the-args .table .now in
     let list = the-args .list .now in
-    let k = read-readable _ b (c .before .before .before .before .before .before .before .before .before .examine .ensures) (c .before .before .before .before .before .before .before .if1 .left) in
-    promised _ b list (c .before .before .list-read .ensures ∙ listed _ b k list)
+    let k = read-readable _ b (c9 .examine .ensures) (c7 .if1 .left) in
+    promised _ b list (c2 .list-read .ensures ∙ listed _ b k list)
 
 pub clauses-within-spec : {M : Type 1} → statement M
 clauses-within-spec =

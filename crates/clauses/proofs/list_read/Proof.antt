@@ -18,17 +18,28 @@ part-requires-4 c κs = search needs
 
 list-sections-requires : tie.Need-list-sections-requires
 list-sections-requires c κs =
-    parts-ready (c .before .before .before .before .before .before .before .pre)
-    (c .before .before .before .before .part .ensures) (c .before .before .before .part2 .ensures) (c .before .before .part3 .ensures) (c .before .part4 .ensures)
+    let c1 = c .before in
+    let c2 = c1 .before in
+    let c3 = c2 .before in
+    let c4 = c3 .before in
+    let c7 = c4 .before .before .before in
+    parts-ready (c7 .pre)
+    (c4 .part .ensures) (c3 .part2 .ensures) (c2 .part3 .ensures) (c1 .part4 .ensures)
 
 same-length : tie.Need-same-length
 same-length c = search needs
 
 returns : tie.Need-returns
 returns c =
-    parts-listed (c .before .before .before .before .before .before .before .before .before .before .pre)
-    (c .before .before .before .before .before .before .before .part .ensures) (c .before .before .before .before .before .before .part2 .ensures) (c .before .before .before .before .before .part3 .ensures) (c .before .before .before .before .part4 .ensures)
-    _ _ (c .before .before .list-sections .ensures)
+    let c2 = c .before .before in
+    let c4 = c2 .before .before in
+    let c5 = c4 .before in
+    let c6 = c5 .before in
+    let c7 = c6 .before in
+    let c10 = c7 .before .before .before in
+    parts-listed (c10 .pre)
+    (c7 .part .ensures) (c6 .part2 .ensures) (c5 .part3 .ensures) (c4 .part4 .ensures)
+    _ _ (c2 .list-sections .ensures)
 
 pub list-read-spec : {M : Type 1} → statement M
 list-read-spec =

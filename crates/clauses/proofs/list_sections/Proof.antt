@@ -20,7 +20,11 @@ same-length-2 : tie.Need-same-length-2
 same-length-2 c = search needs
 
 returns-2 : tie.Need-returns-2
-returns-2 c = delivered _ _ (c .before .before .before .before .before .before .before .before .all-groups .ensures) (c .before .before .before .before .if1 .left) (c .before .before .all-groups2 .ensures)
+returns-2 c =
+    let c2 = c .before .before in
+    let c4 = c2 .before .before in
+    let c8 = c4 .before .before .before .before in
+    delivered _ _ (c8 .all-groups .ensures) (c4 .if1 .left) (c2 .all-groups2 .ensures)
 
 pub list-sections-spec : {M : Type 1} → statement M
 list-sections-spec =

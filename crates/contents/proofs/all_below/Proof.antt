@@ -25,7 +25,11 @@ wide-requires : tie.Need-wide-requires Inv-bytes μ-bytes
 wide-requires c κs = search needs
 
 returns : tie.Need-returns Inv-bytes μ-bytes
-returns c = walks.all-failed _ (c .before .before .before .before .bytes .inv) (c .before .before .before .bytes-test .taken) (le-ltb _ _ (rw (c .before .wide .ensures) at (c .if1 .taken)))
+returns c =
+    let c1 = c .before in
+    let c3 = c1 .before .before in
+    let c4 = c3 .before in
+    walks.all-failed _ (c4 .bytes .inv) (c3 .bytes-test .taken) (le-ltb _ _ (rw (c1 .wide .ensures) at (c .if1 .taken)))
 
 add-i : tie.Need-add-i Inv-bytes μ-bytes
 add-i c = search needs
@@ -34,7 +38,11 @@ bytes-less : tie.Need-bytes-less Inv-bytes μ-bytes
 bytes-less c = search needs
 
 bytes-again : tie.Need-bytes-again Inv-bytes μ-bytes
-bytes-again c = walks.all-passed _ (c .before .before .before .before .bytes .inv) (c .before .before .before .bytes-test .taken) (lt-ltb _ _ (rw (c .before .wide .ensures) at (c .if1 .left)))
+bytes-again c =
+    let c1 = c .before in
+    let c3 = c1 .before .before in
+    let c4 = c3 .before in
+    walks.all-passed _ (c4 .bytes .inv) (c3 .bytes-test .taken) (lt-ltb _ _ (rw (c1 .wide .ensures) at (c .if1 .left)))
 
 returns-2 : tie.Need-returns-2 Inv-bytes μ-bytes
 returns-2 c = walks.all-done _ (c .before .bytes .inv) (c .bytes-test .left)

@@ -33,16 +33,32 @@ number-at-requires-2 c κs =
     (the-pre .0, the-pre .1, omega (arith, c .before .records .inv, c .records-test .taken))
 
 returns-2 : tie.Need-returns-2 Inv-records μ-records
-returns-2 c = falls (c .before .before .before .before .before .before .before .pre .0) (c .before .before .before .records .inv) (λ i. c .before .before .before .before .before .before .shared-slice-known .given i .fits) (c .before .before .records-test .taken) (c .before .number-at2 .ensures) (c .if2 .taken)
+returns-2 c =
+    let c1 = c .before in
+    let c2 = c1 .before in
+    let c3 = c2 .before in
+    let c6 = c3 .before .before .before in
+    let c7 = c6 .before in
+    falls (c7 .pre .0) (c3 .records .inv) (λ i. c6 .shared-slice-known .given i .fits) (c2 .records-test .taken) (c1 .number-at2 .ensures) (c .if2 .taken)
 
 add-at : tie.Need-add-at Inv-records μ-records
 add-at c = search needs
 
 records-less : tie.Need-records-less Inv-records μ-records
-records-less c = omega (arith, c .before .before .before .before .before .before .before .pre .0, c .before .before .before .records .inv, c .before .before .records-test .taken)
+records-less c =
+    let c2 = c .before .before in
+    let c3 = c2 .before in
+    let c7 = c3 .before .before .before .before in
+    omega (arith, c7 .pre .0, c3 .records .inv, c2 .records-test .taken)
 
 records-again : tie.Need-records-again Inv-records μ-records
-records-again c = rises (c .before .before .before .before .before .before .before .pre .0) (c .before .before .before .records .inv) (λ i. c .before .before .before .before .before .before .shared-slice-known .given i .fits) (c .before .before .records-test .taken) (c .before .number-at2 .ensures) (c .if2 .left)
+records-again c =
+    let c1 = c .before in
+    let c2 = c1 .before in
+    let c3 = c2 .before in
+    let c6 = c3 .before .before .before in
+    let c7 = c6 .before in
+    rises (c7 .pre .0) (c3 .records .inv) (λ i. c6 .shared-slice-known .given i .fits) (c2 .records-test .taken) (c1 .number-at2 .ensures) (c .if2 .left)
 
 returns-3 : tie.Need-returns-3 Inv-records μ-records
 returns-3 c = risen (c .before .before .before .before .before .pre .0) (c .before .records .inv) (c .records-test .left)

@@ -28,9 +28,13 @@ all-below-requires-2 c κs = search needs
 
 returns-2 : tie.Need-returns-2
 returns-2 c =
+    let c1 = c .before in
+    let c2 = c1 .before in
+    let c3 = c2 .before in
+    let c6 = c3 .before .before .before in
     (c .all-below2 .ensures)
-    ∙ ap (λ n. all (λ x. ltb x (n + 1)) (c .before .before .before .before .before .before .args .states .now)) (c .before .state-byte-most .ensures)
-    ∙ numbers.last-of-two _ (sym (c .before .before .before .all-below .ensures) ∙ not-false _ (c .before .before .if1 .left))
+    ∙ ap (λ n. all (λ x. ltb x (n + 1)) (c6 .args .states .now)) (c1 .state-byte-most .ensures)
+    ∙ numbers.last-of-two _ (sym (c3 .all-below .ensures) ∙ not-false _ (c2 .if1 .left))
     ∙ sym (numbers.bytes _ _ _)
 
 pub bytes-fit-spec : {M : Type 1} → statement M

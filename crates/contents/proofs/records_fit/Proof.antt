@@ -41,13 +41,23 @@ record-fits-requires : tie.Need-record-fits-requires Inv-records μ-records
 record-fits-requires c κs = search needs
 
 returns : tie.Need-returns Inv-records μ-records
-returns c = walks.records-failed _ _ (c .before .before .before .before .records .inv) (c .before .before .before .before .before .before .before .before .pre) (c .before .before .before .records-test .taken) (sym (c .before .record-fits .ensures) ∙ not-true _ (c .if1 .taken))
+returns c =
+    let c1 = c .before in
+    let c3 = c1 .before .before in
+    let c4 = c3 .before in
+    let c8 = c4 .before .before .before .before in
+    walks.records-failed _ _ (c4 .records .inv) (c8 .pre) (c3 .records-test .taken) (sym (c1 .record-fits .ensures) ∙ not-true _ (c .if1 .taken))
 
 records-less : tie.Need-records-less Inv-records μ-records
 records-less c = search needs
 
 records-again : tie.Need-records-again Inv-records μ-records
-records-again c = walks.records-passed _ _ (c .before .before .before .before .records .inv) (c .before .before .before .before .before .before .before .before .pre) (c .before .before .before .records-test .taken) (sym (c .before .record-fits .ensures) ∙ not-false _ (c .if1 .left))
+records-again c =
+    let c1 = c .before in
+    let c3 = c1 .before .before in
+    let c4 = c3 .before in
+    let c8 = c4 .before .before .before .before in
+    walks.records-passed _ _ (c4 .records .inv) (c8 .pre) (c3 .records-test .taken) (sym (c1 .record-fits .ensures) ∙ not-false _ (c .if1 .left))
 
 returns-2 : tie.Need-returns-2 Inv-records μ-records
 returns-2 c = walks.records-done _ _ (c .before .records .inv) (c .records-test .left)

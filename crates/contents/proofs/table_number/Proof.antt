@@ -22,22 +22,56 @@ any-initial-requires : tie.Need-any-initial-requires
 any-initial-requires c κs = search needs
 
 returns-3 : tie.Need-returns-3
-returns-3 c = numbers.number-6 _ _ _ _ _ _ _ (sym (c .before .before .before .before .before .counts-fit .ensures) ∙ not-false _ (c .before .before .before .before .if1 .left)) (sym (c .before .before .before .bytes-fit .ensures) ∙ not-false _ (c .before .before .if2 .left)) (sym (c .before .any-initial .ensures) ∙ not-true _ (c .if3 .taken))
+returns-3 c =
+    let c1 = c .before in
+    let c2 = c1 .before in
+    let c3 = c2 .before in
+    let c4 = c3 .before in
+    let c5 = c4 .before in
+    numbers.number-6 _ _ _ _ _ _ _ (sym (c5 .counts-fit .ensures) ∙ not-false _ (c4 .if1 .left)) (sym (c3 .bytes-fit .ensures) ∙ not-false _ (c2 .if2 .left)) (sym (c1 .any-initial .ensures) ∙ not-true _ (c .if3 .taken))
 
 sections-fit-requires : tie.Need-sections-fit-requires
 sections-fit-requires c κs = search needs
 
 returns-4 : tie.Need-returns-4
-returns-4 c = numbers.number-7 _ _ _ _ _ _ _ (sym (c .before .before .before .before .before .before .before .counts-fit .ensures) ∙ not-false _ (c .before .before .before .before .before .before .if1 .left)) (sym (c .before .before .before .before .before .bytes-fit .ensures) ∙ not-false _ (c .before .before .before .before .if2 .left)) (sym (c .before .before .before .any-initial .ensures) ∙ not-false _ (c .before .before .if3 .left)) (sym (c .before .sections-fit .ensures) ∙ not-true _ (c .if4 .taken))
+returns-4 c =
+    let c1 = c .before in
+    let c2 = c1 .before in
+    let c3 = c2 .before in
+    let c4 = c3 .before in
+    let c5 = c4 .before in
+    let c6 = c5 .before in
+    let c7 = c6 .before in
+    numbers.number-7 _ _ _ _ _ _ _ (sym (c7 .counts-fit .ensures) ∙ not-false _ (c6 .if1 .left)) (sym (c5 .bytes-fit .ensures) ∙ not-false _ (c4 .if2 .left)) (sym (c3 .any-initial .ensures) ∙ not-false _ (c2 .if3 .left)) (sym (c1 .sections-fit .ensures) ∙ not-true _ (c .if4 .taken))
 
 sections-ascend-requires : tie.Need-sections-ascend-requires
 sections-ascend-requires c κs = search needs
 
 returns-5 : tie.Need-returns-5
-returns-5 c = numbers.number-8 _ _ _ _ _ _ _ (sym (c .before .before .before .before .before .before .before .before .before .counts-fit .ensures) ∙ not-false _ (c .before .before .before .before .before .before .before .before .if1 .left)) (sym (c .before .before .before .before .before .before .before .bytes-fit .ensures) ∙ not-false _ (c .before .before .before .before .before .before .if2 .left)) (sym (c .before .before .before .before .before .any-initial .ensures) ∙ not-false _ (c .before .before .before .before .if3 .left)) (sym (c .before .before .before .sections-fit .ensures) ∙ not-false _ (c .before .before .if4 .left)) (sym (c .before .sections-ascend .ensures) ∙ not-true _ (c .if5 .taken))
+returns-5 c =
+    let c1 = c .before in
+    let c2 = c1 .before in
+    let c3 = c2 .before in
+    let c4 = c3 .before in
+    let c5 = c4 .before in
+    let c6 = c5 .before in
+    let c7 = c6 .before in
+    let c8 = c7 .before in
+    let c9 = c8 .before in
+    numbers.number-8 _ _ _ _ _ _ _ (sym (c9 .counts-fit .ensures) ∙ not-false _ (c8 .if1 .left)) (sym (c7 .bytes-fit .ensures) ∙ not-false _ (c6 .if2 .left)) (sym (c5 .any-initial .ensures) ∙ not-false _ (c4 .if3 .left)) (sym (c3 .sections-fit .ensures) ∙ not-false _ (c2 .if4 .left)) (sym (c1 .sections-ascend .ensures) ∙ not-true _ (c .if5 .taken))
 
 returns-6 : tie.Need-returns-6
-returns-6 c = numbers.number-0 _ _ _ _ _ _ _ (sym (c .before .before .before .before .before .before .before .before .before .counts-fit .ensures) ∙ not-false _ (c .before .before .before .before .before .before .before .before .if1 .left)) (sym (c .before .before .before .before .before .before .before .bytes-fit .ensures) ∙ not-false _ (c .before .before .before .before .before .before .if2 .left)) (sym (c .before .before .before .before .before .any-initial .ensures) ∙ not-false _ (c .before .before .before .before .if3 .left)) (sym (c .before .before .before .sections-fit .ensures) ∙ not-false _ (c .before .before .if4 .left)) (sym (c .before .sections-ascend .ensures) ∙ not-false _ (c .if5 .left))
+returns-6 c =
+    let c1 = c .before in
+    let c2 = c1 .before in
+    let c3 = c2 .before in
+    let c4 = c3 .before in
+    let c5 = c4 .before in
+    let c6 = c5 .before in
+    let c7 = c6 .before in
+    let c8 = c7 .before in
+    let c9 = c8 .before in
+    numbers.number-0 _ _ _ _ _ _ _ (sym (c9 .counts-fit .ensures) ∙ not-false _ (c8 .if1 .left)) (sym (c7 .bytes-fit .ensures) ∙ not-false _ (c6 .if2 .left)) (sym (c5 .any-initial .ensures) ∙ not-false _ (c4 .if3 .left)) (sym (c3 .sections-fit .ensures) ∙ not-false _ (c2 .if4 .left)) (sym (c1 .sections-ascend .ensures) ∙ not-false _ (c .if5 .left))
 
 pub table-number-spec : {M : Type 1} → statement M
 table-number-spec =

@@ -27,7 +27,11 @@ wide-requires c κs = search needs
 
 returns : tie.Need-returns Inv-script μ-script
 unfolding symbolsFit
-returns c = all-failed _ (c .before .before .before .before .script .inv) (c .before .before .before .script-test .taken) (le-ltb _ _ (rw (c .before .wide .ensures) at (c .if1 .taken)))
+returns c =
+    let c1 = c .before in
+    let c3 = c1 .before .before in
+    let c4 = c3 .before in
+    all-failed _ (c4 .script .inv) (c3 .script-test .taken) (le-ltb _ _ (rw (c1 .wide .ensures) at (c .if1 .taken)))
 
 add-i : tie.Need-add-i Inv-script μ-script
 add-i c = search needs
@@ -36,7 +40,11 @@ script-less : tie.Need-script-less Inv-script μ-script
 script-less c = search needs
 
 script-again : tie.Need-script-again Inv-script μ-script
-script-again c = all-passed _ (c .before .before .before .before .script .inv) (c .before .before .before .script-test .taken) (lt-ltb _ _ (rw (c .before .wide .ensures) at (c .if1 .left)))
+script-again c =
+    let c1 = c .before in
+    let c3 = c1 .before .before in
+    let c4 = c3 .before in
+    all-passed _ (c4 .script .inv) (c3 .script-test .taken) (lt-ltb _ _ (rw (c1 .wide .ensures) at (c .if1 .left)))
 
 returns-2 : tie.Need-returns-2 Inv-script μ-script
 unfolding symbolsFit

@@ -32,10 +32,21 @@ script-less : tie.Need-script-less Inv-script μ-script
 script-less c = search needs
 
 script-again : tie.Need-script-again Inv-script μ-script
-script-again c = deepen-internal (c .before .before .before .before .before .script .inv) (c .before .before .before .before .script-test .taken) (ap (λ a. getD (c .before .before .before .before .before .before .before .before .args .symbols .now) a 0) (c .before .before .wide .ensures)) (c .if1 .taken)
+script-again c =
+    let c2 = c .before .before in
+    let c4 = c2 .before .before in
+    let c5 = c4 .before in
+    let c8 = c5 .before .before .before in
+    deepen-internal (c5 .script .inv) (c4 .script-test .taken) (ap (λ a. getD (c8 .args .symbols .now) a 0) (c2 .wide .ensures)) (c .if1 .taken)
 
 returns : tie.Need-returns Inv-script μ-script
-returns c = deepen-last (c .before .before .before .before .before .before .before .script .inv) (c .before .before .before .before .before .before .script-test .taken) (ap (λ a. getD (c .before .before .before .before .before .before .before .before .before .before .args .symbols .now) a 0) (c .before .before .before .before .wide .ensures)) (c .before .if2 .taken) (c .if3 .taken)
+returns c =
+    let c1 = c .before in
+    let c4 = c1 .before .before .before in
+    let c6 = c4 .before .before in
+    let c7 = c6 .before in
+    let c10 = c7 .before .before .before in
+    deepen-last (c7 .script .inv) (c6 .script-test .taken) (ap (λ a. getD (c10 .args .symbols .now) a 0) (c4 .wide .ensures)) (c1 .if2 .taken) (c .if3 .taken)
 
 add-depth : tie.Need-add-depth Inv-script μ-script
 add-depth c = let f = c .before .before .before .before .before .before .before .script .inv .few in search needs
@@ -44,10 +55,23 @@ script-less-2 : tie.Need-script-less-2 Inv-script μ-script
 script-less-2 c = search needs
 
 script-again-2 : tie.Need-script-again-2 Inv-script μ-script
-script-again-2 c = deepen-call (c .before .before .before .before .before .before .before .script .inv) (c .before .before .before .before .before .before .script-test .taken) (ap (λ a. getD (c .before .before .before .before .before .before .before .before .before .before .args .symbols .now) a 0) (c .before .before .before .before .wide .ensures)) (c .before .if2 .taken) (c .if3 .left)
+script-again-2 c =
+    let c1 = c .before in
+    let c4 = c1 .before .before .before in
+    let c6 = c4 .before .before in
+    let c7 = c6 .before in
+    let c10 = c7 .before .before .before in
+    deepen-call (c7 .script .inv) (c6 .script-test .taken) (ap (λ a. getD (c10 .args .symbols .now) a 0) (c4 .wide .ensures)) (c1 .if2 .taken) (c .if3 .left)
 
 returns-2 : tie.Need-returns-2 Inv-script μ-script
-returns-2 c = deepen-end (c .before .before .before .before .before .before .before .script .inv) (c .before .before .before .before .before .before .script-test .taken) (ap (λ a. getD (c .before .before .before .before .before .before .before .before .before .before .args .symbols .now) a 0) (c .before .before .before .before .wide .ensures)) (c .before .before .if1 .left) (c .before .if2 .left) (c .if4 .taken)
+returns-2 c =
+    let c1 = c .before in
+    let c2 = c1 .before in
+    let c4 = c2 .before .before in
+    let c6 = c4 .before .before in
+    let c7 = c6 .before in
+    let c10 = c7 .before .before .before in
+    deepen-end (c7 .script .inv) (c6 .script-test .taken) (ap (λ a. getD (c10 .args .symbols .now) a 0) (c4 .wide .ensures)) (c2 .if1 .left) (c1 .if2 .left) (c .if4 .taken)
 
 sub-depth : tie.Need-sub-depth Inv-script μ-script
 sub-depth c = search needs
@@ -56,7 +80,14 @@ script-less-3 : tie.Need-script-less-3 Inv-script μ-script
 script-less-3 c = search needs
 
 script-again-3 : tie.Need-script-again-3 Inv-script μ-script
-script-again-3 c = deepen-return (c .before .before .before .before .before .before .before .script .inv) (c .before .before .before .before .before .before .script-test .taken) (ap (λ a. getD (c .before .before .before .before .before .before .before .before .before .before .args .symbols .now) a 0) (c .before .before .before .before .wide .ensures)) (c .before .before .if1 .left) (c .before .if2 .left) (c .if4 .left)
+script-again-3 c =
+    let c1 = c .before in
+    let c2 = c1 .before in
+    let c4 = c2 .before .before in
+    let c6 = c4 .before .before in
+    let c7 = c6 .before in
+    let c10 = c7 .before .before .before in
+    deepen-return (c7 .script .inv) (c6 .script-test .taken) (ap (λ a. getD (c10 .args .symbols .now) a 0) (c4 .wide .ensures)) (c2 .if1 .left) (c1 .if2 .left) (c .if4 .left)
 
 returns-3 : tie.Need-returns-3 Inv-script μ-script
 returns-3 c = deep-none (c .before .script .inv) (c .script-test .left)

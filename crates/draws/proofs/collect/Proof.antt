@@ -40,16 +40,31 @@ records-less : tie.Need-records-less Inv-records μ-records
 records-less c = omega (arith, c .before .before .records-test .taken)
 
 records-again : tie.Need-records-again Inv-records μ-records
-records-again c = passed-over (c .before .before .before .records .inv) (omega (arith, c .before .before .records-test .taken, sizes (c .before .before .before .before) .all)) (c .before .step .ensures) (c .if1 .taken)
+records-again c =
+    let c1 = c .before in
+    let c2 = c1 .before in
+    let c3 = c2 .before in
+    let c4 = c3 .before in
+    passed-over (c3 .records .inv) (omega (arith, c2 .records-test .taken, sizes (c4) .all)) (c1 .step .ensures) (c .if1 .taken)
 
 same-length : tie.Need-same-length Inv-records μ-records
 same-length c = c .before .before .before .before .records .inv .same-room
 
 returns : tie.Need-returns Inv-records μ-records
-returns c = over-full (c .before .before .before .before .records .inv) (omega (arith, c .before .before .before .records-test .taken, sizes (c .before .before .before .before .before) .all)) (c .before .before .step .ensures) (omega (arith, c .before .if1 .left)) (c .if2 .taken)
+returns c =
+    let c1 = c .before in
+    let c2 = c1 .before in
+    let c3 = c2 .before in
+    let c4 = c3 .before in
+    let c5 = c4 .before in
+    over-full (c4 .records .inv) (omega (arith, c3 .records-test .taken, sizes (c5) .all)) (c2 .step .ensures) (omega (arith, c1 .if1 .left)) (c .if2 .taken)
 
 key-at-requires : tie.Need-key-at-requires Inv-records μ-records
-key-at-requires c κs = (c .before .before .before .before .before .before .before .pre, omega (arith, c .before .before .before .records-test .taken, sizes (c .before .before .before .before .before) .all))
+key-at-requires c κs =
+    let c3 = c .before .before .before in
+    let c5 = c3 .before .before in
+    let c7 = c5 .before .before in
+    (c7 .pre, omega (arith, c3 .records-test .taken, sizes (c5) .all))
 
 mul-keys : tie.Need-mul-keys Inv-records μ-records
 mul-keys c = search needs
@@ -65,8 +80,14 @@ records-less-2 c = omega (arith, c .before .before .before .before .records-test
 
 records-again-2 : tie.Need-records-again-2 Inv-records μ-records
 records-again-2 c =
-    let the-records = c .before .before .before .before .before .records in
-    taken (the-records .inv) (omega (arith, c .before .before .before .before .records-test .taken, sizes (c .before .before .before .before .before .before) .all)) (c .before .before .before .step .ensures) (omega (arith, c .before .before .if1 .left)) (omega (arith, the-records .inv .few, c .before .if2 .left)) (c .key-at .ensures)
+    let c1 = c .before in
+    let c2 = c1 .before in
+    let c3 = c2 .before in
+    let c4 = c3 .before in
+    let c5 = c4 .before in
+    let c6 = c5 .before in
+    let the-records = c5 .records in
+    taken (the-records .inv) (omega (arith, c4 .records-test .taken, sizes (c6) .all)) (c3 .step .ensures) (omega (arith, c2 .if1 .left)) (omega (arith, the-records .inv .few, c1 .if2 .left)) (c .key-at .ensures)
 
 same-length-2 : tie.Need-same-length-2 Inv-records μ-records
 same-length-2 c = c .before .records .inv .same-room

@@ -13,7 +13,11 @@ enum-known-reading : tie.Need-enum-known-reading
 enum-known-reading c = search needs
 
 fit-both-requires : tie.Need-fit-both-requires
-fit-both-requires c κs = record { first = c .before .before .before .before .before .before .pre; second = read-as _ _ _ (sym (c .before .before .before .read .ensures .0) ∙ c .before .reading .given .1) }
+fit-both-requires c κs =
+    let c1 = c .before in
+    let c3 = c1 .before .before in
+    let c6 = c3 .before .before .before in
+    record { first = c6 .pre; second = read-as _ _ _ (sym (c3 .read .ensures .0) ∙ c1 .reading .given .1) }
 
 enum-known-reading-2 : tie.Need-enum-known-reading-2
 enum-known-reading-2 c = search needs
@@ -23,8 +27,11 @@ returns c = search needs
 
 returns-2 : tie.Need-returns-2
 returns-2 c =
-    let n = read-refused _ _ _ (sym (c .before .before .before .read .ensures .0) ∙ c .before .reading2 .given .1) in
-    second-refused _ _ (c .before .before .before .before .before .before .pre .readable) (n .0) (n .1)
+    let c1 = c .before in
+    let c3 = c1 .before .before in
+    let c6 = c3 .before .before .before in
+    let n = read-refused _ _ _ (sym (c3 .read .ensures .0) ∙ c1 .reading2 .given .1) in
+    second-refused _ _ (c6 .pre .readable) (n .0) (n .1)
 
 pub fit-second-spec : {M : Type 1} → statement M
 fit-second-spec =

@@ -41,9 +41,13 @@ wide-requires c κs = search needs
 
 returns-3 : tie.Need-returns-3 Inv-literals μ-literals
 returns-3 c =
-    let the-literals-test = c .before .before .before .literals-test in
-    let the-literals = c .before .before .before .before .literals in
-    (let w = the-literals .inv in laws.mark-past (omega (arith, the-literals-test .taken)) (w .0) (w .1) (c .before .before .before .before .before .before .before .before .pre .0) (omega (arith, the-literals-test .taken, w .0 .inside)) (c .before .wide .ensures) (c .if3 .taken), the-literals .inv .1 .below)
+    let c1 = c .before in
+    let c3 = c1 .before .before in
+    let c4 = c3 .before in
+    let c8 = c4 .before .before .before .before in
+    let the-literals-test = c3 .literals-test in
+    let the-literals = c4 .literals in
+    (let w = the-literals .inv in laws.mark-past (omega (arith, the-literals-test .taken)) (w .0) (w .1) (c8 .pre .0) (omega (arith, the-literals-test .taken, w .0 .inside)) (c1 .wide .ensures) (c .if3 .taken), the-literals .inv .1 .below)
 
 mul-if4 : tie.Need-mul-if4 Inv-literals μ-literals
 mul-if4 c = search needs
@@ -53,26 +57,39 @@ element-copy-out-if4 c = omega (arith, c .before .before .before .before .before
 
 returns-4 : tie.Need-returns-4 Inv-literals μ-literals
 returns-4 c =
-    let the-literals-test = c .before .before .before .before .before .literals-test in
-    let the-literals = c .before .before .before .before .before .before .literals in
-    (let w = the-literals .inv in laws.mark-twice (omega (arith, the-literals-test .taken)) (w .0) (w .1) (c .before .before .before .before .before .before .before .before .before .before .pre .0) (omega (arith, the-literals-test .taken, w .0 .inside)) (c .before .before .before .wide .ensures) (c .before .before .if3 .left) (c .if4 .taken), the-literals .inv .1 .below)
+    let c2 = c .before .before in
+    let c3 = c2 .before in
+    let c5 = c3 .before .before in
+    let c6 = c5 .before in
+    let c10 = c6 .before .before .before .before in
+    let the-literals-test = c5 .literals-test in
+    let the-literals = c6 .literals in
+    (let w = the-literals .inv in laws.mark-twice (omega (arith, the-literals-test .taken)) (w .0) (w .1) (c10 .pre .0) (omega (arith, the-literals-test .taken, w .0 .inside)) (c3 .wide .ensures) (c2 .if3 .left) (c .if4 .taken), the-literals .inv .1 .below)
 
 mul-marks : tie.Need-mul-marks Inv-literals μ-literals
 mul-marks c = search needs
 
 element-write-marks : tie.Need-element-write-marks Inv-literals μ-literals
-element-write-marks c = omega (arith, c .before .before .before .before .before .before .before .before .before .before .pre .0, c .before .before .if3 .left)
+element-write-marks c =
+    let c2 = c .before .before in
+    let c10 = c2 .before .before .before .before .before .before .before .before in
+    omega (arith, c10 .pre .0, c2 .if3 .left)
 
 literals-less : tie.Need-literals-less Inv-literals μ-literals
 literals-less c = search needs
 
 literals-again : tie.Need-literals-again Inv-literals μ-literals
 literals-again c =
-    let the-if3 = c .before .before .if3 in
-    let the-wide = c .before .before .before .wide in
-    let the-literals-test = c .before .before .before .before .before .literals-test in
-    let the-literals = c .before .before .before .before .before .before .literals in
-    let the-pre = c .before .before .before .before .before .before .before .before .before .before .pre in
+    let c2 = c .before .before in
+    let c3 = c2 .before in
+    let c5 = c3 .before .before in
+    let c6 = c5 .before in
+    let c10 = c6 .before .before .before .before in
+    let the-if3 = c2 .if3 in
+    let the-wide = c3 .wide in
+    let the-literals-test = c5 .literals-test in
+    let the-literals = c6 .literals in
+    let the-pre = c10 .pre in
     (let w = the-literals .inv in laws.mark-new (omega (arith, the-literals-test .taken)) (w .0) (w .1) (the-pre .0) (omega (arith, the-literals-test .taken, w .0 .inside)) (the-wide .ensures) (the-if3 .left) (c .if4 .left), laws.mark-on (omega (arith, the-literals-test .taken)) (the-literals .inv .1) (omega (arith, the-literals-test .taken, the-literals .inv .0 .inside)) (the-wide .ensures) (omega (arith, the-pre .0, the-if3 .left)))
 
 returns-5 : tie.Need-returns-5 Inv-literals μ-literals

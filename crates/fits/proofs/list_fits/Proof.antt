@@ -40,8 +40,11 @@ sub-if1 c = search needs
 
 returns : tie.Need-returns Inv-clauses μ-clauses
 returns c =
-    let i = c .before .before .before .before .clauses .inv .0 in
-    laws.judge-short i (c .before .before .before .clauses-test .taken) (rw (c .before .wide .ensures) at (c .if1 .taken))
+    let c1 = c .before in
+    let c3 = c1 .before .before in
+    let c4 = c3 .before in
+    let i = c4 .clauses .inv .0 in
+    laws.judge-short i (c3 .clauses-test .taken) (rw (c1 .wide .ensures) at (c .if1 .taken))
 
 add-end : tie.Need-add-end Inv-clauses μ-clauses
 add-end c = search needs
@@ -59,29 +62,42 @@ part-clause-fits-end : tie.Need-part-clause-fits-end Inv-clauses μ-clauses
 part-clause-fits-end c = search needs
 
 clause-fits-requires : tie.Need-clause-fits-requires Inv-clauses μ-clauses
-clause-fits-requires c κs = (c .before .before .before .before .before .before .before .before .before .pre, c .before .before .before .before .before .before .clauses .inv .1)
+clause-fits-requires c κs =
+    let c6 = c .before .before .before .before .before .before in
+    let c9 = c6 .before .before .before in
+    (c9 .pre, c6 .clauses .inv .1)
 
 returns-2 : tie.Need-returns-2 Inv-clauses μ-clauses
 returns-2 c =
-    let k = c .before .before .before .before .before .wide .ensures in
+    let c1 = c .before in
+    let c4 = c1 .before .before .before in
+    let c5 = c4 .before in
+    let c7 = c5 .before .before in
+    let c8 = c7 .before in
+    let k = c5 .wide .ensures in
     laws.judge-unfit
-    (c .before .before .before .before .before .before .before .before .clauses .inv .0)
-    (c .before .before .before .before .before .before .before .clauses-test .taken)
-    (rw k at (c .before .before .before .before .if1 .left))
+    (c8 .clauses .inv .0)
+    (c7 .clauses-test .taken)
+    (rw k at (c4 .if1 .left))
     (rw k refl)
-    (sym (c .before .clause-fits .ensures .0) ∙ not-true _ (c .if2 .taken))
+    (sym (c1 .clause-fits .ensures .0) ∙ not-true _ (c .if2 .taken))
 
 clauses-less : tie.Need-clauses-less Inv-clauses μ-clauses
 clauses-less c = search needs
 
 clauses-again : tie.Need-clauses-again Inv-clauses μ-clauses
 clauses-again c =
-    let the-clause-fits = c .before .clause-fits in
-    let k = c .before .before .before .before .before .wide .ensures in (
+    let c1 = c .before in
+    let c4 = c1 .before .before .before in
+    let c5 = c4 .before in
+    let c7 = c5 .before .before in
+    let c8 = c7 .before in
+    let the-clause-fits = c1 .clause-fits in
+    let k = c5 .wide .ensures in (
       laws.judge-on
-          (c .before .before .before .before .before .before .before .before .clauses .inv .0)
-          (c .before .before .before .before .before .before .before .clauses-test .taken)
-          (rw k at (c .before .before .before .before .if1 .left))
+          (c8 .clauses .inv .0)
+          (c7 .clauses-test .taken)
+          (rw k at (c4 .if1 .left))
           (rw k refl)
           (sym (the-clause-fits .ensures .0) ∙ not-false _ (c .if2 .left)),
       laws.lower-still (the-clause-fits .ensures .1) (omega arith),

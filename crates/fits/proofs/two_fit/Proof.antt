@@ -19,16 +19,37 @@ wide-requires-2 : tie.Need-wide-requires-2
 wide-requires-2 c κs = search needs
 
 returns : tie.Need-returns
-returns c = sym (laws.two-is (c .before .before .before .before .before .before .args .variables) _ (c .before .before .before .before .before .before .pre) (c .before .before .before .wide .ensures) (c .before .wide2 .ensures) ∙ rw (le-ltb _ _ (c .if1 .taken)))
+returns c =
+    let c1 = c .before in
+    let c3 = c1 .before .before in
+    let c6 = c3 .before .before .before in
+    sym (laws.two-is (c6 .args .variables) _ (c6 .pre) (c3 .wide .ensures) (c1 .wide2 .ensures) ∙ rw (le-ltb _ _ (c .if1 .taken)))
 
 returns-2 : tie.Need-returns-2
-returns-2 c = sym (laws.two-is (c .before .before .before .before .before .before .before .args .variables) _ (c .before .before .before .before .before .before .before .pre) (c .before .before .before .before .wide .ensures) (c .before .before .wide2 .ensures) ∙ rw (lt-ltb _ _ (c .before .if1 .left), le-ltb _ _ (c .if2 .taken)))
+returns-2 c =
+    let c1 = c .before in
+    let c2 = c1 .before in
+    let c4 = c2 .before .before in
+    let c7 = c4 .before .before .before in
+    sym (laws.two-is (c7 .args .variables) _ (c7 .pre) (c4 .wide .ensures) (c2 .wide2 .ensures) ∙ rw (lt-ltb _ _ (c1 .if1 .left), le-ltb _ _ (c .if2 .taken)))
 
 returns-3 : tie.Need-returns-3
-returns-3 c = sym (laws.two-is (c .before .before .before .before .before .before .before .before .args .variables) _ (c .before .before .before .before .before .before .before .before .pre) (c .before .before .before .before .before .wide .ensures) (c .before .before .before .wide2 .ensures) ∙ rw (lt-ltb _ _ (c .before .before .if1 .left), lt-ltb _ _ (c .before .if2 .left), eq-eqb _ _ (c .if3 .taken)))
+returns-3 c =
+    let c1 = c .before in
+    let c2 = c1 .before in
+    let c3 = c2 .before in
+    let c5 = c3 .before .before in
+    let c8 = c5 .before .before .before in
+    sym (laws.two-is (c8 .args .variables) _ (c8 .pre) (c5 .wide .ensures) (c3 .wide2 .ensures) ∙ rw (lt-ltb _ _ (c2 .if1 .left), lt-ltb _ _ (c1 .if2 .left), eq-eqb _ _ (c .if3 .taken)))
 
 returns-4 : tie.Need-returns-4
-returns-4 c = sym (laws.two-is (c .before .before .before .before .before .before .before .before .args .variables) _ (c .before .before .before .before .before .before .before .before .pre) (c .before .before .before .before .before .wide .ensures) (c .before .before .before .wide2 .ensures) ∙ rw (lt-ltb _ _ (c .before .before .if1 .left), lt-ltb _ _ (c .before .if2 .left), ne-eqb _ _ (c .if3 .left)))
+returns-4 c =
+    let c1 = c .before in
+    let c2 = c1 .before in
+    let c3 = c2 .before in
+    let c5 = c3 .before .before in
+    let c8 = c5 .before .before .before in
+    sym (laws.two-is (c8 .args .variables) _ (c8 .pre) (c5 .wide .ensures) (c3 .wide2 .ensures) ∙ rw (lt-ltb _ _ (c2 .if1 .left), lt-ltb _ _ (c1 .if2 .left), ne-eqb _ _ (c .if3 .left)))
 
 pub two-fit-spec : {M : Type 1} → statement M
 two-fit-spec =

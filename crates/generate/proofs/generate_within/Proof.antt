@@ -21,16 +21,34 @@ sizes-fit-requires : tie.Need-sizes-fit-requires
 sizes-fit-requires c κs = search needs
 
 returns-2 : tie.Need-returns-2
-returns-2 c = let a = c .before .before .before .before .before in generated (a .args .limits) (load a) (a .args .out .now) (no-sizes (a .args .limits) (load a) (a .args .out .now) (sym (c .before .before .before .limits-fit .ensures) ∙ not-false _ (c .before .before .if1 .left)) (sym (c .before .sizes-fit .ensures) ∙ not-true _ (c .if2 .taken)))
+returns-2 c =
+    let c1 = c .before in
+    let c2 = c1 .before in
+    let c3 = c2 .before in
+    let c5 = c3 .before .before in
+    let a = c5 in generated (a .args .limits) (load a) (a .args .out .now) (no-sizes (a .args .limits) (load a) (a .args .out .now) (sym (c3 .limits-fit .ensures) ∙ not-false _ (c2 .if1 .left)) (sym (c1 .sizes-fit .ensures) ∙ not-true _ (c .if2 .taken)))
 
 write-drawn-requires : tie.Need-write-drawn-requires
-write-drawn-requires c κs = let a = c .before .before .before .before .before .before in small (a .args .limits) (load a) (a .args .out .now) (sym (c .before .before .before .before .limits-fit .ensures) ∙ not-false _ (c .before .before .before .if1 .left)) (sym (c .before .before .sizes-fit .ensures) ∙ not-false _ (c .before .if2 .left))
+write-drawn-requires c κs =
+    let c1 = c .before in
+    let c2 = c1 .before in
+    let c3 = c2 .before in
+    let c4 = c3 .before in
+    let c6 = c4 .before .before in
+    let a = c6 in small (a .args .limits) (load a) (a .args .out .now) (sym (c4 .limits-fit .ensures) ∙ not-false _ (c3 .if1 .left)) (sym (c2 .sizes-fit .ensures) ∙ not-false _ (c1 .if2 .left))
 
 same-length : tie.Need-same-length
 same-length c = search needs
 
 returns-3 : tie.Need-returns-3
-returns-3 c = let a = c .before .before .before .before .before .before .before .before .before in generated (a .args .limits) (load a) (a .args .out .now) (c .before .before .write-drawn .ensures ∙ drawn (a .args .limits) (load a) (a .args .out .now) (sym (c .before .before .before .before .before .before .before .limits-fit .ensures) ∙ not-false _ (c .before .before .before .before .before .before .if1 .left)) (sym (c .before .before .before .before .before .sizes-fit .ensures) ∙ not-false _ (c .before .before .before .before .if2 .left)))
+returns-3 c =
+    let c2 = c .before .before in
+    let c4 = c2 .before .before in
+    let c5 = c4 .before in
+    let c6 = c5 .before in
+    let c7 = c6 .before in
+    let c9 = c7 .before .before in
+    let a = c9 in generated (a .args .limits) (load a) (a .args .out .now) (c2 .write-drawn .ensures ∙ drawn (a .args .limits) (load a) (a .args .out .now) (sym (c7 .limits-fit .ensures) ∙ not-false _ (c6 .if1 .left)) (sym (c5 .sizes-fit .ensures) ∙ not-false _ (c4 .if2 .left)))
 
 pub generate-within-spec : {M : Type 1} → statement M
 generate-within-spec =

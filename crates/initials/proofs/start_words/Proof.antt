@@ -18,7 +18,10 @@ clear-requires : tie.Need-clear-requires Inv-states μ-states
 clear-requires c κs = search needs
 
 states-holds : tie.Need-states-holds Inv-states μ-states
-states-holds c = starting _ (c .before .before .before .before .before .before .pre .0) (c .before .before .clear .ensures)
+states-holds c =
+    let c2 = c .before .before in
+    let c6 = c2 .before .before .before .before in
+    starting _ (c6 .pre .0) (c2 .clear .ensures)
 
 shared-slice-read-start-word : tie.Need-shared-slice-read-start-word Inv-states μ-states
 shared-slice-read-start-word c = search needs
@@ -42,7 +45,10 @@ states-again : tie.Need-states-again Inv-states μ-states
 states-again c = start-on (c .before .before .before .states .inv) (c .before .before .states-test .taken) (c .start-word .ensures)
 
 same-length : tie.Need-same-length Inv-states μ-states
-same-length c = start-long (c .before .states .inv) ∙ sym (c .before .before .before .before .before .before .before .before .pre .1)
+same-length c =
+    let c1 = c .before in
+    let c8 = c1 .before .before .before .before .before .before .before in
+    start-long (c1 .states .inv) ∙ sym (c8 .pre .1)
 
 returns : tie.Need-returns Inv-states μ-states
 returns c = started (c .before .states .inv) (c .states-test .left)

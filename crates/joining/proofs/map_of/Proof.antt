@@ -31,8 +31,13 @@ wide-requires-2 c κs = search needs
 
 array-read-map : tie.Need-array-read-map Inv-states μ-states
 array-read-map c =
-    let the-lowest-joined = c .before .before .before .before .before .lowest-joined in
-    omega (arith, c .wide2 .ensures, ap (λ x. getD (the-lowest-joined .result) x 0) (c .before .before .wide .ensures), low-small (c .before .before .before .before .before .before .before .pre .0) (the-lowest-joined .ensures) (c .before .before .before .before .states .inv) (c .before .before .before .states-test .taken))
+    let c2 = c .before .before in
+    let c3 = c2 .before in
+    let c4 = c3 .before in
+    let c5 = c4 .before in
+    let c7 = c5 .before .before in
+    let the-lowest-joined = c5 .lowest-joined in
+    omega (arith, c .wide2 .ensures, ap (λ x. getD (the-lowest-joined .result) x 0) (c2 .wide .ensures), low-small (c7 .pre .0) (the-lowest-joined .ensures) (c4 .states .inv) (c3 .states-test .taken))
 
 array-write-map : tie.Need-array-write-map Inv-states μ-states
 array-write-map c = search needs
@@ -45,8 +50,14 @@ states-less c = search needs
 
 states-again : tie.Need-states-again Inv-states μ-states
 states-again c =
-    let the-wide = c .before .before .wide in
-    rw (c .wide2 .ensures, the-wide .ensures) (numbered-joined (c .before .before .before .before .before .before .before .pre .0) (c .before .before .before .before .before .lowest-joined .ensures) (c .before .before .before .before .states .inv) (c .before .before .before .states-test .taken) (rw (the-wide .ensures) at (c .before .if1 .taken)))
+    let c1 = c .before in
+    let c2 = c1 .before in
+    let c3 = c2 .before in
+    let c4 = c3 .before in
+    let c5 = c4 .before in
+    let c7 = c5 .before .before in
+    let the-wide = c2 .wide in
+    rw (c .wide2 .ensures, the-wide .ensures) (numbered-joined (c7 .pre .0) (c5 .lowest-joined .ensures) (c4 .states .inv) (c3 .states-test .taken) (rw (the-wide .ensures) at (c1 .if1 .taken)))
 
 array-write-map-2 : tie.Need-array-write-map-2 Inv-states μ-states
 array-write-map-2 c = search needs
@@ -62,8 +73,13 @@ states-less-2 c = search needs
 
 states-again-2 : tie.Need-states-again-2 Inv-states μ-states
 states-again-2 c =
-    let the-wide = c .before .wide in
-    rw (the-wide .ensures) (numbered-new (c .before .before .before .before .before .before .pre .0) (c .before .before .before .before .lowest-joined .ensures) (c .before .before .before .states .inv) (c .before .before .states-test .taken) (rw (the-wide .ensures) at (c .if1 .left)))
+    let c1 = c .before in
+    let c2 = c1 .before in
+    let c3 = c2 .before in
+    let c4 = c3 .before in
+    let c6 = c4 .before .before in
+    let the-wide = c1 .wide in
+    rw (the-wide .ensures) (numbered-new (c6 .pre .0) (c4 .lowest-joined .ensures) (c3 .states .inv) (c2 .states-test .taken) (rw (the-wide .ensures) at (c .if1 .left)))
 
 returns : tie.Need-returns Inv-states μ-states
 returns c = numbered-all (c .before .states .inv) (c .states-test .left)

@@ -28,8 +28,10 @@ sub-middle c = search needs
 
 add-middle : tie.Need-add-middle Inv-halves μ-halves
 add-middle c =
-    let the-args = c .before .before .before .before .args in
-    omega (arith, c .before .halves .inv, c .halves-test .taken, div-le-self (length (the-args .section .now)) (the-args .width), c .before .before .before .before .good .0 .0)
+    let c1 = c .before in
+    let c4 = c1 .before .before .before in
+    let the-args = c4 .args in
+    omega (arith, c1 .halves .inv, c .halves-test .taken, div-le-self (length (the-args .section .now)) (the-args .width), c4 .good .0 .0)
 
 even-at-requires : tie.Need-even-at-requires Inv-halves μ-halves
 even-at-requires c κs =
@@ -38,20 +40,35 @@ even-at-requires c κs =
 
 add-low : tie.Need-add-low Inv-halves μ-halves
 add-low c =
-    let the-args = c .before .before .before .before .before .before .args in
-    omega (arith, c .before .before .before .halves .inv, c .before .before .halves-test .taken, div-le-self (length (the-args .section .now)) (the-args .width), c .before .before .before .before .before .before .good .0 .0)
+    let c2 = c .before .before in
+    let c3 = c2 .before in
+    let c6 = c3 .before .before .before in
+    let the-args = c6 .args in
+    omega (arith, c3 .halves .inv, c2 .halves-test .taken, div-le-self (length (the-args .section .now)) (the-args .width), c6 .good .0 .0)
 
 halves-less : tie.Need-halves-less Inv-halves μ-halves
 halves-less c = search needs
 
 halves-again : tie.Need-halves-again Inv-halves μ-halves
-halves-again c = upper-half (λ i. c .before .before .before .before .before .shared-slice-known .given i .fits) (c .before .before .before .halves .inv) (omega arith) (omega (arith, c .before .before .halves-test .taken)) (c .before .even-at .ensures) (c .before .before .before .before .lowest-at .ensures) (c .if1 .taken)
+halves-again c =
+    let c1 = c .before in
+    let c2 = c1 .before in
+    let c3 = c2 .before in
+    let c4 = c3 .before in
+    let c5 = c4 .before in
+    upper-half (λ i. c5 .shared-slice-known .given i .fits) (c3 .halves .inv) (omega arith) (omega (arith, c2 .halves-test .taken)) (c1 .even-at .ensures) (c4 .lowest-at .ensures) (c .if1 .taken)
 
 halves-less-2 : tie.Need-halves-less-2 Inv-halves μ-halves
 halves-less-2 c = search needs
 
 halves-again-2 : tie.Need-halves-again-2 Inv-halves μ-halves
-halves-again-2 c = lower-half (λ i. c .before .before .before .before .before .shared-slice-known .given i .fits) (c .before .before .before .halves .inv) (omega arith) (omega (arith, c .before .before .halves-test .taken)) (c .before .even-at .ensures) (c .before .before .before .before .lowest-at .ensures) (c .if1 .left)
+halves-again-2 c =
+    let c1 = c .before in
+    let c2 = c1 .before in
+    let c3 = c2 .before in
+    let c4 = c3 .before in
+    let c5 = c4 .before in
+    lower-half (λ i. c5 .shared-slice-known .given i .fits) (c3 .halves .inv) (omega arith) (omega (arith, c2 .halves-test .taken)) (c1 .even-at .ensures) (c4 .lowest-at .ensures) (c .if1 .left)
 
 returns : tie.Need-returns Inv-halves μ-halves
 returns c =

@@ -26,20 +26,27 @@ with-byte-requires c κs =
     omega (arith, c .before .two-at .ensures, part-small (the-args .section .now) (λ i. c .before .before .shared-slice-known .given i .fits) (the-args .at) 2 (omega arith))
 
 add-with-byte-2 : tie.Need-add-with-byte-2
-add-with-byte-2 c = omega (arith, c .before .before .before .before .pre, c .before .before .before .before .good .0 .0)
+add-with-byte-2 c =
+    let c4 = c .before .before .before .before in
+    omega (arith, c4 .pre, c4 .good .0 .0)
 
 shared-slice-read-with-byte-2 : tie.Need-shared-slice-read-with-byte-2
 shared-slice-read-with-byte-2 c = omega (arith, c .before .before .before .before .before .pre)
 
 with-byte-requires-2 : tie.Need-with-byte-requires-2
 with-byte-requires-2 c κs =
-    let the-args = c .before .before .before .before .before .args in
-    omega (arith, three (c .before), part-small (the-args .section .now) (λ i. c .before .before .before .before .shared-slice-known .given i .fits) (the-args .at) 3 (omega arith))
+    let c1 = c .before in
+    let c4 = c1 .before .before .before in
+    let c5 = c4 .before in
+    let the-args = c5 .args in
+    omega (arith, three (c1), part-small (the-args .section .now) (λ i. c4 .shared-slice-known .given i .fits) (the-args .at) 3 (omega arith))
 
 returns : tie.Need-returns
 returns c =
-    let the-args = c .before .before .before .before .before .before .args in
-    next-byte (the-args .section .now) (the-args .at) 3 (three (c .before .before)) (c .before .before .before .before .before .before .pre) refl (c .with-byte2 .ensures)
+    let c2 = c .before .before in
+    let c6 = c2 .before .before .before .before in
+    let the-args = c6 .args in
+    next-byte (the-args .section .now) (the-args .at) 3 (three (c2)) (c6 .pre) refl (c .with-byte2 .ensures)
 
 pub four-at-spec : {M : Type 1} → statement M
 four-at-spec =

@@ -27,19 +27,30 @@ key-at-requires c κs =
 
 returns : tie.Need-returns Inv-records μ-records
 returns c =
-    let the-records = c .before .before .before .records in
-    ((the-records .inv .ordered, the-records .inv .within), pass-end (the-records .inv) (λ i. c .before .before .before .before .shared-slice-known .given i .fits) (c .before .before .records-test .taken) (c .before .key-at .ensures) (c .if1 .taken))
+    let c1 = c .before in
+    let c2 = c1 .before in
+    let c3 = c2 .before in
+    let c4 = c3 .before in
+    let the-records = c3 .records in
+    ((the-records .inv .ordered, the-records .inv .within), pass-end (the-records .inv) (λ i. c4 .shared-slice-known .given i .fits) (c2 .records-test .taken) (c1 .key-at .ensures) (c .if1 .taken))
 
 add-i : tie.Need-add-i Inv-records μ-records
 add-i c =
-    let the-args = c .before .before .before .before .before .args in
-    omega (arith, c .before .before .records-test .taken, div-le-self (length (the-args .section .now)) (the-args .width), c .before .before .before .before .before .good .0 .0)
+    let c2 = c .before .before in
+    let c5 = c2 .before .before .before in
+    let the-args = c5 .args in
+    omega (arith, c2 .records-test .taken, div-le-self (length (the-args .section .now)) (the-args .width), c5 .good .0 .0)
 
 records-less : tie.Need-records-less Inv-records μ-records
 records-less c = search needs
 
 records-again : tie.Need-records-again Inv-records μ-records
-records-again c = pass-on (c .before .before .before .records .inv) (λ i. c .before .before .before .before .shared-slice-known .given i .fits) (c .before .before .records-test .taken) (c .before .key-at .ensures) (c .if1 .left)
+records-again c =
+    let c1 = c .before in
+    let c2 = c1 .before in
+    let c3 = c2 .before in
+    let c4 = c3 .before in
+    pass-on (c3 .records .inv) (λ i. c4 .shared-slice-known .given i .fits) (c2 .records-test .taken) (c1 .key-at .ensures) (c .if1 .left)
 
 returns-2 : tie.Need-returns-2 Inv-records μ-records
 returns-2 c =

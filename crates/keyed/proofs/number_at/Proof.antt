@@ -18,14 +18,20 @@ shared-slice-read-with-byte c = omega (arith, c .before .before .before .before 
 
 with-byte-requires : tie.Need-with-byte-requires
 with-byte-requires c κs =
-    let the-args = c .before .before .before .before .args in
-    omega (arith, c .before .two-at .ensures, part-small (the-args .section .now) (λ i. c .before .before .before .shared-slice-known .given i .fits) (the-args .at) 2 (omega arith))
+    let c1 = c .before in
+    let c3 = c1 .before .before in
+    let c4 = c3 .before in
+    let the-args = c4 .args in
+    omega (arith, c1 .two-at .ensures, part-small (the-args .section .now) (λ i. c3 .shared-slice-known .given i .fits) (the-args .at) 2 (omega arith))
 
 returns : tie.Need-returns
 returns c =
-    let the-args = c .before .before .before .before .before .args in
-    next-byte (the-args .section .now) (the-args .at) 2 (c .before .before .two-at .ensures) (omega (arith, c .before .before .before .before .before .pre)) refl (c .with-byte .ensures)
-    ∙ ap (λ w. key (take w (drop (the-args .at) (the-args .section .now)))) (sym (c .before .before .before .if1 .taken))
+    let c2 = c .before .before in
+    let c3 = c2 .before in
+    let c5 = c3 .before .before in
+    let the-args = c5 .args in
+    next-byte (the-args .section .now) (the-args .at) 2 (c2 .two-at .ensures) (omega (arith, c5 .pre)) refl (c .with-byte .ensures)
+    ∙ ap (λ w. key (take w (drop (the-args .at) (the-args .section .now)))) (sym (c3 .if1 .taken))
 
 four-at-requires : tie.Need-four-at-requires
 four-at-requires c κs = omega (arith, c .before .before .pre, c .if1 .left)

@@ -20,9 +20,12 @@ with-byte-requires-3 c κs =
 
 returns : tie.Need-returns
 returns c =
-    let the-fits = c .before .before .before .fits in
-    let the-args = c .before .before .before .args in
-    three-keyed (the-fits .q .fits) (the-fits .a .fits) (the-fits .s .fits) (c .with-byte3 .ensures ∙ ap (λ n. n * 256 + the-args .s) (c .before .with-byte2 .ensures ∙ ap (λ n. n * 256 + the-args .a) (c .before .before .with-byte .ensures)))
+    let c1 = c .before in
+    let c2 = c1 .before in
+    let c3 = c2 .before in
+    let the-fits = c3 .fits in
+    let the-args = c3 .args in
+    three-keyed (the-fits .q .fits) (the-fits .a .fits) (the-fits .s .fits) (c .with-byte3 .ensures ∙ ap (λ n. n * 256 + the-args .s) (c1 .with-byte2 .ensures ∙ ap (λ n. n * 256 + the-args .a) (c2 .with-byte .ensures)))
 
 pub return-key-spec : {M : Type 1} → statement M
 return-key-spec =

@@ -19,13 +19,19 @@ shared-slice-read-with-byte-2 : tie.Need-shared-slice-read-with-byte-2
 shared-slice-read-with-byte-2 c = search needs
 
 with-byte-requires-2 : tie.Need-with-byte-requires-2
-with-byte-requires-2 c κs = omega (arith, c .before .with-byte .ensures, c .before .before .before .shared-slice-known .given (c .before .before .before .before .args .at) .fits)
+with-byte-requires-2 c κs =
+    let c1 = c .before in
+    let c3 = c1 .before .before in
+    let c4 = c3 .before in
+    omega (arith, c1 .with-byte .ensures, c3 .shared-slice-known .given (c4 .args .at) .fits)
 
 returns : tie.Need-returns
 returns c =
-    let the-args = c .before .before .before .before .before .args in
-    let the-pre = c .before .before .before .before .before .pre in
-    next-byte (the-args .section .now) (the-args .at) 1 (first-byte (the-args .section .now) (the-args .at) (omega (arith, the-pre)) (c .before .before .with-byte .ensures)) (the-pre) refl (c .with-byte2 .ensures)
+    let c2 = c .before .before in
+    let c5 = c2 .before .before .before in
+    let the-args = c5 .args in
+    let the-pre = c5 .pre in
+    next-byte (the-args .section .now) (the-args .at) 1 (first-byte (the-args .section .now) (the-args .at) (omega (arith, the-pre)) (c2 .with-byte .ensures)) (the-pre) refl (c .with-byte2 .ensures)
 
 pub two-at-spec : {M : Type 1} → statement M
 two-at-spec =

@@ -29,7 +29,12 @@ has-bit-requires : tie.Need-has-bit-requires Inv-states μ-states
 has-bit-requires c κs = search needs
 
 returns : tie.Need-returns Inv-states μ-states
-returns c = end-found (c .before .before .before .before .before .before .states .inv) (c .before .before .before .before .before .states-test .taken) (c .before .before .before .if1 .taken) (c .before .has-bit .ensures) (c .if2 .taken)
+returns c =
+    let c1 = c .before in
+    let c3 = c1 .before .before in
+    let c5 = c3 .before .before in
+    let c6 = c5 .before in
+    end-found (c6 .states .inv) (c5 .states-test .taken) (c3 .if1 .taken) (c1 .has-bit .ensures) (c .if2 .taken)
 
 add-q : tie.Need-add-q Inv-states μ-states
 add-q c = search needs

@@ -213,8 +213,11 @@ fill-requires-2 c κs = (omega arith, omega (arith, c .before .before .records .
 
 returns : tie.Need-returns Inv-records μ-records
 returns c =
-    let s = c .before .before .before .before .before in
-    indexed (c .before .before .before .records .inv) (omega (arith, c .before .before .records-test .left, length-records (s .args .width) (s .args .section .now))) (c .fill2 .ensures)
+    let c2 = c .before .before in
+    let c3 = c2 .before in
+    let c5 = c3 .before .before in
+    let s = c5 in
+    indexed (c3 .records .inv) (omega (arith, c2 .records-test .left, length-records (s .args .width) (s .args .section .now))) (c .fill2 .ensures)
 
 pub starts-of-spec : {M : Type 1} → statement M
 starts-of-spec =

@@ -47,13 +47,19 @@ element-copy-out-if1-3 : tie.Need-element-copy-out-if1-3 Inv-words μ-words
 element-copy-out-if1-3 c = search needs
 
 returns : tie.Need-returns Inv-words μ-words
-returns c = cover-not (c .before .before .before .before .before .words .inv) (c .before .before .before .before .words-test .taken) (c .if1 .taken)
+returns c =
+    let c4 = c .before .before .before .before in
+    let c5 = c4 .before in
+    cover-not (c5 .words .inv) (c4 .words-test .taken) (c .if1 .taken)
 
 words-less : tie.Need-words-less Inv-words μ-words
 words-less c = search needs
 
 words-again : tie.Need-words-again Inv-words μ-words
-words-again c = cover-on (c .before .before .before .before .before .words .inv) (c .before .before .before .before .words-test .taken) (c .if1 .left)
+words-again c =
+    let c4 = c .before .before .before .before in
+    let c5 = c4 .before in
+    cover-on (c5 .words .inv) (c4 .words-test .taken) (c .if1 .left)
 
 returns-2 : tie.Need-returns-2 Inv-words μ-words
 returns-2 c = covered (c .before .words .inv) (c .words-test .left)

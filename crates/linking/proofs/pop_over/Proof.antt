@@ -59,10 +59,16 @@ add-at : tie.Need-add-at Inv-records μ-records
 add-at c = search needs
 
 records-less : tie.Need-records-less Inv-records μ-records
-records-less c = omega (arith, c .before .before .before .before .before .before .before .records .inv .place .inside, c .before .before .before .before .before .before .records-test .taken)
+records-less c =
+    let c6 = c .before .before .before .before .before .before in
+    let c7 = c6 .before in
+    omega (arith, c7 .records .inv .place .inside, c6 .records-test .taken)
 
 records-again : tie.Need-records-again Inv-records μ-records
-records-again c = pop-past (c .before .before .before .before .before .before .before .records .inv) (c .before .before .before .before .before .before .records-test .taken)
+records-again c =
+    let c6 = c .before .before .before .before .before .before in
+    let c7 = c6 .before in
+    pop-past (c7 .records .inv) (c6 .records-test .taken)
 
 add-wide-2 : tie.Need-add-wide-2 Inv-records μ-records
 add-wide-2 c = search needs
@@ -84,14 +90,29 @@ wide-requires-4 c κs = search needs
 
 after-return-requires : tie.Need-after-return-requires Inv-records μ-records
 after-return-requires c κs =
-    let the-args = c .before .before .before .before .before .before .before .before .before .before .before .before .before .args in
-    let pre = c .before .before .before .before .before .before .before .before .before .before .before .before .before .pre in
-    (pre .2, pre .4, return-small (c .before .before .before .before .before .before .before .before .before .before .before .records .inv .place) (c .before .before .before .before .before .before .before .before .before .before .records-test .taken) (sym (c .before .before .before .before .before .before .before .if1 .left) ∙ c .before .before .before .before .before .before .before .before .wide .ensures) (c .before .before .wide3 .ensures) (c .before .before .before .before .before .wide2 .ensures) (c .wide4 .ensures) (pre .1) .1, below (the-args .y) (the-args .n))
+    let c2 = c .before .before in
+    let c5 = c2 .before .before .before in
+    let c7 = c5 .before .before in
+    let c8 = c7 .before in
+    let c10 = c8 .before .before in
+    let c11 = c10 .before in
+    let c13 = c11 .before .before in
+    let the-args = c13 .args in
+    let pre = c13 .pre in
+    (pre .2, pre .4, return-small (c11 .records .inv .place) (c10 .records-test .taken) (sym (c7 .if1 .left) ∙ c8 .wide .ensures) (c2 .wide3 .ensures) (c5 .wide2 .ensures) (c .wide4 .ensures) (pre .1) .1, below (the-args .y) (the-args .n))
 
 pair-requires : tie.Need-pair-requires Inv-records μ-records
 pair-requires c κs =
-    let pre = c .before .before .before .before .before .before .before .before .before .before .before .before .before .before .pre in
-    (return-small (c .before .before .before .before .before .before .before .before .before .before .before .before .records .inv .place) (c .before .before .before .before .before .before .before .before .before .before .before .records-test .taken) (sym (c .before .before .before .before .before .before .before .before .if1 .left) ∙ c .before .before .before .before .before .before .before .before .before .wide .ensures) (c .before .before .before .wide3 .ensures) (c .before .before .before .before .before .before .wide2 .ensures) (c .before .wide4 .ensures) (pre .1) .3, c .after-return .ensures .1, pre .2 .few)
+    let c1 = c .before in
+    let c3 = c1 .before .before in
+    let c6 = c3 .before .before .before in
+    let c8 = c6 .before .before in
+    let c9 = c8 .before in
+    let c11 = c9 .before .before in
+    let c12 = c11 .before in
+    let c14 = c12 .before .before in
+    let pre = c14 .pre in
+    (return-small (c12 .records .inv .place) (c11 .records-test .taken) (sym (c8 .if1 .left) ∙ c9 .wide .ensures) (c3 .wide3 .ensures) (c6 .wide2 .ensures) (c1 .wide4 .ensures) (pre .1) .3, c .after-return .ensures .1, pre .2 .few)
 
 link-requires : tie.Need-link-requires Inv-records μ-records
 link-requires c κs = search needs
@@ -100,21 +121,35 @@ add-at-2 : tie.Need-add-at-2 Inv-records μ-records
 add-at-2 c = search needs
 
 records-less-2 : tie.Need-records-less-2 Inv-records μ-records
-records-less-2 c = omega (arith, c .before .before .before .before .before .before .before .before .before .before .before .before .before .before .before .before .before .records .inv .place .inside, c .before .before .before .before .before .before .before .before .before .before .before .before .before .before .before .before .records-test .taken)
+records-less-2 c =
+    let c16 = c .before .before .before .before .before .before .before .before .before .before .before .before .before .before .before .before in
+    let c17 = c16 .before in
+    omega (arith, c17 .records .inv .place .inside, c16 .records-test .taken)
 
 records-again-2 : tie.Need-records-again-2 Inv-records μ-records
 records-again-2 c =
-    let the-args = c .before .before .before .before .before .before .before .before .before .before .before .before .before .before .before .before .before .before .before .args in
-    let pre = c .before .before .before .before .before .before .before .before .before .before .before .before .before .before .before .before .before .before .before .pre in
-    let inv = c .before .before .before .before .before .before .before .before .before .before .before .before .before .before .before .before .before .records .inv in
-    let inside = c .before .before .before .before .before .before .before .before .before .before .before .before .before .before .before .before .records-test .taken in
-    let wide-gave = c .before .before .before .before .before .before .before .before .before .before .before .before .before .before .wide .ensures in
-    let if1-told = c .before .before .before .before .before .before .before .before .before .before .before .before .before .if1 .left in
-    let wide2-gave = c .before .before .before .before .before .before .before .before .before .before .before .wide2 .ensures in
-    let wide3-gave = c .before .before .before .before .before .before .before .before .wide3 .ensures in
-    let wide4-gave = c .before .before .before .before .before .before .wide4 .ensures in
-    let after-return-gave = c .before .before .before .before .before .after-return .ensures in
-    pop-on inv inside (sym if1-told ∙ wide-gave) wide3-gave wide2-gave wide4-gave (back (the-args .y) (the-args .n) (c .before .before .before .before .before .before .before .before .before .before .if2 .left)) (after-return-gave .0) (c .before .before .before .before .pair .ensures .0) (pre .4) (return-small (inv .place) inside (sym if1-told ∙ wide-gave) wide3-gave wide2-gave wide4-gave (pre .1) .1) (below (the-args .y) (the-args .n)) (after-return-gave .1) (c .link .ensures)
+    let c4 = c .before .before .before .before in
+    let c5 = c4 .before in
+    let c6 = c5 .before in
+    let c8 = c6 .before .before in
+    let c10 = c8 .before .before in
+    let c11 = c10 .before in
+    let c13 = c11 .before .before in
+    let c14 = c13 .before in
+    let c16 = c14 .before .before in
+    let c17 = c16 .before in
+    let c19 = c17 .before .before in
+    let the-args = c19 .args in
+    let pre = c19 .pre in
+    let inv = c17 .records .inv in
+    let inside = c16 .records-test .taken in
+    let wide-gave = c14 .wide .ensures in
+    let if1-told = c13 .if1 .left in
+    let wide2-gave = c11 .wide2 .ensures in
+    let wide3-gave = c8 .wide3 .ensures in
+    let wide4-gave = c6 .wide4 .ensures in
+    let after-return-gave = c5 .after-return .ensures in
+    pop-on inv inside (sym if1-told ∙ wide-gave) wide3-gave wide2-gave wide4-gave (back (the-args .y) (the-args .n) (c10 .if2 .left)) (after-return-gave .0) (c4 .pair .ensures .0) (pre .4) (return-small (inv .place) inside (sym if1-told ∙ wide-gave) wide3-gave wide2-gave wide4-gave (pre .1) .1) (below (the-args .y) (the-args .n)) (after-return-gave .1) (c .link .ensures)
 
 returns-2 : tie.Need-returns-2 Inv-records μ-records
 returns-2 c = c .before .records .inv .kept

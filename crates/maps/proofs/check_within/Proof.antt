@@ -15,20 +15,30 @@ slice-aggregate-map-number : tie.Need-slice-aggregate-map-number
 slice-aggregate-map-number c = search needs
 
 map-number-requires : tie.Need-map-number-requires
-map-number-requires c κs = read-known _ _ (c .before .before .before .before .before .examine .ensures) (c .before .before .before .if1 .left)
+map-number-requires c κs =
+    let c3 = c .before .before .before in
+    let c5 = c3 .before .before in
+    read-known _ _ (c5 .examine .ensures) (c3 .if1 .left)
 
 returns-2 : tie.Need-returns-2
 returns-2 c =
-    let readable = read-readable _ _ (c .before .before .before .before .before .before .before .examine .ensures) (c .before .before .before .before .before .if1 .left) in
-    checked _ _ _ (check-refused _ _ _ (tested _ _ _ readable (c .before .map-number .ensures)) (c .if2 .taken))
+    let c1 = c .before in
+    let c5 = c1 .before .before .before .before in
+    let c7 = c5 .before .before in
+    let readable = read-readable _ _ (c7 .examine .ensures) (c5 .if1 .left) in
+    checked _ _ _ (check-refused _ _ _ (tested _ _ _ readable (c1 .map-number .ensures)) (c .if2 .taken))
 
 class-count-requires : tie.Need-class-count-requires
 class-count-requires c κs = search needs
 
 returns-3 : tie.Need-returns-3
 returns-3 c =
-    let readable = read-readable _ _ (c .before .before .before .before .before .before .before .before .examine .ensures) (c .before .before .before .before .before .before .if1 .left) in
-    checked _ _ _ (check-accepted _ _ _ (tested _ _ _ readable (c .before .before .map-number .ensures)) (c .before .if2 .left) (c .class-count .ensures))
+    let c1 = c .before in
+    let c2 = c1 .before in
+    let c6 = c2 .before .before .before .before in
+    let c8 = c6 .before .before in
+    let readable = read-readable _ _ (c8 .examine .ensures) (c6 .if1 .left) in
+    checked _ _ _ (check-accepted _ _ _ (tested _ _ _ readable (c2 .map-number .ensures)) (c1 .if2 .left) (c .class-count .ensures))
 
 pub check-within-spec : {M : Type 1} → statement M
 check-within-spec = tie.close (tie.spec examine-requires returns slice-aggregate-map-number map-number-requires returns-2 class-count-requires returns-3)

@@ -19,15 +19,24 @@ part-requires-4 c κs = search needs
 
 tests-number-requires : tie.Need-tests-number-requires
 tests-number-requires c κs =
-    known-parts (c .before .before .before .before .before .before .before .pre)
-    (c .before .before .before .part .ensures) (c .before .before .part2 .ensures) (c .before .part3 .ensures) (c .part4 .ensures)
+    let c1 = c .before in
+    let c2 = c1 .before in
+    let c3 = c2 .before in
+    let c7 = c3 .before .before .before .before in
+    known-parts (c7 .pre)
+    (c3 .part .ensures) (c2 .part2 .ensures) (c1 .part3 .ensures) (c .part4 .ensures)
 
 returns : tie.Need-returns
 returns c =
+    let c1 = c .before in
+    let c2 = c1 .before in
+    let c3 = c2 .before in
+    let c4 = c3 .before in
+    let c8 = c4 .before .before .before .before in
     c .tests-number .ensures
-    ∙ parts-tests (c .before .before .before .before .before .before .before .before .pre)
-    (c .before .before .before .before .part .ensures) (c .before .before .before .part2 .ensures) (c .before .before .part3 .ensures) (c .before .part4 .ensures)
-    (c .before .before .before .before .before .before .before .before .args .map .now)
+    ∙ parts-tests (c8 .pre)
+    (c4 .part .ensures) (c3 .part2 .ensures) (c2 .part3 .ensures) (c1 .part4 .ensures)
+    (c8 .args .map .now)
 
 pub map-number-spec : {M : Type 1} → statement M
 map-number-spec =

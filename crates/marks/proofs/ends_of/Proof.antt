@@ -31,10 +31,17 @@ room : (c : tie.In-records Inv-records μ-records) → c .before .records .i * c
 room c = let a = c .before .before .before .before in index-room (a .args .width) (a .args .section .now) (omega (arith, a .pre .moves)) (c .before .records .i) (here c)
 
 state : (c : tie.After-wide Inv-records μ-records) → c .wide .result ≡ stateAt (c .before .before .before .before .before .before .args .width) (c .before .before .before .before .before .before .args .section .now) (c .before .before .before .records .i)
-state c = let a = c .before .before .before .before .before .before in c .wide .ensures ∙ state-here (a .args .width) (a .args .section .now) (omega (arith, a .pre .moves)) (c .before .before .before .records .i) (here (c .before .before))
+state c =
+    let c2 = c .before .before in
+    let c3 = c2 .before in
+    let c6 = c3 .before .before .before in
+    let a = c6 in c .wide .ensures ∙ state-here (a .args .width) (a .args .section .now) (omega (arith, a .pre .moves)) (c3 .records .i) (here (c2))
 
 small : (c : tie.After-wide Inv-records μ-records) → c .wide .result < 40
-small c = let a = c .before .before .before .before .before .before in omega (arith, state c, state-small (a .pre) (here (c .before .before)), a .pre .few-states)
+small c =
+    let c2 = c .before .before in
+    let c6 = c2 .before .before .before .before in
+    let a = c6 in omega (arith, state c, state-small (a .pre) (here (c2)), a .pre .few-states)
 
 mul-wide : tie.Need-mul-wide Inv-records μ-records
 mul-wide c = omega (arith, room c)
@@ -46,7 +53,10 @@ wide-requires : tie.Need-wide-requires Inv-records μ-records
 wide-requires c κs = search needs
 
 add-i : tie.Need-add-i Inv-records μ-records
-add-i c = let a = c .before .before .before .before .before .before in omega (arith, here (c .before .before), records-count (a .args .width) (a .args .section .now), div-le-self (length (a .args .section .now)) (a .args .width))
+add-i c =
+    let c2 = c .before .before in
+    let c6 = c2 .before .before .before .before in
+    let a = c6 in omega (arith, here (c2), records-count (a .args .width) (a .args .section .now), div-le-self (length (a .args .section .now)) (a .args .width))
 
 mul-ends : tie.Need-mul-ends Inv-records μ-records
 mul-ends c = omega (arith, small c)

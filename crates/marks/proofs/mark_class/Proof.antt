@@ -37,21 +37,33 @@ room c = let a = c .before .before .before .before .before .before in index-room
 -- the record that is lent, the class of its state, and the state
 fields : (c : tie.Then1 Inv-records μ-records) → take (c .before .before .before .before .records .i * c .before .before .before .before .before .before .before .before .before .args .width + c .before .before .before .before .before .before .before .before .before .args .width - c .before .before .before .before .records .i * c .before .before .before .before .before .before .before .before .before .args .width) (drop (c .before .before .before .before .records .i * c .before .before .before .before .before .before .before .before .before .args .width) (c .before .before .before .before .before .before .before .before .before .args .section .now)) ≡ recordAt (c .before .before .before .before .before .before .before .before .before .args .width) (c .before .before .before .before .before .before .before .before .before .args .section .now) (c .before .before .before .before .records .i)
 fields c =
-    let the-before = c .before .before .before in
-    let a = c .before .before .before .before .before .before .before .before .before in record-here (a .args .width) (a .args .section .now) (some (the-before)) (c .before .before .before .before .records .i) (here (the-before))
+    let c3 = c .before .before .before in
+    let c4 = c3 .before in
+    let c9 = c4 .before .before .before .before .before in
+    let the-before = c3 in
+    let a = c9 in record-here (a .args .width) (a .args .section .now) (some (the-before)) (c4 .records .i) (here (the-before))
 
 class-here : (c : tie.After-class-at Inv-records μ-records) → c .class-at .result ≡ classOf (c .before .before .before .before .before .before .before .before .args .map .now) (stateAt (c .before .before .before .before .before .before .before .before .args .width) (c .before .before .before .before .before .before .before .before .args .section .now) (c .before .before .before .records .i))
 class-here c =
-    let the-before = c .before .before in
-    let a = c .before .before .before .before .before .before .before .before in c .class-at .ensures ∙ ap (classOf (a .args .map .now)) (state-here (a .args .width) (a .args .section .now) (some (the-before)) (c .before .before .before .records .i) (here (the-before)))
+    let c2 = c .before .before in
+    let c3 = c2 .before in
+    let c8 = c3 .before .before .before .before .before in
+    let the-before = c2 in
+    let a = c8 in c .class-at .ensures ∙ ap (classOf (a .args .map .now)) (state-here (a .args .width) (a .args .section .now) (some (the-before)) (c3 .records .i) (here (the-before)))
 
 state : (c : tie.After-wide Inv-records μ-records) → c .wide .result ≡ stateAt (c .before .before .before .before .before .before .before .before .before .before .args .width) (c .before .before .before .before .before .before .before .before .before .before .args .section .now) (c .before .before .before .before .before .records .i)
 state c =
-    let the-before = c .before .before .before .before in
-    let a = c .before .before .before .before .before .before .before .before .before .before in c .wide .ensures ∙ state-here (a .args .width) (a .args .section .now) (some (the-before)) (c .before .before .before .before .before .records .i) (here (the-before))
+    let c4 = c .before .before .before .before in
+    let c5 = c4 .before in
+    let c10 = c5 .before .before .before .before .before in
+    let the-before = c4 in
+    let a = c10 in c .wide .ensures ∙ state-here (a .args .width) (a .args .section .now) (some (the-before)) (c5 .records .i) (here (the-before))
 
 small : (c : tie.After-wide Inv-records μ-records) → c .wide .result < 40
-small c = let a = c .before .before .before .before .before .before .before .before .before .before in omega (arith, state c, state-small (a .pre .0 .0) (here (c .before .before .before .before)), a .pre .0 .0 .few-states)
+small c =
+    let c4 = c .before .before .before .before in
+    let c10 = c4 .before .before .before .before .before .before in
+    let a = c10 in omega (arith, state c, state-small (a .pre .0 .0) (here (c4)), a .pre .0 .0 .few-states)
 
 mul-at : tie.Need-mul-at Inv-records μ-records
 mul-at c = omega (arith, room c)
@@ -75,10 +87,18 @@ part-mark-of-end : tie.Need-part-mark-of-end Inv-records μ-records
 part-mark-of-end c = omega (arith, room (c .before .before .before))
 
 mark-of-requires : tie.Need-mark-of-requires Inv-records μ-records
-mark-of-requires c κs = let a = c .before .before .before .before .before .before .before .before .before .before .before in subst (Placed (a .args .map .now)) (sym (fields (c .before .before))) (record-placed (a .pre .0 .0) (here (c .before .before .before .before .before)))
+mark-of-requires c κs =
+    let c2 = c .before .before in
+    let c5 = c2 .before .before .before in
+    let c11 = c5 .before .before .before .before .before .before in
+    let a = c11 in subst (Placed (a .args .map .now)) (sym (fields (c2))) (record-placed (a .pre .0 .0) (here (c5)))
 
 slice-write-out : tie.Need-slice-write-out Inv-records μ-records
-slice-write-out c = let a = c .before .before .before .before .before .before .before .before .before .before .before .before in omega (arith, here (c .before .before .before .before .before .before), c .before .before .before .before .before .before .before .records .inv .long, a .pre .0 .2)
+slice-write-out c =
+    let c6 = c .before .before .before .before .before .before in
+    let c7 = c6 .before in
+    let c12 = c7 .before .before .before .before .before in
+    let a = c12 in omega (arith, here (c6), c7 .records .inv .long, a .pre .0 .2)
 
 add-i : tie.Need-add-i Inv-records μ-records
 add-i c = search needs
@@ -88,11 +108,16 @@ records-less c = omega (arith, here (c .before .before .before .before .before .
 
 records-again : tie.Need-records-again Inv-records μ-records
 records-again c =
-    let the-records = c .before .before .before .before .before .before .before .records in
-    let a = c .before .before .before .before .before .before .before .before .before .before .before .before in
+    let c3 = c .before .before .before in
+    let c4 = c3 .before in
+    let c6 = c4 .before .before in
+    let c7 = c6 .before in
+    let c12 = c7 .before .before .before .before .before in
+    let the-records = c7 .records in
+    let a = c12 in
     let s : Stamped (a .args .words .now) (a .args .map .now) (a .args .stamp) (recordAt (a .args .width) (a .args .section .now) (the-records .i)) (the-records .room) (c .mark-of .result) (c .mark-of .last .1 .1 .1 .1 .0) =
-    subst (λ (r : List ℕ). Stamped (a .args .words .now) (a .args .map .now) (a .args .stamp) r (the-records .room) (c .mark-of .result) (c .mark-of .last .1 .1 .1 .1 .0)) (fields (c .before .before .before)) (c .mark-of .ensures) in
-    mark-on (a .pre .0 .0) (the-records .inv) (here (c .before .before .before .before .before .before)) (sym (class-here (c .before .before .before .before)) ∙ c .before .before .before .if1 .taken) (a .pre .0 .2) s
+    subst (λ (r : List ℕ). Stamped (a .args .words .now) (a .args .map .now) (a .args .stamp) r (the-records .room) (c .mark-of .result) (c .mark-of .last .1 .1 .1 .1 .0)) (fields (c3)) (c .mark-of .ensures) in
+    mark-on (a .pre .0 .0) (the-records .inv) (here (c6)) (sym (class-here (c4)) ∙ c3 .if1 .taken) (a .pre .0 .2) s
 
 wide-requires : tie.Need-wide-requires Inv-records μ-records
 wide-requires c κs = search needs
@@ -105,11 +130,21 @@ element-copy-out-i c = small c
 
 records-less-2 : tie.Need-records-less-2 Inv-records μ-records
 records-less-2 c =
-    let the-before = c .before .before .before .before .before in
-    let a = c .before .before .before .before .before .before .before .before .before .before .before in omega (arith, here (the-before), ahead (a .pre .0 .1) (here (the-before)) (state (c .before)))
+    let c1 = c .before in
+    let c5 = c1 .before .before .before .before in
+    let c11 = c5 .before .before .before .before .before .before in
+    let the-before = c5 in
+    let a = c11 in omega (arith, here (the-before), ahead (a .pre .0 .1) (here (the-before)) (state (c1)))
 
 records-again-2 : tie.Need-records-again-2 Inv-records μ-records
-records-again-2 c = let a = c .before .before .before .before .before .before .before .before .before .before .before in skip (a .pre .0 .0) (c .before .before .before .before .before .before .records .inv) (a .pre .0 .1) (here (c .before .before .before .before .before)) (state (c .before)) (λ e. c .before .before .if1 .left (class-here (c .before .before .before) ∙ ap (classOf (a .args .map .now)) (sym (state (c .before))) ∙ e))
+records-again-2 c =
+    let c1 = c .before in
+    let c2 = c1 .before in
+    let c3 = c2 .before in
+    let c5 = c3 .before .before in
+    let c6 = c5 .before in
+    let c11 = c6 .before .before .before .before .before in
+    let a = c11 in skip (a .pre .0 .0) (c6 .records .inv) (a .pre .0 .1) (here (c5)) (state (c1)) (λ e. c2 .if1 .left (class-here (c3) ∙ ap (classOf (a .args .map .now)) (sym (state (c1))) ∙ e))
 
 same-length : tie.Need-same-length Inv-records μ-records
 same-length c = c .before .records .inv .long

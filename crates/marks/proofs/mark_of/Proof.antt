@@ -21,15 +21,24 @@ element-copy-out-if2 : tie.Need-element-copy-out-if2
 element-copy-out-if2 c = search needs
 
 returns-2 : tie.Need-returns-2
-returns-2 c = again (sym (c .before .before .before .before .keeps .ensures) ∙ not-false _ (c .before .before .before .if1 .left)) (ap (λ p. getD (c .before .before .before .before .before .before .before .before .args .room .now) p 0) (sym (c .before .before .place-of .ensures .0)) ∙ c .if2 .taken)
+returns-2 c =
+    let c2 = c .before .before in
+    let c3 = c2 .before in
+    let c4 = c3 .before in
+    let c8 = c4 .before .before .before .before in
+    again (sym (c4 .keeps .ensures) ∙ not-false _ (c3 .if1 .left)) (ap (λ p. getD (c8 .args .room .now) p 0) (sym (c2 .place-of .ensures .0)) ∙ c .if2 .taken)
 
 element-write-room : tie.Need-element-write-room
 element-write-room c = search needs
 
 returns-3 : tie.Need-returns-3
 returns-3 c =
-    let the-place-of = c .before .before .place-of in
-    let a = c .before .before .before .before .before .before .before .before in subst (λ (p : ℕ). Stamped (a .args .words .now) (a .args .map .now) (a .args .stamp) (a .args .fields .now) (a .args .room .now) 0 (set (a .args .room .now) p (a .args .stamp))) (sym (the-place-of .ensures .0)) (first (sym (c .before .before .before .before .keeps .ensures) ∙ not-false _ (c .before .before .before .if1 .left)) (λ e. c .if2 .left (ap (λ p. getD (a .args .room .now) p 0) (the-place-of .ensures .0) ∙ e)))
+    let c2 = c .before .before in
+    let c3 = c2 .before in
+    let c4 = c3 .before in
+    let c8 = c4 .before .before .before .before in
+    let the-place-of = c2 .place-of in
+    let a = c8 in subst (λ (p : ℕ). Stamped (a .args .words .now) (a .args .map .now) (a .args .stamp) (a .args .fields .now) (a .args .room .now) 0 (set (a .args .room .now) p (a .args .stamp))) (sym (the-place-of .ensures .0)) (first (sym (c4 .keeps .ensures) ∙ not-false _ (c3 .if1 .left)) (λ e. c .if2 .left (ap (λ p. getD (a .args .room .now) p 0) (the-place-of .ensures .0) ∙ e)))
 
 pub mark-of-spec : {M : Type 1} → statement M
 mark-of-spec =

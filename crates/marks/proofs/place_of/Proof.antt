@@ -27,13 +27,17 @@ class-at-requires c κs = search needs
 
 add-result : tie.Need-add-result
 add-result c =
-    let the-pre = c .before .before .before .before .before .before .pre in
-    omega (arith, c .before .before .wide .ensures, c .class-at .ensures, the-pre .symbol, the-pre .class (getD (c .before .before .before .before .before .before .args .fields .now) 2 0))
+    let c2 = c .before .before in
+    let c6 = c2 .before .before .before .before in
+    let the-pre = c6 .pre in
+    omega (arith, c2 .wide .ensures, c .class-at .ensures, the-pre .symbol, the-pre .class (getD (c6 .args .fields .now) 2 0))
 
 mul-result-2 : tie.Need-mul-result-2
 mul-result-2 c =
-    let the-pre = c .before .before .before .before .before .before .pre in
-    omega (arith, c .before .before .wide .ensures, c .class-at .ensures, the-pre .symbol, the-pre .class (getD (c .before .before .before .before .before .before .args .fields .now) 2 0))
+    let c2 = c .before .before in
+    let c6 = c2 .before .before .before .before in
+    let the-pre = c6 .pre in
+    omega (arith, c2 .wide .ensures, c .class-at .ensures, the-pre .symbol, the-pre .class (getD (c6 .args .fields .now) 2 0))
 
 shared-slice-read-class-at-2 : tie.Need-shared-slice-read-class-at-2
 shared-slice-read-class-at-2 c = search needs
@@ -43,17 +47,23 @@ class-at-requires-2 c κs = search needs
 
 add-result-2 : tie.Need-add-result-2
 add-result-2 c =
-    let the-pre = c .before .before .before .before .before .before .before .before .pre in
-    let the-args = c .before .before .before .before .before .before .before .before .args in
-    omega (arith, c .before .before .before .before .wide .ensures, c .before .before .class-at .ensures, c .class-at2 .ensures, the-pre .symbol, the-pre .class (getD (the-args .fields .now) 2 0), the-pre .class (getD (the-args .fields .now) (length (the-args .fields .now) - 1) 0))
+    let c2 = c .before .before in
+    let c4 = c2 .before .before in
+    let c8 = c4 .before .before .before .before in
+    let the-pre = c8 .pre in
+    let the-args = c8 .args in
+    omega (arith, c4 .wide .ensures, c2 .class-at .ensures, c .class-at2 .ensures, the-pre .symbol, the-pre .class (getD (the-args .fields .now) 2 0), the-pre .class (getD (the-args .fields .now) (length (the-args .fields .now) - 1) 0))
 
 returns : tie.Need-returns
 unfolding placeOf
 returns c =
-    let the-class-at = c .before .before .class-at in
-    let the-wide = c .before .before .before .before .wide in
-    let the-pre = c .before .before .before .before .before .before .before .before .pre in
-    let the-args = c .before .before .before .before .before .before .before .before .args in
+    let c2 = c .before .before in
+    let c4 = c2 .before .before in
+    let c8 = c4 .before .before .before .before in
+    let the-class-at = c2 .class-at in
+    let the-wide = c4 .wide in
+    let the-pre = c8 .pre in
+    let the-args = c8 .args in
     ((λ j. (the-wide .ensures j * 40 + the-class-at .ensures j) * 40 + c .class-at2 .ensures j), omega (arith, the-wide .ensures, the-class-at .ensures, c .class-at2 .ensures, the-pre .symbol, the-pre .class (getD (the-args .fields .now) 2 0), the-pre .class (getD (the-args .fields .now) (length (the-args .fields .now) - 1) 0)))
 
 pub place-of-spec : {M : Type 1} → statement M

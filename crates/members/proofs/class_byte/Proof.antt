@@ -25,9 +25,15 @@ member-mark-requires c κs = search needs
 -- the byte that is made is one
 fits : (c : tie.After-member-mark) → c .before .before .before .bit-of .result + 2 * c .before .bit-of2 .result + 4 * c .member-mark .result ≤ 255
 fits c =
-    let a = c .before .before .before .before .before .before .before in
-    let k = mark-small (a .args .states .now) (a .args .map .now) (a .args .class) (λ i. c .before .before .before .before .before .before .shared-slice-known .given i .fits) in
-    omega (arith, k, c .member-mark .ensures, c .before .bit-of2 .ensures, bit-small (c .before .before .member-has2 .result), c .before .before .before .bit-of .ensures, bit-small (c .before .before .before .before .member-has .result))
+    let c1 = c .before in
+    let c2 = c1 .before in
+    let c3 = c2 .before in
+    let c4 = c3 .before in
+    let c6 = c4 .before .before in
+    let c7 = c6 .before in
+    let a = c7 in
+    let k = mark-small (a .args .states .now) (a .args .map .now) (a .args .class) (λ i. c6 .shared-slice-known .given i .fits) in
+    omega (arith, k, c .member-mark .ensures, c1 .bit-of2 .ensures, bit-small (c2 .member-has2 .result), c3 .bit-of .ensures, bit-small (c4 .member-has .result))
 
 mul-result : tie.Need-mul-result
 mul-result c = omega (arith, fits c)
@@ -42,7 +48,12 @@ add-result-2 : tie.Need-add-result-2
 add-result-2 c = omega (arith, fits c)
 
 returns : tie.Need-returns
-returns c = byte-made _ _ _ (c .before .before .before .before .member-has .ensures) (c .before .before .before .bit-of .ensures) (c .before .before .member-has2 .ensures) (c .before .bit-of2 .ensures) (c .member-mark .ensures)
+returns c =
+    let c1 = c .before in
+    let c2 = c1 .before in
+    let c3 = c2 .before in
+    let c4 = c3 .before in
+    byte-made _ _ _ (c4 .member-has .ensures) (c3 .bit-of .ensures) (c2 .member-has2 .ensures) (c1 .bit-of2 .ensures) (c .member-mark .ensures)
 
 pub class-byte-spec : {M : Type 1} → statement M
 class-byte-spec =

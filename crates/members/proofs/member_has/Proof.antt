@@ -26,7 +26,12 @@ div-if2 : tie.Need-div-if2 Inv-states μ-states
 div-if2 c = search needs
 
 returns : tie.Need-returns Inv-states μ-states
-returns c = member-found (c .before .before .before .before .before .states .inv) (c .before .before .before .before .states-test .taken) (c .before .before .before .class-of .ensures) (c .before .before .if1 .taken) (c .if2 .taken)
+returns c =
+    let c2 = c .before .before in
+    let c3 = c2 .before in
+    let c4 = c3 .before in
+    let c5 = c4 .before in
+    member-found (c5 .states .inv) (c4 .states-test .taken) (c3 .class-of .ensures) (c2 .if1 .taken) (c .if2 .taken)
 
 add-q : tie.Need-add-q Inv-states μ-states
 add-q c = search needs

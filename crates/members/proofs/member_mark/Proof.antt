@@ -22,7 +22,12 @@ shared-slice-read-result : tie.Need-shared-slice-read-result Inv-states μ-state
 shared-slice-read-result c = search needs
 
 returns : tie.Need-returns Inv-states μ-states
-returns c = mark-found (c .before .before .before .before .states .inv) (c .before .before .before .states-test .taken) (c .before .before .class-of .ensures) (c .before .if1 .taken)
+returns c =
+    let c1 = c .before in
+    let c2 = c1 .before in
+    let c3 = c2 .before in
+    let c4 = c3 .before in
+    mark-found (c4 .states .inv) (c3 .states-test .taken) (c2 .class-of .ensures) (c1 .if1 .taken)
 
 add-q : tie.Need-add-q Inv-states μ-states
 add-q c = search needs

@@ -27,8 +27,11 @@ class-byte-requires c κs = search needs
 
 slice-write-out : tie.Need-slice-write-out Inv-classes μ-classes
 slice-write-out c =
-    let the-classes = c .before .before .classes in
-    let a = c .before .before .before .before .before .before in omega (arith, c .before .classes-test .taken, length-bytes (ofStates (a .args .states .now)) (a .args .map .now) (a .args .classes), the-classes .inv .room, laws.same-length (the-classes .inv))
+    let c1 = c .before in
+    let c2 = c1 .before in
+    let c6 = c2 .before .before .before .before in
+    let the-classes = c2 .classes in
+    let a = c6 in omega (arith, c1 .classes-test .taken, length-bytes (ofStates (a .args .states .now)) (a .args .map .now) (a .args .classes), the-classes .inv .room, laws.same-length (the-classes .inv))
 
 add-c : tie.Need-add-c Inv-classes μ-classes
 add-c c = search needs
@@ -38,9 +41,12 @@ classes-less c = search needs
 
 classes-again : tie.Need-classes-again Inv-classes μ-classes
 classes-again c =
-    let the-classes-test = c .before .classes-test in
-    let the-classes = c .before .before .classes in
-    let a = c .before .before .before .before .before .before in
+    let c1 = c .before in
+    let c2 = c1 .before in
+    let c6 = c2 .before .before .before .before in
+    let the-classes-test = c1 .classes-test in
+    let the-classes = c2 .classes in
+    let a = c6 in
     let byte = c .class-byte .ensures ∙ byte-of-class (ofStates (a .args .states .now)) (a .args .map .now) (a .args .classes) (the-classes .c) (the-classes-test .taken) in
     rw byte (laws.write-on (the-classes .inv) (omega (arith, the-classes-test .taken, length-bytes (ofStates (a .args .states .now)) (a .args .map .now) (a .args .classes))))
 

@@ -34,11 +34,15 @@ states-less c = search needs
 
 states-again : tie.Need-states-again Inv-states μ-states
 states-again c =
-    let the-states = c .before .before .before .before .states in
+    let c1 = c .before in
+    let c2 = c1 .before in
+    let c3 = c2 .before in
+    let c4 = c3 .before in
+    let the-states = c4 .states in
     let i = the-states .inv in
-    let t = c .before .before .before .states-test .taken in
-    let e = c .before .wide .ensures in
-    let b = c .before .before .shared-slice-known2 .given (the-states .q) .fits in
+    let t = c3 .states-test .taken in
+    let e = c1 .wide .ensures in
+    let b = c2 .shared-slice-known2 .given (the-states .q) .fits in
     ⊎-elim (λ w. rw (w .1) (class-more i t e (omega arith) (w .0 .taken))) (λ w. rw (w .1) (class-within i t e (w .0 .left))) (c .if1 .came)
 
 returns : tie.Need-returns Inv-states μ-states

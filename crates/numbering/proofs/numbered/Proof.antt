@@ -23,7 +23,11 @@ wide-requires : tie.Need-wide-requires Inv-states μ-states
 wide-requires c κs = search needs
 
 returns : tie.Need-returns Inv-states μ-states
-returns c = number-past (c .before .before .before .before .states .inv) (c .before .before .before .states-test .taken) (c .before .wide .ensures) (c .if1 .taken)
+returns c =
+    let c1 = c .before in
+    let c3 = c1 .before .before in
+    let c4 = c3 .before in
+    number-past (c4 .states .inv) (c3 .states-test .taken) (c1 .wide .ensures) (c .if1 .taken)
 
 add-next : tie.Need-add-next Inv-states μ-states
 add-next c = search needs
@@ -36,10 +40,14 @@ states-less c = search needs
 
 states-again : tie.Need-states-again Inv-states μ-states
 states-again c =
-    let i = c .before .before .before .before .before .states .inv in
-    let t = c .before .before .before .before .states-test .taken in
-    let e = c .before .before .wide .ensures in
-    ⊎-elim (λ w. rw (w .1) (number-new i t e (w .0 .taken))) (λ w. rw (w .1) (number-old i t e (c .before .if1 .left) (w .0 .left))) (c .if2 .came)
+    let c1 = c .before in
+    let c2 = c1 .before in
+    let c4 = c2 .before .before in
+    let c5 = c4 .before in
+    let i = c5 .states .inv in
+    let t = c4 .states-test .taken in
+    let e = c2 .wide .ensures in
+    ⊎-elim (λ w. rw (w .1) (number-new i t e (w .0 .taken))) (λ w. rw (w .1) (number-old i t e (c1 .if1 .left) (w .0 .left))) (c .if2 .came)
 
 returns-2 : tie.Need-returns-2 Inv-states μ-states
 returns-2 c = numbered-all (c .before .states .inv) (c .states-test .left)

@@ -24,55 +24,107 @@ passes-holds c =
 
 drain-requires : tie.Need-drain-requires Inv-passes μ-passes
 drain-requires c κs =
-    let the-passes = c .before .before .before .before .passes in
-    ((laws.drain-ready (the-passes .inv .0), the-passes .inv .1), (c .before .before .before .before .before .before .before .before .before .pre .1 .1 .0, the-passes .inv .0 .queue))
+    let c4 = c .before .before .before .before in
+    let c9 = c4 .before .before .before .before .before in
+    let the-passes = c4 .passes in
+    ((laws.drain-ready (the-passes .inv .0), the-passes .inv .1), (c9 .pre .1 .1 .0, the-passes .inv .0 .queue))
 
 same-length : tie.Need-same-length Inv-passes μ-passes
-same-length c = laws.drained-values (c .before .before .before .before .before .before .before .before .before .before .passes .inv .0) (c .before .before .before .before .before .drain .ensures .0)
+same-length c =
+    let c5 = c .before .before .before .before .before in
+    let c10 = c5 .before .before .before .before .before in
+    laws.drained-values (c10 .passes .inv .0) (c5 .drain .ensures .0)
 
 same-length-2 : tie.Need-same-length-2 Inv-passes μ-passes
-same-length-2 c = laws.drained-trail (c .before .before .before .before .before .before .before .before .before .before .passes .inv .0) (c .before .before .before .before .before .drain .ensures .0)
+same-length-2 c =
+    let c5 = c .before .before .before .before .before in
+    let c10 = c5 .before .before .before .before .before in
+    laws.drained-trail (c10 .passes .inv .0) (c5 .drain .ensures .0)
 
 returns : tie.Need-returns Inv-passes μ-passes
 returns c =
-    let the-drain = c .before .before .before .before .before .drain in
-    (laws.drain-broken (c .before .before .before .before .before .before .before .before .before .before .passes .inv .0) (the-drain .ensures .0) (c .if1 .taken), the-drain .ensures .1)
+    let c5 = c .before .before .before .before .before in
+    let c10 = c5 .before .before .before .before .before in
+    let the-drain = c5 .drain in
+    (laws.drain-broken (c10 .passes .inv .0) (the-drain .ensures .0) (c .if1 .taken), the-drain .ensures .1)
 
 pass-requires : tie.Need-pass-requires Inv-passes μ-passes
 pass-requires c κs =
-    let the-drain = c .before .before .before .before .before .before .before .before .before .drain in
-    let the-pre = c .before .before .before .before .before .before .before .before .before .before .before .before .before .before .before .before .before .before .before .pre in
-    (the-pre .0, (laws.pass-ready (c .before .before .before .before .before .before .before .before .before .before .before .before .before .before .passes .inv .0) (the-drain .ensures .0), (the-pre .1 .1 .0, the-drain .ensures .1)))
+    let c9 = c .before .before .before .before .before .before .before .before .before in
+    let c14 = c9 .before .before .before .before .before in
+    let c19 = c14 .before .before .before .before .before in
+    let the-drain = c9 .drain in
+    let the-pre = c19 .pre in
+    (the-pre .0, (laws.pass-ready (c14 .passes .inv .0) (the-drain .ensures .0), (the-pre .1 .1 .0, the-drain .ensures .1)))
 
 same-length-3 : tie.Need-same-length-3 Inv-passes μ-passes
-same-length-3 c = laws.settle-values (c .before .before .before .before .before .before .before .before .before .before .before .before .before .before .before .before .before .before .before .before .passes .inv .0) (c .before .before .before .before .before .before .before .before .before .before .before .before .before .before .before .drain .ensures .0) (c .before .before .before .before .before .before .before .before .before .before .if1 .left) (c .before .before .before .before .before .pass .ensures .0)
+same-length-3 c =
+    let c5 = c .before .before .before .before .before in
+    let c10 = c5 .before .before .before .before .before in
+    let c15 = c10 .before .before .before .before .before in
+    let c20 = c15 .before .before .before .before .before in
+    laws.settle-values (c20 .passes .inv .0) (c15 .drain .ensures .0) (c10 .if1 .left) (c5 .pass .ensures .0)
 
 same-length-4 : tie.Need-same-length-4 Inv-passes μ-passes
-same-length-4 c = laws.settle-trail (c .before .before .before .before .before .before .before .before .before .before .before .before .before .before .before .before .before .before .before .before .passes .inv .0) (c .before .before .before .before .before .before .before .before .before .before .before .before .before .before .before .drain .ensures .0) (c .before .before .before .before .before .before .before .before .before .before .if1 .left) (c .before .before .before .before .before .pass .ensures .0)
+same-length-4 c =
+    let c5 = c .before .before .before .before .before in
+    let c10 = c5 .before .before .before .before .before in
+    let c15 = c10 .before .before .before .before .before in
+    let c20 = c15 .before .before .before .before .before in
+    laws.settle-trail (c20 .passes .inv .0) (c15 .drain .ensures .0) (c10 .if1 .left) (c5 .pass .ensures .0)
 
 returns-2 : tie.Need-returns-2 Inv-passes μ-passes
 returns-2 c =
-    let the-pass = c .before .before .before .before .before .pass in
-    (laws.settle-broken (c .before .before .before .before .before .before .before .before .before .before .before .before .before .before .before .before .before .before .before .before .passes .inv .0) (c .before .before .before .before .before .before .before .before .before .before .before .before .before .before .before .drain .ensures .0) (c .before .before .before .before .before .before .before .before .before .before .if1 .left) (the-pass .ensures .0) (c .if2 .taken), the-pass .ensures .1)
+    let c5 = c .before .before .before .before .before in
+    let c10 = c5 .before .before .before .before .before in
+    let c15 = c10 .before .before .before .before .before in
+    let c20 = c15 .before .before .before .before .before in
+    let the-pass = c5 .pass in
+    (laws.settle-broken (c20 .passes .inv .0) (c15 .drain .ensures .0) (c10 .if1 .left) (the-pass .ensures .0) (c .if2 .taken), the-pass .ensures .1)
 
 same-length-5 : tie.Need-same-length-5 Inv-passes μ-passes
-same-length-5 c = laws.settle-values (c .before .before .before .before .before .before .before .before .before .before .before .before .before .before .before .before .before .before .before .before .before .before .passes .inv .0) (c .before .before .before .before .before .before .before .before .before .before .before .before .before .before .before .before .before .drain .ensures .0) (c .before .before .before .before .before .before .before .before .before .before .before .before .if1 .left) (c .before .before .before .before .before .before .before .pass .ensures .0)
+same-length-5 c =
+    let c7 = c .before .before .before .before .before .before .before in
+    let c12 = c7 .before .before .before .before .before in
+    let c17 = c12 .before .before .before .before .before in
+    let c22 = c17 .before .before .before .before .before in
+    laws.settle-values (c22 .passes .inv .0) (c17 .drain .ensures .0) (c12 .if1 .left) (c7 .pass .ensures .0)
 
 same-length-6 : tie.Need-same-length-6 Inv-passes μ-passes
-same-length-6 c = laws.settle-trail (c .before .before .before .before .before .before .before .before .before .before .before .before .before .before .before .before .before .before .before .before .before .before .passes .inv .0) (c .before .before .before .before .before .before .before .before .before .before .before .before .before .before .before .before .before .drain .ensures .0) (c .before .before .before .before .before .before .before .before .before .before .before .before .if1 .left) (c .before .before .before .before .before .before .before .pass .ensures .0)
+same-length-6 c =
+    let c7 = c .before .before .before .before .before .before .before in
+    let c12 = c7 .before .before .before .before .before in
+    let c17 = c12 .before .before .before .before .before in
+    let c22 = c17 .before .before .before .before .before in
+    laws.settle-trail (c22 .passes .inv .0) (c17 .drain .ensures .0) (c12 .if1 .left) (c7 .pass .ensures .0)
 
 returns-3 : tie.Need-returns-3 Inv-passes μ-passes
 returns-3 c =
-    let the-pass = c .before .before .before .before .before .before .before .pass in
-    (laws.settle-rest (c .before .before .before .before .before .before .before .before .before .before .before .before .before .before .before .before .before .before .before .before .before .before .passes .inv .0) (c .before .before .before .before .before .before .before .before .before .before .before .before .before .before .before .before .before .drain .ensures .0) (c .before .before .before .before .before .before .before .before .before .before .before .before .if1 .left) (the-pass .ensures .0) (c .before .before .if2 .left) (c .if3 .taken), the-pass .ensures .1)
+    let c2 = c .before .before in
+    let c7 = c2 .before .before .before .before .before in
+    let c12 = c7 .before .before .before .before .before in
+    let c17 = c12 .before .before .before .before .before in
+    let c22 = c17 .before .before .before .before .before in
+    let the-pass = c7 .pass in
+    (laws.settle-rest (c22 .passes .inv .0) (c17 .drain .ensures .0) (c12 .if1 .left) (the-pass .ensures .0) (c2 .if2 .left) (c .if3 .taken), the-pass .ensures .1)
 
 passes-less : tie.Need-passes-less Inv-passes μ-passes
-passes-less c = laws.settle-less (c .before .before .before .before .before .before .before .before .before .before .before .before .before .before .before .before .before .before .before .before .before .before .passes .inv .0) (c .before .before .before .before .before .before .before .before .before .before .before .before .before .before .before .before .before .drain .ensures .0) (c .before .before .before .before .before .before .before .before .before .before .before .before .if1 .left) (c .before .before .before .before .before .before .before .pass .ensures .0) (c .if3 .left)
+passes-less c =
+    let c7 = c .before .before .before .before .before .before .before in
+    let c12 = c7 .before .before .before .before .before in
+    let c17 = c12 .before .before .before .before .before in
+    let c22 = c17 .before .before .before .before .before in
+    laws.settle-less (c22 .passes .inv .0) (c17 .drain .ensures .0) (c12 .if1 .left) (c7 .pass .ensures .0) (c .if3 .left)
 
 passes-again : tie.Need-passes-again Inv-passes μ-passes
 passes-again c =
-    let the-pass = c .before .before .before .before .before .before .before .pass in
-    (laws.settle-more (c .before .before .before .before .before .before .before .before .before .before .before .before .before .before .before .before .before .before .before .before .before .before .passes .inv .0) (c .before .before .before .before .before .before .before .before .before .before .before .before .before .before .before .before .before .drain .ensures .0) (c .before .before .before .before .before .before .before .before .before .before .before .before .if1 .left) (the-pass .ensures .0) (c .before .before .if2 .left), the-pass .ensures .1)
+    let c2 = c .before .before in
+    let c7 = c2 .before .before .before .before .before in
+    let c12 = c7 .before .before .before .before .before in
+    let c17 = c12 .before .before .before .before .before in
+    let c22 = c17 .before .before .before .before .before in
+    let the-pass = c7 .pass in
+    (laws.settle-more (c22 .passes .inv .0) (c17 .drain .ensures .0) (c12 .if1 .left) (the-pass .ensures .0) (c2 .if2 .left), the-pass .ensures .1)
 
 pub settle-spec : {M : Type 1} → statement M
 settle-spec =

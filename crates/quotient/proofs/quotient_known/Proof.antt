@@ -20,8 +20,11 @@ same-length c = search needs
 
 returns-2 : tie.Need-returns-2
 returns-2 c L readable =
-    c .before .before .write-read .ensures
-    ∙ quotient-written L _ _ _ (tested L _ _ readable (c .before .before .before .before .before .map-number .ensures) ∙ c .before .before .before .before .if1 .left)
+    let c2 = c .before .before in
+    let c4 = c2 .before .before in
+    let c5 = c4 .before in
+    c2 .write-read .ensures
+    ∙ quotient-written L _ _ _ (tested L _ _ readable (c5 .map-number .ensures) ∙ c4 .if1 .left)
 
 pub quotient-known-spec : {M : Type 1} → statement M
 quotient-known-spec = tie.close (tie.spec map-number-requires returns write-read-requires same-length returns-2)

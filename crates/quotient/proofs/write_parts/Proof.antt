@@ -13,8 +13,13 @@ start c = c .before .before .before .before .before .before .before .before .bef
 
 few : (c : tie.After-return-keys2) → Few (start c .args .symbols .now) (c .before .before .before .before .before .before .before .before .before .class-count .result) (c .before .before .before .before .before .before .before .collect .result) (c .before .before .before .before .collect2 .result) (c .before .collect3 .result)
 few c =
+    let c1 = c .before in
+    let c4 = c1 .before .before .before in
+    let c7 = c4 .before .before .before in
+    let c9 = c7 .before .before in
+    let c11 = c9 .before .before in
     let a = start c in
-    counts-few (a .args .version) (a .args .symbols .now) (a .args .states .now) (a .args .internals .now) (a .args .calls .now) (a .args .returns .now) (a .args .words .now) (a .args .map .now) (c .before .before .before .before .before .before .before .before .before .class-count .ensures) (c .before .before .before .before .before .before .before .collect .ensures) (c .before .before .before .before .collect2 .ensures) (c .before .collect3 .ensures) (a .pre) (λ k. c .before .before .before .before .before .before .before .before .before .before .before .shared-slice-known7 .given k .fits)
+    counts-few (a .args .version) (a .args .symbols .now) (a .args .states .now) (a .args .internals .now) (a .args .calls .now) (a .args .returns .now) (a .args .words .now) (a .args .map .now) (c9 .class-count .ensures) (c7 .collect .ensures) (c4 .collect2 .ensures) (c1 .collect3 .ensures) (a .pre) (λ k. c11 .shared-slice-known7 .given k .fits)
 
 class-count-requires : tie.Need-class-count-requires
 class-count-requires c κs = search needs
@@ -62,7 +67,13 @@ add-length-5 : tie.Need-add-length-5
 add-length-5 c = omega (arith, few c)
 
 returns : tie.Need-returns
-returns c = let a = c .before .before .before .before .before .before .before .before .before .before .before .before .before .before .before .before .before .before .before in short (a .args .version) (a .args .symbols .now) (a .args .states .now) (a .args .internals .now) (a .args .calls .now) (a .args .returns .now) (a .args .words .now) (a .args .map .now) (c .before .before .before .before .before .before .before .before .before .before .class-count .ensures) (c .before .before .before .before .before .before .before .before .collect .ensures) (c .before .before .before .before .before .collect2 .ensures) (c .before .before .collect3 .ensures) (a .args .out .now) (c .if1 .taken)
+returns c =
+    let c2 = c .before .before in
+    let c5 = c2 .before .before .before in
+    let c8 = c5 .before .before .before in
+    let c10 = c8 .before .before in
+    let c19 = c10 .before .before .before .before .before .before .before .before .before in
+    let a = c19 in short (a .args .version) (a .args .symbols .now) (a .args .states .now) (a .args .internals .now) (a .args .calls .now) (a .args .returns .now) (a .args .words .now) (a .args .map .now) (c10 .class-count .ensures) (c8 .collect .ensures) (c5 .collect2 .ensures) (c2 .collect3 .ensures) (a .args .out .now) (c .if1 .taken)
 
 slice-aggregate-put-states : tie.Need-slice-aggregate-put-states
 slice-aggregate-put-states c = search needs
@@ -74,7 +85,10 @@ array-share-prefix-state-bytes : tie.Need-array-share-prefix-state-bytes
 array-share-prefix-state-bytes c = omega (arith, few (c .before .before .before .before) .classes)
 
 slice-aggregate-put-table : tie.Need-slice-aggregate-put-table
-slice-aggregate-put-table c = let a = c .before .before .before .before .before .before .before .before .before .before .before .before .before .before .before .before .before .before .before .before .before .before .before in holds-long (states-put (ofStates (a .args .states .now)) (a .args .map .now) _ _ (c .before .before .put-states .ensures))
+slice-aggregate-put-table c =
+    let c2 = c .before .before in
+    let c23 = c2 .before .before .before .before .before .before .before .before .before .before .before .before .before .before .before .before .before .before .before .before .before in
+    let a = c23 in holds-long (states-put (ofStates (a .args .states .now)) (a .args .map .now) _ _ (c2 .put-states .ensures))
 
 array-share-prefix-internal-keys : tie.Need-array-share-prefix-internal-keys
 array-share-prefix-internal-keys c = omega (arith, few (c .before .before .before .before .before) .internals)
@@ -95,13 +109,30 @@ slice-aggregate-put-table-4 : tie.Need-slice-aggregate-put-table-4
 slice-aggregate-put-table-4 c = holds-long (c .before .before .before .before .before .before .before .before .before .collect3 .ensures)
 
 put-table-requires : tie.Need-put-table-requires
-put-table-requires c κs = let a = c .before .before .before .before .before .before .before .before .before .before .before .before .before .before .before .before .before .before .before .before .before .before .before .before .before .before .before in fits (a .args .version) (a .args .symbols .now) (a .args .states .now) (a .args .internals .now) (a .args .calls .now) (a .args .returns .now) (a .args .words .now) (a .args .map .now) (c .before .before .before .before .before .before .before .before .before .before .before .before .before .before .before .before .before .before .class-count .ensures) (c .before .before .before .before .before .before .before .before .before .before .before .before .before .before .before .before .collect .ensures) (c .before .before .before .before .before .before .before .before .before .before .before .before .before .collect2 .ensures) (c .before .before .before .before .before .before .before .before .before .before .collect3 .ensures) (states-put (ofStates (a .args .states .now)) (a .args .map .now) _ _ (c .before .before .before .before .before .before .put-states .ensures)) (a .args .out .now) (c .before .before .before .before .before .before .before .before .if1 .left)
+put-table-requires c κs =
+    let c6 = c .before .before .before .before .before .before in
+    let c8 = c6 .before .before in
+    let c10 = c8 .before .before in
+    let c13 = c10 .before .before .before in
+    let c16 = c13 .before .before .before in
+    let c18 = c16 .before .before in
+    let c27 = c18 .before .before .before .before .before .before .before .before .before in
+    let a = c27 in fits (a .args .version) (a .args .symbols .now) (a .args .states .now) (a .args .internals .now) (a .args .calls .now) (a .args .returns .now) (a .args .words .now) (a .args .map .now) (c18 .class-count .ensures) (c16 .collect .ensures) (c13 .collect2 .ensures) (c10 .collect3 .ensures) (states-put (ofStates (a .args .states .now)) (a .args .map .now) _ _ (c6 .put-states .ensures)) (a .args .out .now) (c8 .if1 .left)
 
 same-length : tie.Need-same-length
 same-length c = search needs
 
 returns-2 : tie.Need-returns-2
-returns-2 c = let a = c .before .before .before .before .before .before .before .before .before .before .before .before .before .before .before .before .before .before .before .before .before .before .before .before .before .before .before .before .before .before in put (a .args .version) (a .args .symbols .now) (a .args .states .now) (a .args .internals .now) (a .args .calls .now) (a .args .returns .now) (a .args .words .now) (a .args .map .now) (c .before .before .before .before .before .before .before .before .before .before .before .before .before .before .before .before .before .before .before .before .before .class-count .ensures) (c .before .before .before .before .before .before .before .before .before .before .before .before .before .before .before .before .before .before .before .collect .ensures) (c .before .before .before .before .before .before .before .before .before .before .before .before .before .before .before .before .collect2 .ensures) (c .before .before .before .before .before .before .before .before .before .before .before .before .before .collect3 .ensures) (states-put (ofStates (a .args .states .now)) (a .args .map .now) _ _ (c .before .before .before .before .before .before .before .before .before .put-states .ensures)) (a .args .out .now) (c .before .before .before .before .before .before .before .before .before .before .before .if1 .left) (c .before .before .put-table .ensures)
+returns-2 c =
+    let c2 = c .before .before in
+    let c9 = c2 .before .before .before .before .before .before .before in
+    let c11 = c9 .before .before in
+    let c13 = c11 .before .before in
+    let c16 = c13 .before .before .before in
+    let c19 = c16 .before .before .before in
+    let c21 = c19 .before .before in
+    let c30 = c21 .before .before .before .before .before .before .before .before .before in
+    let a = c30 in put (a .args .version) (a .args .symbols .now) (a .args .states .now) (a .args .internals .now) (a .args .calls .now) (a .args .returns .now) (a .args .words .now) (a .args .map .now) (c21 .class-count .ensures) (c19 .collect .ensures) (c16 .collect2 .ensures) (c13 .collect3 .ensures) (states-put (ofStates (a .args .states .now)) (a .args .map .now) _ _ (c9 .put-states .ensures)) (a .args .out .now) (c11 .if1 .left) (c2 .put-table .ensures)
 
 pub write-parts-spec : {M : Type 1} → statement M
 write-parts-spec =

@@ -20,8 +20,10 @@ part-mark-section-end c = search needs
 
 mark-section-requires-2 : tie.Need-mark-section-requires-2
 mark-section-requires-2 c κs =
-    let the-mark-section = c .before .before .before .before .mark-section in
-    let a = c .before .before .before .before .before .before .before .before .before .before .before .before .before in
+    let c4 = c .before .before .before .before in
+    let c13 = c4 .before .before .before .before .before .before .before .before .before in
+    let the-mark-section = c4 .mark-section in
+    let a = c13 in
     let w = internals-told (a .args .internals .now) (a .args .calls .now) (a .args .returns .now) (a .args .words .now) (a .args .map .now) (a .args .out .now) (a .pre .1) (the-mark-section .ensures .0) in
     (a .pre .0 .of-calls, calls-room (a .args .internals .now) (a .args .calls .now) (a .args .returns .now) (a .args .words .now) (a .args .map .now) (a .args .out .now) w, omega arith, the-mark-section .ensures .1)
 
@@ -39,9 +41,12 @@ part-mark-section-end-2 c = search needs
 
 mark-section-requires-3 : tie.Need-mark-section-requires-3
 mark-section-requires-3 c κs =
-    let the-mark-section2 = c .before .before .before .before .mark-section2 in
-    let a = c .before .before .before .before .before .before .before .before .before .before .before .before .before .before .before .before .before .before in
-    let w = internals-told (a .args .internals .now) (a .args .calls .now) (a .args .returns .now) (a .args .words .now) (a .args .map .now) (a .args .out .now) (a .pre .1) (c .before .before .before .before .before .before .before .before .before .mark-section .ensures .0) in
+    let c4 = c .before .before .before .before in
+    let c9 = c4 .before .before .before .before .before in
+    let c18 = c9 .before .before .before .before .before .before .before .before .before in
+    let the-mark-section2 = c4 .mark-section2 in
+    let a = c18 in
+    let w = internals-told (a .args .internals .now) (a .args .calls .now) (a .args .returns .now) (a .args .words .now) (a .args .map .now) (a .args .out .now) (a .pre .1) (c9 .mark-section .ensures .0) in
     (a .pre .0 .of-returns, returns-room (a .args .internals .now) (a .args .calls .now) (a .args .returns .now) (a .args .words .now) (a .args .map .now) (a .args .out .now) (calls-told (a .args .internals .now) (a .args .calls .now) (a .args .returns .now) (a .args .words .now) (a .args .map .now) (a .args .out .now) w (the-mark-section2 .ensures .0)), omega arith, the-mark-section2 .ensures .1)
 
 same-length : tie.Need-same-length
@@ -49,9 +54,13 @@ same-length c = search needs
 
 returns : tie.Need-returns
 returns c =
-    let a = c .before .before .before .before .before .before .before .before .before .before .before .before .before .before .before .before .before .before .before .before .before in
-    let w = internals-told (a .args .internals .now) (a .args .calls .now) (a .args .returns .now) (a .args .words .now) (a .args .map .now) (a .args .out .now) (a .pre .1) (c .before .before .before .before .before .before .before .before .before .before .before .before .mark-section .ensures .0) in
-    returns-told (a .args .internals .now) (a .args .calls .now) (a .args .returns .now) (a .args .words .now) (a .args .map .now) (a .args .out .now) (calls-told (a .args .internals .now) (a .args .calls .now) (a .args .returns .now) (a .args .words .now) (a .args .map .now) (a .args .out .now) w (c .before .before .before .before .before .before .before .mark-section2 .ensures .0)) (c .before .before .mark-section3 .ensures .0)
+    let c2 = c .before .before in
+    let c7 = c2 .before .before .before .before .before in
+    let c12 = c7 .before .before .before .before .before in
+    let c21 = c12 .before .before .before .before .before .before .before .before .before in
+    let a = c21 in
+    let w = internals-told (a .args .internals .now) (a .args .calls .now) (a .args .returns .now) (a .args .words .now) (a .args .map .now) (a .args .out .now) (a .pre .1) (c12 .mark-section .ensures .0) in
+    returns-told (a .args .internals .now) (a .args .calls .now) (a .args .returns .now) (a .args .words .now) (a .args .map .now) (a .args .out .now) (calls-told (a .args .internals .now) (a .args .calls .now) (a .args .returns .now) (a .args .words .now) (a .args .map .now) (a .args .out .now) w (c7 .mark-section2 .ensures .0)) (c2 .mark-section3 .ensures .0)
 
 pub mark-parts-spec : {M : Type 1} → statement M
 mark-parts-spec =

@@ -20,7 +20,11 @@ same-length : tie.Need-same-length
 same-length c = search needs
 
 returns-2 : tie.Need-returns-2
-returns-2 c L readable = c .before .before .tell-read .ensures ∙ told-known L _ _ _ (tested L _ _ readable (c .before .before .before .before .before .map-number .ensures) ∙ c .before .before .before .before .if1 .left)
+returns-2 c L readable =
+    let c2 = c .before .before in
+    let c4 = c2 .before .before in
+    let c5 = c4 .before in
+    c2 .tell-read .ensures ∙ told-known L _ _ _ (tested L _ _ readable (c5 .map-number .ensures) ∙ c4 .if1 .left)
 
 pub records-known-spec : {M : Type 1} → statement M
 records-known-spec =

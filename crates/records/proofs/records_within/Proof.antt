@@ -15,13 +15,20 @@ slice-aggregate-records-known : tie.Need-slice-aggregate-records-known
 slice-aggregate-records-known c = search needs
 
 records-known-requires : tie.Need-records-known-requires
-records-known-requires c κs = read-known _ _ (c .before .before .before .before .before .before .examine .ensures) (c .before .before .before .before .if1 .left)
+records-known-requires c κs =
+    let c4 = c .before .before .before .before in
+    let c6 = c4 .before .before in
+    read-known _ _ (c6 .examine .ensures) (c4 .if1 .left)
 
 same-length : tie.Need-same-length
 same-length c = search needs
 
 returns-2 : tie.Need-returns-2
-returns-2 c = promised _ _ _ _ (c .before .before .records-known .ensures _ (read-readable _ _ (c .before .before .before .before .before .before .before .before .before .examine .ensures) (c .before .before .before .before .before .before .before .if1 .left)))
+returns-2 c =
+    let c2 = c .before .before in
+    let c7 = c2 .before .before .before .before .before in
+    let c9 = c7 .before .before in
+    promised _ _ _ _ (c2 .records-known .ensures _ (read-readable _ _ (c9 .examine .ensures) (c7 .if1 .left)))
 
 pub records-within-spec : {M : Type 1} → statement M
 records-within-spec =

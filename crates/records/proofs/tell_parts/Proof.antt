@@ -20,7 +20,11 @@ slice-reshare-prefix-marks : tie.Need-slice-reshare-prefix-marks
 slice-reshare-prefix-marks c = search needs
 
 slice-aggregate-marks : tie.Need-slice-aggregate-marks
-slice-aggregate-marks c = let a = c .before .before .before .before .before .before .before .before .before .before .before .before in marks-there (a .args .internals .now) (a .args .calls .now) (a .args .returns .now) (a .args .words .now) (a .args .map .now) (a .args .out .now) (c .before .before .before .before .before .if1 .left) (c .before .before .before .mark-parts .ensures)
+slice-aggregate-marks c =
+    let c3 = c .before .before .before in
+    let c5 = c3 .before .before in
+    let c12 = c5 .before .before .before .before .before .before .before in
+    let a = c12 in marks-there (a .args .internals .now) (a .args .calls .now) (a .args .returns .now) (a .args .words .now) (a .args .map .now) (a .args .out .now) (c5 .if1 .left) (c3 .mark-parts .ensures)
 
 count-of-requires : tie.Need-count-of-requires
 count-of-requires c κs = search needs
@@ -35,7 +39,13 @@ same-length : tie.Need-same-length
 same-length c = search needs
 
 returns-2 : tie.Need-returns-2
-returns-2 c = let a = c .before .before .before .before .before .before .before .before .before .before .before .before .before .before .before in told (a .args .internals .now) (a .args .calls .now) (a .args .returns .now) (a .args .words .now) (a .args .map .now) (a .args .out .now) (c .before .before .before .before .before .before .before .before .if1 .left) (c .before .before .before .before .before .before .mark-parts .ensures) (c .before .before .count-of .ensures) (c .before .count-of2 .ensures) (c .count-of3 .ensures)
+returns-2 c =
+    let c1 = c .before in
+    let c2 = c1 .before in
+    let c6 = c2 .before .before .before .before in
+    let c8 = c6 .before .before in
+    let c15 = c8 .before .before .before .before .before .before .before in
+    let a = c15 in told (a .args .internals .now) (a .args .calls .now) (a .args .returns .now) (a .args .words .now) (a .args .map .now) (a .args .out .now) (c8 .if1 .left) (c6 .mark-parts .ensures) (c2 .count-of .ensures) (c1 .count-of2 .ensures) (c .count-of3 .ensures)
 
 pub tell-parts-spec : {M : Type 1} → statement M
 tell-parts-spec =

@@ -19,8 +19,10 @@ array-share-prefix-found c = search needs
 
 slice-aggregate-quotient-known : tie.Need-slice-aggregate-quotient-known
 slice-aggregate-quotient-known c =
-    let the-map-of = c .before .before .before .map-of in
-    sym (laws.prefix-long (the-map-of .result .map) (c .before .before .before .before .before .before .before .before .before .args .n) (the-map-of .ensures .long) (c .before .before .before .before .before .before .before .before .before .pre .0 .1))
+    let c3 = c .before .before .before in
+    let c9 = c3 .before .before .before .before .before .before in
+    let the-map-of = c3 .map-of in
+    sym (laws.prefix-long (the-map-of .result .map) (c9 .args .n) (the-map-of .ensures .long) (c9 .pre .0 .1))
 
 quotient-known-requires : tie.Need-quotient-known-requires
 quotient-known-requires c κs = search needs
@@ -36,14 +38,18 @@ array-share-prefix-found-2 c = search needs
 
 slice-aggregate-copy : tie.Need-slice-aggregate-copy
 slice-aggregate-copy c =
-    let the-map-of = c .before .before .before .before .before .before .before .before .before .before .before .map-of in
-    sym (laws.prefix-long (the-map-of .result .map) (c .before .before .before .before .before .before .before .before .before .before .before .before .before .before .before .before .before .args .n) (the-map-of .ensures .long) (c .before .before .before .before .before .before .before .before .before .before .before .before .before .before .before .before .before .pre .0 .1))
+    let c11 = c .before .before .before .before .before .before .before .before .before .before .before in
+    let c17 = c11 .before .before .before .before .before .before in
+    let the-map-of = c11 .map-of in
+    sym (laws.prefix-long (the-map-of .result .map) (c17 .args .n) (the-map-of .ensures .long) (c17 .pre .0 .1))
 
 copy-requires : tie.Need-copy-requires
 copy-requires c κs =
-    let the-map-of = c .before .before .before .before .before .before .before .before .before .before .before .before .map-of in
-    let the-pre = c .before .before .before .before .before .before .before .before .before .before .before .before .before .before .before .before .before .before .pre in
-    omega (arith, laws.prefix-long (the-map-of .result .map) (c .before .before .before .before .before .before .before .before .before .before .before .before .before .before .before .before .before .before .args .n) (the-map-of .ensures .long) (the-pre .0 .1), the-pre .0 .2)
+    let c12 = c .before .before .before .before .before .before .before .before .before .before .before .before in
+    let c18 = c12 .before .before .before .before .before .before in
+    let the-map-of = c12 .map-of in
+    let the-pre = c18 .pre in
+    omega (arith, laws.prefix-long (the-map-of .result .map) (c18 .args .n) (the-map-of .ensures .long) (the-pre .0 .1), the-pre .0 .2)
 
 cast-t24 : tie.Need-cast-t24
 cast-t24 c = search needs
@@ -53,8 +59,12 @@ same-length c = search needs
 
 returns : tie.Need-returns
 returns c =
-    let s = c .before .before .before .before .before .before .before .before .before .before .before .before .before .before .before .before in
-    λ L readable list. laws.not-delivered L (s .args .table .now) list (s .args .map .now) (s .args .out .now) (s .args .values .now) (s .args .n) (s .args .guesses) (s .args .ceiling) (s .args .spent) (c .before .before .before .before .before .before .before .before .before .before .map-of .ensures) (c .before .before .before .before .before .quotient-known .ensures L readable) (c .before .written .given .1)
+    let c1 = c .before in
+    let c5 = c1 .before .before .before .before in
+    let c10 = c5 .before .before .before .before .before in
+    let c16 = c10 .before .before .before .before .before .before in
+    let s = c16 in
+    λ L readable list. laws.not-delivered L (s .args .table .now) list (s .args .map .now) (s .args .out .now) (s .args .values .now) (s .args .n) (s .args .guesses) (s .args .ceiling) (s .args .spent) (c10 .map-of .ensures) (c5 .quotient-known .ensures L readable) (c1 .written .given .1)
 
 same-length-2 : tie.Need-same-length-2
 same-length-2 c = search needs
@@ -64,8 +74,14 @@ same-length-3 c = search needs
 
 returns-2 : tie.Need-returns-2
 returns-2 c =
-    let s = c .before .before .before .before .before .before .before .before .before .before .before .before .before .before .before .before .before .before .before .before .before .before in
-    λ L readable list. laws.delivered L (s .args .table .now) list (s .args .map .now) (s .args .out .now) (s .args .values .now) (s .args .n) (s .args .guesses) (s .args .ceiling) (s .args .spent) (c .before .before .before .before .before .before .before .before .before .before .before .before .before .before .before .before .map-of .ensures) (c .before .before .before .before .before .before .before .before .before .before .before .quotient-known .ensures L readable) (s .pre .1) (c .before .before .before .before .before .before .before .before .before .before .before .before .before .before .before .not-false .ensures) (c .before .before .before .before .before .before .before .written2 .given .1) (s .pre .0 .3) (c .before .before .before .copy .ensures .1)
+    let c3 = c .before .before .before in
+    let c7 = c3 .before .before .before .before in
+    let c11 = c7 .before .before .before .before in
+    let c15 = c11 .before .before .before .before in
+    let c16 = c15 .before in
+    let c22 = c16 .before .before .before .before .before .before in
+    let s = c22 in
+    λ L readable list. laws.delivered L (s .args .table .now) list (s .args .map .now) (s .args .out .now) (s .args .values .now) (s .args .n) (s .args .guesses) (s .args .ceiling) (s .args .spent) (c16 .map-of .ensures) (c11 .quotient-known .ensures L readable) (s .pre .1) (c15 .not-false .ensures) (c7 .written2 .given .1) (s .pre .0 .3) (c3 .copy .ensures .1)
 
 pub deliver-held-spec : {M : Type 1} → statement M
 deliver-held-spec =

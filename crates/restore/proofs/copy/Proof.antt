@@ -45,12 +45,15 @@ words-less c = omega (arith, c .before .words-test .taken)
 
 words-again : tie.Need-words-again Inv-words μ-words
 words-again c =
-    let the-words = c .before .before .words in
-    let the-words-test = c .before .words-test in
-    let from = c .before .before .before .args .from .now in
+    let c1 = c .before in
+    let c2 = c1 .before in
+    let c3 = c2 .before in
+    let the-words = c2 .words in
+    let the-words-test = c1 .words-test in
+    let from = c3 .args .from .now in
     let i = the-words .i in
     let to = the-words .to in
-    let here : i < length to = omega (arith, c .before .before .before .pre .0, the-words .inv .1, the-words-test .taken) in
+    let here : i < length to = omega (arith, c3 .pre .0, the-words .inv .1, the-words-test .taken) in
     let on : take (i + 1) (set to i (getD from i 0)) ≡ take (i + 1) from = rw add-one (take-suc-set to i (getD from i 0) here ∙ ap (λ l. l ++ (getD from i 0 ∷ [])) (the-words .inv .0) ∙ sym (take-suc from i 0 (the-words-test .taken))) in
     (on, length-set to i (getD from i 0) ∙ the-words .inv .1, omega (arith, the-words-test .taken))
 

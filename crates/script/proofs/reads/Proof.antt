@@ -47,8 +47,10 @@ start-words-requires c κs = (c .before .before .before .before .before .before 
 script-holds : tie.Need-script-holds Inv-script μ-script
 unfolding sectioned started startWords
 script-holds c =
-    let s = c .before .before .before .before .before .before .before .before .before .before .before .before in
-    walking (sectioned 0 (s .args .symbols .now) (s .args .states .now) (s .args .internals .now) (s .args .calls .now) (s .args .returns .now)) _ _ (c .before .start-words .ensures) refl (s .pre .2 .shallow)
+    let c1 = c .before in
+    let c12 = c1 .before .before .before .before .before .before .before .before .before .before .before in
+    let s = c12 in
+    walking (sectioned 0 (s .args .symbols .now) (s .args .states .now) (s .args .internals .now) (s .args .calls .now) (s .args .returns .now)) _ _ (c1 .start-words .ensures) refl (s .pre .2 .shallow)
 
 shared-slice-read-wide : tie.Need-shared-slice-read-wide Inv-script μ-script
 shared-slice-read-wide c = search needs
@@ -209,7 +211,11 @@ ended-requires c κs = c .before .before .before .before .before .before .before
 
 returns-3 : tie.Need-returns-3 Inv-script μ-script
 unfolding sectioned sectionsRead ended
-returns-3 c = walked (c .before .before .before .before .script .inv) (c .before .before .before .script-test .left) (c .before .before .if4 .left) (c .ended .ensures)
+returns-3 c =
+    let c2 = c .before .before in
+    let c3 = c2 .before in
+    let c4 = c3 .before in
+    walked (c4 .script .inv) (c3 .script-test .left) (c2 .if4 .left) (c .ended .ensures)
 
 pub reads-spec : {M : Type 1} → statement M
 reads-spec =

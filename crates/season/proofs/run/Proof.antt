@@ -17,7 +17,10 @@ abbrev μ-tables : tie.MeasureT-tables
 -- its turn, over its bytes and what is left of the buffers
 turn-of : (c : tie.After-take-turn Inv-tables μ-tables)
     → Turned (c .before .before .before .before .before .before .before .before .before .before .before .before .before .args .limits) (take (getD (c .before .before .before .before .before .before .before .before .before .before .before .before .before .args .lengths .now) (c .before .before .before .before .before .before .before .tables .i) 0) (drop (c .before .before .before .before .before .before .before .tables .at) (c .before .before .before .before .before .before .before .before .before .before .before .before .before .args .tables .now))) (c .before .before .before .before .before .before .before .before .before .before .before .before .before .args .share + c .before .before .before .before .before .before .before .tables .saved) (c .before .before .before .before .before .before .before .tables .list) (drop (c .before .before .before .before .before .before .before .tables .map-at) (c .before .before .before .before .before .before .before .tables .maps)) (drop (c .before .before .before .before .before .before .before .tables .out-at) (c .before .before .before .before .before .before .before .tables .out)) (c .take-turn .result) (c .take-turn .last .1 .1 .1 .0) (c .take-turn .last .1 .1 .1 .1 .0) (c .take-turn .last .1 .1 .1 .1 .1 .0)
-turn-of c = of-parts _ _ _ _ _ _ _ (c .before .before .before .before .before .before .before .tables .inv) (c .before .before .before .before .before .before .tables-test .taken) (c .take-turn .ensures)
+turn-of c =
+    let c6 = c .before .before .before .before .before .before in
+    let c7 = c6 .before in
+    of-parts _ _ _ _ _ _ _ (c7 .tables .inv) (c6 .tables-test .taken) (c .take-turn .ensures)
 
 tables-holds : tie.Need-tables-holds Inv-tables μ-tables
 tables-holds c = let s = c .before .before .before .before .before in begin-going (s .args .limits) (s .args .share) (s .args .lengths .now) (s .args .tables .now) (s .args .list .now) (s .args .maps .now) (s .args .out .now) (s .pre .0) (s .pre .1)
@@ -66,15 +69,22 @@ take-turn-requires c κs = search needs
 
 put-row-requires : tie.Need-put-row-requires Inv-tables μ-tables
 put-row-requires c κs =
-    let the-tables-test = c .before .before .before .before .before .before .before .before .before .before .before .before .before .before .tables-test in
-    let the-tables = c .before .before .before .before .before .before .before .before .before .before .before .before .before .before .before .tables in
-    (omega (arith, (the-tables .inv) .few, (the-tables-test .taken)), (the-tables .inv) .values-long, turn-row-long _ _ _ _ _ _ _ (the-tables .inv) (the-tables-test .taken) (turn-of (c .before .before .before .before .before .before .before .before)))
+    let c8 = c .before .before .before .before .before .before .before .before in
+    let c14 = c8 .before .before .before .before .before .before in
+    let c15 = c14 .before in
+    let the-tables-test = c14 .tables-test in
+    let the-tables = c15 .tables in
+    (omega (arith, (the-tables .inv) .few, (the-tables-test .taken)), (the-tables .inv) .values-long, turn-row-long _ _ _ _ _ _ _ (the-tables .inv) (the-tables-test .taken) (turn-of (c8)))
 
 add-saved : tie.Need-add-saved Inv-tables μ-tables
 add-saved c = let h = allowed-fits _ _ _ _ _ _ _ (c .before .before .before .before .before .before .before .before .before .before .before .before .before .before .before .before .tables .inv) (c .before .before .before .before .before .before .before .before .before .before .before .before .before .before .before .tables-test .taken) in search needs
 
 sub-saved : tie.Need-sub-saved Inv-tables μ-tables
-sub-saved c = guesses-in _ _ _ _ _ _ _ (c .before .before .before .before .before .before .before .before .before .before .before .before .before .before .before .before .before .tables .inv) (c .before .before .before .before .before .before .before .before .before .before .before .before .before .before .before .before .tables-test .taken) (turn-of (c .before .before .before .before .before .before .before .before .before .before))
+sub-saved c =
+    let c10 = c .before .before .before .before .before .before .before .before .before .before in
+    let c16 = c10 .before .before .before .before .before .before in
+    let c17 = c16 .before in
+    guesses-in _ _ _ _ _ _ _ (c17 .tables .inv) (c16 .tables-test .taken) (turn-of (c10))
 
 -- a buffer's length fits 64 bits
 maps-fit : (c : tie.After-slice-known3 Inv-tables μ-tables) → length (c .before .before .before .before .before .args .maps .now) < 2 ^ 64

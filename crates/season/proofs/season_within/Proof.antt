@@ -23,8 +23,11 @@ refused-requires c κs = search needs
 
 returns : tie.Need-returns
 returns c =
-    let s = c .before .before .before .before .before .before .before .before in
-    promised (s .args .limits) (s .args .tables .now) (s .args .lengths .now) (s .args .guesses) (s .args .list .now) (s .args .maps .now) (s .args .out .now) (refused-limits (s .args .limits) (s .args .tables .now) (s .args .lengths .now) (s .args .guesses) (s .args .list .now) (s .args .maps .now) (s .args .out .now) (sym (c .before .before .limits-fit .ensures) ∙ not-true _ (c .before .if1 .taken)) (c .refused .ensures))
+    let c1 = c .before in
+    let c2 = c1 .before in
+    let c8 = c2 .before .before .before .before .before .before in
+    let s = c8 in
+    promised (s .args .limits) (s .args .tables .now) (s .args .lengths .now) (s .args .guesses) (s .args .list .now) (s .args .maps .now) (s .args .out .now) (refused-limits (s .args .limits) (s .args .tables .now) (s .args .lengths .now) (s .args .guesses) (s .args .list .now) (s .args .maps .now) (s .args .out .now) (sym (c2 .limits-fit .ensures) ∙ not-true _ (c1 .if1 .taken)) (c .refused .ensures))
 
 lengths-fit-requires : tie.Need-lengths-fit-requires
 lengths-fit-requires c κs = search needs
@@ -34,16 +37,23 @@ refused-requires-2 c κs = search needs
 
 returns-2 : tie.Need-returns-2
 returns-2 c =
-    let s = c .before .before .before .before .before .before .before .before .before .before in
-    promised (s .args .limits) (s .args .tables .now) (s .args .lengths .now) (s .args .guesses) (s .args .list .now) (s .args .maps .now) (s .args .out .now) (refused-lengths (s .args .limits) (s .args .tables .now) (s .args .lengths .now) (s .args .guesses) (s .args .list .now) (s .args .maps .now) (s .args .out .now) (sym (c .before .before .before .before .limits-fit .ensures) ∙ not-false _ (c .before .before .before .if1 .left)) (sym (c .before .before .lengths-fit .ensures) ∙ not-true _ (c .before .if2 .taken)) (c .refused2 .ensures))
+    let c1 = c .before in
+    let c2 = c1 .before in
+    let c3 = c2 .before in
+    let c4 = c3 .before in
+    let c10 = c4 .before .before .before .before .before .before in
+    let s = c10 in
+    promised (s .args .limits) (s .args .tables .now) (s .args .lengths .now) (s .args .guesses) (s .args .list .now) (s .args .maps .now) (s .args .out .now) (refused-lengths (s .args .limits) (s .args .tables .now) (s .args .lengths .now) (s .args .guesses) (s .args .list .now) (s .args .maps .now) (s .args .out .now) (sym (c4 .limits-fit .ensures) ∙ not-false _ (c3 .if1 .left)) (sym (c2 .lengths-fit .ensures) ∙ not-true _ (c1 .if2 .taken)) (c .refused2 .ensures))
 
 div-run : tie.Need-div-run
 div-run c = let f = fitting _ _ (fits c) in omega (arith, f .some)
 
 run-requires : tie.Need-run-requires
 run-requires c κs =
-    let s = c .before .before .before .before .before .before .before .before .before .before .before .before in
-    (fits (c .before .before .before), omega (arith, shares-within (s .args .guesses) (length (s .args .lengths .now)), s .fits .guesses))
+    let c3 = c .before .before .before in
+    let c12 = c3 .before .before .before .before .before .before .before .before .before in
+    let s = c12 in
+    (fits (c3), omega (arith, shares-within (s .args .guesses) (length (s .args .lengths .now)), s .fits .guesses))
 
 same-length : tie.Need-same-length
 same-length c = search needs
@@ -56,8 +66,13 @@ same-length-3 c = search needs
 
 returns-3 : tie.Need-returns-3
 returns-3 c =
-    let s = c .before .before .before .before .before .before .before .before .before .before .before .before .before .before .before .before .before .before .before in
-    promised (s .args .limits) (s .args .tables .now) (s .args .lengths .now) (s .args .guesses) (s .args .list .now) (s .args .maps .now) (s .args .out .now) (reduced (s .args .limits) (s .args .tables .now) (s .args .lengths .now) (s .args .guesses) (s .args .list .now) (s .args .maps .now) (s .args .out .now) (sym (c .before .before .before .before .before .before .before .before .before .before .before .before .before .limits-fit .ensures) ∙ not-false _ (c .before .before .before .before .before .before .before .before .before .before .before .before .if1 .left)) (fits (c .before .before .before .before .before .before .before .before .before .before)) (c .before .before .before .before .before .before .run .ensures))
+    let c6 = c .before .before .before .before .before .before in
+    let c10 = c6 .before .before .before .before in
+    let c12 = c10 .before .before in
+    let c13 = c12 .before in
+    let c19 = c13 .before .before .before .before .before .before in
+    let s = c19 in
+    promised (s .args .limits) (s .args .tables .now) (s .args .lengths .now) (s .args .guesses) (s .args .list .now) (s .args .maps .now) (s .args .out .now) (reduced (s .args .limits) (s .args .tables .now) (s .args .lengths .now) (s .args .guesses) (s .args .list .now) (s .args .maps .now) (s .args .out .now) (sym (c13 .limits-fit .ensures) ∙ not-false _ (c12 .if1 .left)) (fits (c10)) (c6 .run .ensures))
 
 pub season-within-spec : {M : Type 1} → statement M
 season-within-spec =

@@ -33,8 +33,12 @@ same-length-3 c = search needs
 
 returns : tie.Need-returns
 returns c =
-    let s = c .before .before .before .before .before .before .before .before .before .before .before .before .before .before .before .before .before .before .before in
-    turn-delivered (s .args .limits) (s .args .table .now) (s .args .budget) (s .args .list .now) (s .args .map .now) (s .args .out .now) (c .before .before .before .before .before .before .before .before .before .before .before .reduce-within .ensures .0) (c .before .before .before .answer .given .1) (c .before .yes-value .ensures) (c .state-count .ensures .1)
+    let c1 = c .before in
+    let c3 = c1 .before .before in
+    let c11 = c3 .before .before .before .before .before .before .before .before in
+    let c19 = c11 .before .before .before .before .before .before .before .before in
+    let s = c19 in
+    turn-delivered (s .args .limits) (s .args .table .now) (s .args .budget) (s .args .list .now) (s .args .map .now) (s .args .out .now) (c11 .reduce-within .ensures .0) (c3 .answer .given .1) (c1 .yes-value .ensures) (c .state-count .ensures .1)
 
 same-length-4 : tie.Need-same-length-4
 same-length-4 c = search needs
@@ -47,8 +51,11 @@ same-length-6 c = search needs
 
 returns-2 : tie.Need-returns-2
 returns-2 c =
-    let s = c .before .before .before .before .before .before .before .before .before .before .before .before .before .before .before .before .before in
-    turn-refused (s .args .limits) (s .args .table .now) (s .args .budget) (s .args .list .now) (s .args .map .now) (s .args .out .now) (c .before .before .before .before .before .before .before .before .before .reduce-within .ensures .0) (c .before .answer2 .given .1)
+    let c1 = c .before in
+    let c9 = c1 .before .before .before .before .before .before .before .before in
+    let c17 = c9 .before .before .before .before .before .before .before .before in
+    let s = c17 in
+    turn-refused (s .args .limits) (s .args .table .now) (s .args .budget) (s .args .list .now) (s .args .map .now) (s .args .out .now) (c9 .reduce-within .ensures .0) (c1 .answer2 .given .1)
 
 pub take-turn-spec : {M : Type 1} → statement M
 take-turn-spec =

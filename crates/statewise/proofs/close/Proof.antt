@@ -37,16 +37,38 @@ put-requires : tie.Need-put-requires
 put-requires c κs = search needs
 
 put-requires-2 : tie.Need-put-requires-2
-put-requires-2 c κs = (omega (arith, c .before .before .before .before .before .before .before .three2 .ensures .count), ordered-by _ _ (c .before .before .before .put .ensures) (c .before .before .before .before .before .before .before .before .before .before .before .before .before .before .before .pre))
+put-requires-2 c κs =
+    let c3 = c .before .before .before in
+    let c7 = c3 .before .before .before .before in
+    let c15 = c7 .before .before .before .before .before .before .before .before in
+    (omega (arith, c7 .three2 .ensures .count), ordered-by _ _ (c3 .put .ensures) (c15 .pre))
 
 put-requires-3 : tie.Need-put-requires-3
-put-requires-3 c κs = (omega (arith, c .before .before .before .before .before .before .before .before .before .three3 .ensures .count), ordered-by _ _ (c .before .before .before .put2 .ensures) (ordered-by _ _ (c .before .before .before .before .before .before .before .put .ensures) (c .before .before .before .before .before .before .before .before .before .before .before .before .before .before .before .before .before .before .before .pre)))
+put-requires-3 c κs =
+    let c3 = c .before .before .before in
+    let c7 = c3 .before .before .before .before in
+    let c9 = c7 .before .before in
+    let c19 = c9 .before .before .before .before .before .before .before .before .before .before in
+    (omega (arith, c9 .three3 .ensures .count), ordered-by _ _ (c3 .put2 .ensures) (ordered-by _ _ (c7 .put .ensures) (c19 .pre)))
 
 same-length : tie.Need-same-length
 same-length c = search needs
 
 returns : tie.Need-returns
-returns c = closed _ _ _ _ (c .before .before .before .before .before .before .before .before .before .before .before .before .before .before .before .before .before .before .before .before .parted .ensures) (c .before .before .before .before .before .before .before .before .before .before .before .before .before .before .before .before .before .before .before .parted2 .ensures) (c .before .before .before .before .before .before .before .before .before .before .before .before .before .before .before .before .before .before .parted3 .ensures) (c .before .before .before .before .before .before .before .before .before .before .before .before .before .before .before .before .before .joined .ensures) (c .before .before .before .before .before .before .before .before .before .before .before .before .before .before .before .joined2 .ensures) (c .before .before .before .before .before .before .before .before .before .before .before .before .before .joined3 .ensures) (c .before .before .before .before .before .before .before .before .before .before .before .before .before .before .before .before .three .ensures) (c .before .before .before .before .before .before .before .before .before .before .before .before .before .before .three2 .ensures) (c .before .before .before .before .before .before .before .before .before .before .before .before .three3 .ensures) (c .before .before .before .before .before .before .before .before .before .before .put .ensures) (c .before .before .before .before .before .before .put2 .ensures) (c .before .before .put3 .ensures)
+returns c =
+    let c2 = c .before .before in
+    let c6 = c2 .before .before .before .before in
+    let c10 = c6 .before .before .before .before in
+    let c12 = c10 .before .before in
+    let c13 = c12 .before in
+    let c14 = c13 .before in
+    let c15 = c14 .before in
+    let c16 = c15 .before in
+    let c17 = c16 .before in
+    let c18 = c17 .before in
+    let c19 = c18 .before in
+    let c20 = c19 .before in
+    closed _ _ _ _ (c20 .parted .ensures) (c19 .parted2 .ensures) (c18 .parted3 .ensures) (c17 .joined .ensures) (c15 .joined2 .ensures) (c13 .joined3 .ensures) (c16 .three .ensures) (c14 .three2 .ensures) (c12 .three3 .ensures) (c10 .put .ensures) (c6 .put2 .ensures) (c2 .put3 .ensures)
 
 pub close-spec : {M : Type 1} → statement M
 close-spec =

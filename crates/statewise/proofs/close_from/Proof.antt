@@ -32,7 +32,11 @@ states-less : tie.Need-states-less Inv-states μ-states
 states-less c = search needs
 
 states-again : tie.Need-states-again Inv-states μ-states
-states-again c = over-on (c .before .before .before .before .before .states .inv) (c .before .before .before .before .states-test .taken) (c .before .before .close-over .ensures)
+states-again c =
+    let c2 = c .before .before in
+    let c4 = c2 .before .before in
+    let c5 = c4 .before in
+    over-on (c5 .states .inv) (c4 .states-test .taken) (c2 .close-over .ensures)
 
 same-length : tie.Need-same-length Inv-states μ-states
 same-length c = c .before .states .inv .coming .long

@@ -34,7 +34,13 @@ slice-aggregate-look-apart : tie.Need-slice-aggregate-look-apart Inv-variables �
 slice-aggregate-look-apart c = search needs
 
 look-apart-requires : tie.Need-look-apart-requires Inv-variables μ-variables
-look-apart-requires c κs = (c .before .before .before .before .before .before .before .before .pre .0, c .before .before .before .before .before .pair-table .ensures, omega (arith, c .before .before .variables-test .taken, c .before .before .before .before .pairs-of .ensures), c .before .before .before .variables .inv .coming .ordered)
+look-apart-requires c κs =
+    let c2 = c .before .before in
+    let c3 = c2 .before in
+    let c4 = c3 .before in
+    let c5 = c4 .before in
+    let c8 = c5 .before .before .before in
+    (c8 .pre .0, c5 .pair-table .ensures, omega (arith, c2 .variables-test .taken, c4 .pairs-of .ensures), c3 .variables .inv .coming .ordered)
 
 add-v : tie.Need-add-v Inv-variables μ-variables
 add-v c = search needs
@@ -43,7 +49,11 @@ variables-less : tie.Need-variables-less Inv-variables μ-variables
 variables-less c = search needs
 
 variables-again : tie.Need-variables-again Inv-variables μ-variables
-variables-again c = over-on (c .before .before .before .before .before .before .variables .inv) (c .before .before .before .before .before .variables-test .taken) (c .before .before .look-apart .ensures)
+variables-again c =
+    let c2 = c .before .before in
+    let c5 = c2 .before .before .before in
+    let c6 = c5 .before in
+    over-on (c6 .variables .inv) (c5 .variables-test .taken) (c2 .look-apart .ensures)
 
 same-length : tie.Need-same-length Inv-variables μ-variables
 same-length c = c .before .variables .inv .coming .long

@@ -23,8 +23,11 @@ same-length c = search needs
 
 returns-2 : tie.Need-returns-2
 returns-2 c =
-    let the-args = c .before .before .before .before .before .before .before .args in
-    ap (λ r. set r 40 (the-args .last)) (c .before .before .store .ensures) ∙ last-stored (the-args .words .now) _ (the-args .last) (c .before .before .before .before .before .before .before .pre) (omega (arith, c .before .before .before .before .before .if1 .left))
+    let c2 = c .before .before in
+    let c5 = c2 .before .before .before in
+    let c7 = c5 .before .before in
+    let the-args = c7 .args in
+    ap (λ r. set r 40 (the-args .last)) (c2 .store .ensures) ∙ last-stored (the-args .words .now) _ (the-args .last) (c7 .pre) (omega (arith, c5 .if1 .left))
 
 pub store-words-spec : {M : Type 1} → statement M
 store-words-spec =

@@ -88,8 +88,9 @@ table-number-requires c κs = search needs
 
 returns : tie.Need-returns
 returns c =
-    let the-pre = c .before .before .before .before .before .before .before .pre in
-    (c .table-number .ensures) ∙ ap (λ t. firstFailed (tableTests (c .before .before .before .before .before .before .before .args .limits) t)) (numbers.sections-are _ _ _ ((the-pre) .0) ((the-pre) .1) ((the-pre) .2) ((the-pre) .3))
+    let c7 = c .before .before .before .before .before .before .before in
+    let the-pre = c7 .pre in
+    (c .table-number .ensures) ∙ ap (λ t. firstFailed (tableTests (c7 .args .limits) t)) (numbers.sections-are _ _ _ ((the-pre) .0) ((the-pre) .1) ((the-pre) .2) ((the-pre) .3))
 
 pub sections-number-spec : {M : Type 1} → statement M
 sections-number-spec =

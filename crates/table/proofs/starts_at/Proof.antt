@@ -58,7 +58,13 @@ sub-t16 c =
     omega (arith, (c .word-at5 .ensures), numbers.within _ _ ((the-pre) .0) ((the-pre) .1) .within-4)
 
 returns : tie.Need-returns
-returns c = numbers.starts-are (record { at-end = (c .before .before .before .before .before .before .pre) .0; word-0 = (c .before .before .before .before .word-at .ensures); word-1 = (c .before .before .before .word-at2 .ensures); word-2 = (c .before .before .word-at3 .ensures); word-3 = (c .before .word-at4 .ensures); word-4 = (c .word-at5 .ensures) })
+returns c =
+    let c1 = c .before in
+    let c2 = c1 .before in
+    let c3 = c2 .before in
+    let c4 = c3 .before in
+    let c6 = c4 .before .before in
+    numbers.starts-are (record { at-end = (c6 .pre) .0; word-0 = (c4 .word-at .ensures); word-1 = (c3 .word-at2 .ensures); word-2 = (c2 .word-at3 .ensures); word-3 = (c1 .word-at4 .ensures); word-4 = (c .word-at5 .ensures) })
 
 pub starts-at-spec : {M : Type 1} → statement M
 starts-at-spec =

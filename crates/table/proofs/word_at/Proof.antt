@@ -26,8 +26,12 @@ mul-result c = omega (arith, (c .wide2 .ensures), (c .before .shared-slice-known
 
 add-result : tie.Need-add-result
 add-result c =
-    let the-args = c .before .before .before .before .before .args in
-    omega (arith, (c .wide2 .ensures), (c .before .before .wide .ensures), (c .before .shared-slice-known3 .given) ((the-args .at) + 1), (c .before .before .before .shared-slice-known2 .given) (the-args .at))
+    let c1 = c .before in
+    let c2 = c1 .before in
+    let c3 = c2 .before in
+    let c5 = c3 .before .before in
+    let the-args = c5 .args in
+    omega (arith, (c .wide2 .ensures), (c2 .wide .ensures), (c1 .shared-slice-known3 .given) ((the-args .at) + 1), (c3 .shared-slice-known2 .given) (the-args .at))
 
 returns : tie.Need-returns
 returns c = unfold word16 in search needs

@@ -91,18 +91,23 @@ places-less c = search needs
 
 places-again : tie.Need-places-again Inv-places μ-places
 places-again c =
-    let the-places = c .before .before .before .before .before .before .places in
-    let the-pre = c .before .before .before .before .before .before .before .before .before .before .pre in
-    let the-taken = c .before .before .before .before .before .places-test .taken in
-    let the-args = c .before .before .before .before .before .before .before .before .before .before .args in
-    let the-wide = c .before .before .before .wide in
+    let c1 = c .before in
+    let c3 = c1 .before .before in
+    let c5 = c3 .before .before in
+    let c6 = c5 .before in
+    let c10 = c6 .before .before .before .before in
+    let the-places = c6 .places in
+    let the-pre = c10 .pre in
+    let the-taken = c5 .places-test .taken in
+    let the-args = c10 .args in
+    let the-wide = c3 .wide in
     let the-clause = getD (the-args .places .now) (the-places .k) 0 in
     let the-left = getD (the-places .words) (the-wide .result) 0 - (2048 + the-args .l) in
     let the-next = laws.take-on (the-pre .0) (the-places .inv .0) the-taken {c = the-clause} refl (ap (λ x. getD (the-places .words) x 0 - (2048 + the-args .l)) (the-wide .ensures)) in
     let the-length = length-set (the-places .noted) (the-places .count) the-clause ∙ the-places .inv .2 in
     ⊎-elim
-    (λ w. rw (c .before .wide2 .ensures, w .1) (the-next, laws.note-it (the-places .inv .1) the-taken refl the-left (laws.place-inside (the-pre .0) (the-places .inv .0) the-taken) (w .0 .taken), the-length))
-    (λ w. rw (c .before .wide2 .ensures, w .1) (the-next, laws.pass-it (the-places .inv .1) the-taken refl the-left (laws.place-inside (the-pre .0) (the-places .inv .0) the-taken) (w .0 .left) (rw (the-wide .ensures) (omega arith)), the-length))
+    (λ w. rw (c1 .wide2 .ensures, w .1) (the-next, laws.note-it (the-places .inv .1) the-taken refl the-left (laws.place-inside (the-pre .0) (the-places .inv .0) the-taken) (w .0 .taken), the-length))
+    (λ w. rw (c1 .wide2 .ensures, w .1) (the-next, laws.pass-it (the-places .inv .1) the-taken refl the-left (laws.place-inside (the-pre .0) (the-places .inv .0) the-taken) (w .0 .left) (rw (the-wide .ensures) (omega arith)), the-length))
     (c .if1 .came)
 
 same-length : tie.Need-same-length Inv-places μ-places

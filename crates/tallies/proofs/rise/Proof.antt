@@ -74,10 +74,14 @@ places-less c = search needs
 
 places-again : tie.Need-places-again Inv-places μ-places
 places-again c =
-    let the-places = c .before .before .before .before .places in
-    let the-pre = c .before .before .before .before .before .before .before .pre in
-    let the-taken = c .before .before .before .places-test .taken in
-    laws.give-on (the-pre .0) (the-places .inv) the-taken (c .before .wide .ensures) refl
+    let c1 = c .before in
+    let c3 = c1 .before .before in
+    let c4 = c3 .before in
+    let c7 = c4 .before .before .before in
+    let the-places = c4 .places in
+    let the-pre = c7 .pre in
+    let the-taken = c3 .places-test .taken in
+    laws.give-on (the-pre .0) (the-places .inv) the-taken (c1 .wide .ensures) refl
 
 same-length : tie.Need-same-length Inv-places μ-places
 same-length c = c .before .places .inv .long

@@ -55,19 +55,26 @@ part-weigh-clause-end c =
 
 weigh-clause-requires : tie.Need-weigh-clause-requires Inv-clauses μ-clauses
 weigh-clause-requires c κs =
-    let the-clauses = c .before .before .before .before .clauses in
-    let the-pre = c .before .before .before .before .before .before .before .before .pre in
-    let the-taken = c .before .before .before .clauses-test .taken in
-    (laws.lent-over (the-clauses .inv .0) the-taken (the-pre .0 .1) (c .before .wide .ensures), the-pre .0 .2, laws.lent-short (the-clauses .inv .0) the-taken (c .before .wide .ensures) (the-pre .1 .0))
+    let c1 = c .before in
+    let c3 = c1 .before .before in
+    let c4 = c3 .before in
+    let c8 = c4 .before .before .before .before in
+    let the-clauses = c4 .clauses in
+    let the-pre = c8 .pre in
+    let the-taken = c3 .clauses-test .taken in
+    (laws.lent-over (the-clauses .inv .0) the-taken (the-pre .0 .1) (c1 .wide .ensures), the-pre .0 .2, laws.lent-short (the-clauses .inv .0) the-taken (c1 .wide .ensures) (the-pre .1 .0))
 
 mul-words : tie.Need-mul-words Inv-clauses μ-clauses
 mul-words c = search needs
 
 slice-write-words : tie.Need-slice-write-words Inv-clauses μ-clauses
 slice-write-words c =
-    let the-clauses = c .before .before .before .before .before .clauses in
-    let the-pre = c .before .before .before .before .before .before .before .before .before .pre in
-    let the-taken = c .before .before .before .before .clauses-test .taken in
+    let c4 = c .before .before .before .before in
+    let c5 = c4 .before in
+    let c9 = c5 .before .before .before .before in
+    let the-clauses = c5 .clauses in
+    let the-pre = c9 .pre in
+    let the-taken = c4 .clauses-test .taken in
     omega (arith, laws.count-inside (the-clauses .inv .0) the-taken, the-pre .1 .1, the-clauses .inv .1)
 
 add-count : tie.Need-add-count Inv-clauses μ-clauses
@@ -78,11 +85,15 @@ clauses-less c = search needs
 
 clauses-again : tie.Need-clauses-again Inv-clauses μ-clauses
 clauses-again c =
-    let the-clauses = c .before .before .before .before .before .clauses in
-    let the-pre = c .before .before .before .before .before .before .before .before .before .pre in
-    let the-taken = c .before .before .before .before .clauses-test .taken in
+    let c2 = c .before .before in
+    let c4 = c2 .before .before in
+    let c5 = c4 .before in
+    let c9 = c5 .before .before .before .before in
+    let the-clauses = c5 .clauses in
+    let the-pre = c9 .pre in
+    let the-taken = c4 .clauses-test .taken in
     let the-room = laws.count-inside (the-clauses .inv .0) the-taken in (
-      laws.tally-on (the-clauses .inv .0) the-taken (c .before .before .wide .ensures) (omega (arith, the-room, the-pre .1 .1, the-clauses .inv .1)) (c .weigh-clause .ensures),
+      laws.tally-on (the-clauses .inv .0) the-taken (c2 .wide .ensures) (omega (arith, the-room, the-pre .1 .1, the-clauses .inv .1)) (c .weigh-clause .ensures),
       length-set (the-clauses .words) (the-clauses .count) (c .weigh-clause .result) ∙ the-clauses .inv .1,
     )
 

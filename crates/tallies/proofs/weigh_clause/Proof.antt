@@ -65,10 +65,14 @@ literals-less c = search needs
 
 literals-again : tie.Need-literals-again Inv-literals μ-literals
 literals-again c =
-    let the-literals = c .before .before .before .before .before .literals in
-    let the-pre = c .before .before .before .before .before .before .before .before .pre in
-    let the-taken = c .before .before .before .before .literals-test .taken in
-    let the-wide = c .before .before .wide in
+    let c2 = c .before .before in
+    let c4 = c2 .before .before in
+    let c5 = c4 .before in
+    let c8 = c5 .before .before .before in
+    let the-literals = c5 .literals in
+    let the-pre = c8 .pre in
+    let the-taken = c4 .literals-test .taken in
+    let the-wide = c2 .wide in
     ⊎-elim
     (λ w. rw (w .1) (laws.weigh-it (the-pre .0) (the-literals .inv) the-taken (the-wide .ensures) (w .0 .taken)))
     (λ w. rw (w .1) (laws.weigh-past (the-pre .0) (the-literals .inv) the-taken (the-wide .ensures) (w .0 .left)))

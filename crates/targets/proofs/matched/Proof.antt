@@ -44,32 +44,58 @@ opposed-requires c κs = search needs
 
 contains-requires : tie.Need-contains-requires Inv-targets μ-targets
 contains-requires c κs =
-    let w = c .before .before .before .before .before .before .targets .inv in
-    let h = room (w .0) (c .before .before .before .before .before .targets-test .taken) in
+    let c5 = c .before .before .before .before .before in
+    let c6 = c5 .before in
+    let w = c6 .targets .inv in
+    let h = room (w .0) (c5 .targets-test .taken) in
     (omega arith, w .1)
 
 returns-2 : tie.Need-returns-2 Inv-targets μ-targets
-returns-2 c = target-both (c .before .before .before .before .before .before .before .before .targets .inv .0) (c .before .before .before .before .before .before .before .targets-test .taken) (c .before .before .before .before .before .if1 .left) (c .before .before .before .before .joined .ensures) (c .before .before .before .opposed .ensures) _ (c .before .contains .ensures) (c .if2 .taken)
+returns-2 c =
+    let c1 = c .before in
+    let c3 = c1 .before .before in
+    let c4 = c3 .before in
+    let c5 = c4 .before in
+    let c7 = c5 .before .before in
+    let c8 = c7 .before in
+    target-both (c8 .targets .inv .0) (c7 .targets-test .taken) (c5 .if1 .left) (c4 .joined .ensures) (c3 .opposed .ensures) _ (c1 .contains .ensures) (c .if2 .taken)
 
 add-literal-requires : tie.Need-add-literal-requires Inv-targets μ-targets
 add-literal-requires c κs =
-    let w = c .before .before .before .before .before .before .before .before .before .targets .inv in
-    (room (w .0) (c .before .before .before .before .before .before .before .before .targets-test .taken), w .1)
+    let c8 = c .before .before .before .before .before .before .before .before in
+    let c9 = c8 .before in
+    let w = c9 .targets .inv in
+    (room (w .0) (c8 .targets-test .taken), w .1)
 
 targets-less : tie.Need-targets-less Inv-targets μ-targets
 targets-less c = search needs
 
 targets-again : tie.Need-targets-again Inv-targets μ-targets
-targets-again c = (target-on (c .before .before .before .before .before .before .before .before .before .before .targets .inv .0) (c .before .before .before .before .before .before .before .before .before .targets-test .taken) (c .before .before .before .before .before .before .before .if1 .left) (c .before .before .before .before .before .before .joined .ensures) (c .before .before .before .before .before .opposed .ensures) (c .before .before .before .contains .ensures) (c .before .before .if2 .left) (c .add-literal .ensures .0), c .add-literal .ensures .1)
+targets-again c =
+    let c2 = c .before .before in
+    let c3 = c2 .before in
+    let c5 = c3 .before .before in
+    let c6 = c5 .before in
+    let c7 = c6 .before in
+    let c9 = c7 .before .before in
+    let c10 = c9 .before in
+    (target-on (c10 .targets .inv .0) (c9 .targets-test .taken) (c7 .if1 .left) (c6 .joined .ensures) (c5 .opposed .ensures) (c3 .contains .ensures) (c2 .if2 .left) (c .add-literal .ensures .0), c .add-literal .ensures .1)
 
 put-requires : tie.Need-put-requires Inv-targets μ-targets
-put-requires c κs = (omega (arith, c .before .before .targets .inv .0 .few), c .before .before .before .before .before .before .pre .2)
+put-requires c κs =
+    let c2 = c .before .before in
+    let c6 = c2 .before .before .before .before in
+    (omega (arith, c2 .targets .inv .0 .few), c6 .pre .2)
 
 same-length : tie.Need-same-length Inv-targets μ-targets
 same-length c = search needs
 
 returns-3 : tie.Need-returns-3 Inv-targets μ-targets
-returns-3 c = targets-done (c .before .before .before .before .before .targets .inv .0) _ (c .before .before .before .before .targets-test .left) (c .before .before .put .ensures)
+returns-3 c =
+    let c2 = c .before .before in
+    let c4 = c2 .before .before in
+    let c5 = c4 .before in
+    targets-done (c5 .targets .inv .0) _ (c4 .targets-test .left) (c2 .put .ensures)
 
 pub matched-spec : {M : Type 1} → statement M
 matched-spec =

@@ -29,7 +29,11 @@ literal-holds-requires : tie.Need-literal-holds-requires Inv-literals μ-literal
 literal-holds-requires c κs = c .before .before .before .before .before .pre _ (getD-mem _ _ 0 (c .before .literals-test .taken))
 
 returns : tie.Need-returns Inv-literals μ-literals
-returns c = laws.seek-found (c .before .before .before .before .literals .inv) (c .before .before .before .literals-test .taken) (sym (c .before .literal-holds .ensures) ∙ c .if1 .taken)
+returns c =
+    let c1 = c .before in
+    let c3 = c1 .before .before in
+    let c4 = c3 .before in
+    laws.seek-found (c4 .literals .inv) (c3 .literals-test .taken) (sym (c1 .literal-holds .ensures) ∙ c .if1 .taken)
 
 add-i : tie.Need-add-i Inv-literals μ-literals
 add-i c = search needs
@@ -38,7 +42,11 @@ literals-less : tie.Need-literals-less Inv-literals μ-literals
 literals-less c = search needs
 
 literals-again : tie.Need-literals-again Inv-literals μ-literals
-literals-again c = laws.seek-on (c .before .before .before .before .literals .inv) (c .before .before .before .literals-test .taken) (sym (c .before .literal-holds .ensures) ∙ c .if1 .left)
+literals-again c =
+    let c1 = c .before in
+    let c3 = c1 .before .before in
+    let c4 = c3 .before in
+    laws.seek-on (c4 .literals .inv) (c3 .literals-test .taken) (sym (c1 .literal-holds .ensures) ∙ c .if1 .left)
 
 returns-2 : tie.Need-returns-2 Inv-literals μ-literals
 returns-2 c = laws.seek-none (c .before .literals .inv) (c .literals-test .left)

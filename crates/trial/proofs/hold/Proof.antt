@@ -34,7 +34,11 @@ variables-less : tie.Need-variables-less Inv-variables μ-variables
 variables-less c = omega (arith, written-length (c .before .before .before .variables .inv), c .before .before .variables-test .taken)
 
 variables-again : tie.Need-variables-again Inv-variables μ-variables
-variables-again c = laws.hold-on (c .before .before .before .before .before .args .holds) (c .before .before .before .variables .inv) (c .before .before .variables-test .taken) (c .held-value .ensures)
+variables-again c =
+    let c2 = c .before .before in
+    let c3 = c2 .before in
+    let c5 = c3 .before .before in
+    laws.hold-on (c5 .args .holds) (c3 .variables .inv) (c2 .variables-test .taken) (c .held-value .ensures)
 
 same-length : tie.Need-same-length Inv-variables μ-variables
 same-length c = written-length (c .before .variables .inv)

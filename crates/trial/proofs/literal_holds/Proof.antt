@@ -13,15 +13,19 @@ shared-slice-read-if1 c = search needs
 
 returns : tie.Need-returns
 returns c =
-    let the-wide = c .before .before .wide in
-    let the-args = c .before .before .before .before .args in
-    laws.literal-true (the-args .values .now) (the-args .l) (the-wide .ensures) (omega (arith, c .before .before .before .before .pre, the-wide .ensures)) (c .if1 .taken)
+    let c2 = c .before .before in
+    let c4 = c2 .before .before in
+    let the-wide = c2 .wide in
+    let the-args = c4 .args in
+    laws.literal-true (the-args .values .now) (the-args .l) (the-wide .ensures) (omega (arith, c4 .pre, the-wide .ensures)) (c .if1 .taken)
 
 returns-2 : tie.Need-returns-2
 returns-2 c =
-    let the-wide = c .before .before .wide in
-    let the-args = c .before .before .before .before .args in
-    laws.literal-other (the-args .values .now) (the-args .l) (the-wide .ensures) (omega (arith, c .before .before .before .before .pre, the-wide .ensures)) (c .if1 .left)
+    let c2 = c .before .before in
+    let c4 = c2 .before .before in
+    let the-wide = c2 .wide in
+    let the-args = c4 .args in
+    laws.literal-other (the-args .values .now) (the-args .l) (the-wide .ensures) (omega (arith, c4 .pre, the-wide .ensures)) (c .if1 .left)
 
 pub literal-holds-spec : {M : Type 1} → statement M
 literal-holds-spec = tie.close (tie.spec wide-requires shared-slice-read-if1 returns returns-2)

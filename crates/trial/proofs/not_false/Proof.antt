@@ -29,7 +29,11 @@ variables-again : tie.Need-variables-again Inv-variables μ-variables
 variables-again c = laws.count-false (c .before .before .before .variables .inv) (c .before .before .variables-test .taken) (c .if1 .taken)
 
 add-count : tie.Need-add-count Inv-variables μ-variables
-add-count c = let i = c .before .before .before .variables .inv in omega (arith, i .few, i .inside, c .before .before .variables-test .taken, c .before .before .before .before .good)
+add-count c =
+    let c2 = c .before .before in
+    let c3 = c2 .before in
+    let c4 = c3 .before in
+    let i = c3 .variables .inv in omega (arith, i .few, i .inside, c2 .variables-test .taken, c4 .good)
 
 variables-less-2 : tie.Need-variables-less-2 Inv-variables μ-variables
 variables-less-2 c = search needs

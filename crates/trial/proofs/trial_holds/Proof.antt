@@ -49,11 +49,20 @@ part-clause-holds-end c = omega (arith, end-inside (c .before .before .before .c
 
 clause-holds-requires : tie.Need-clause-holds-requires Inv-clauses μ-clauses
 clause-holds-requires c κs =
-    let the-clauses = c .before .before .before .before .clauses in
-    lent-over _ (the-clauses .at) (c .before .wide .ensures) _ (laws.try-over (the-clauses .inv) (c .before .before .before .clauses-test .taken) (c .before .before .before .before .before .before .before .pre .1))
+    let c1 = c .before in
+    let c3 = c1 .before .before in
+    let c4 = c3 .before in
+    let c7 = c4 .before .before .before in
+    let the-clauses = c4 .clauses in
+    lent-over _ (the-clauses .at) (c1 .wide .ensures) _ (laws.try-over (the-clauses .inv) (c3 .clauses-test .taken) (c7 .pre .1))
 
 returns : tie.Need-returns Inv-clauses μ-clauses
-returns c = laws.try-broken (c .before .before .before .before .before .before .clauses .inv) (c .before .before .before .before .before .clauses-test .taken) (c .before .before .before .wide .ensures) (c .before .clause-holds .ensures) (not-true _ (c .if1 .taken))
+returns c =
+    let c1 = c .before in
+    let c3 = c1 .before .before in
+    let c5 = c3 .before .before in
+    let c6 = c5 .before in
+    laws.try-broken (c6 .clauses .inv) (c5 .clauses-test .taken) (c3 .wide .ensures) (c1 .clause-holds .ensures) (not-true _ (c .if1 .taken))
 
 clauses-less : tie.Need-clauses-less Inv-clauses μ-clauses
 clauses-less c =
@@ -61,7 +70,12 @@ clauses-less c =
     omega (arith, end-inside (c .before .before .before .before .before .before .clauses .inv .before) (the-clauses-test .taken), the-clauses-test .taken, c .before .before .before .wide .ensures)
 
 clauses-again : tie.Need-clauses-again Inv-clauses μ-clauses
-clauses-again c = laws.try-on (c .before .before .before .before .before .before .clauses .inv) (c .before .before .before .before .before .clauses-test .taken) (c .before .before .before .wide .ensures) (c .before .clause-holds .ensures) (not-false _ (c .if1 .left))
+clauses-again c =
+    let c1 = c .before in
+    let c3 = c1 .before .before in
+    let c5 = c3 .before .before in
+    let c6 = c5 .before in
+    laws.try-on (c6 .clauses .inv) (c5 .clauses-test .taken) (c3 .wide .ensures) (c1 .clause-holds .ensures) (not-false _ (c .if1 .left))
 
 returns-2 : tie.Need-returns-2 Inv-clauses μ-clauses
 returns-2 c = laws.try-all (c .before .clauses .inv) (c .clauses-test .left)

@@ -30,19 +30,36 @@ hold-requires : tie.Need-hold-requires Inv-guesses μ-guesses
 hold-requires c κs = search needs
 
 same-length : tie.Need-same-length Inv-guesses μ-guesses
-same-length c = c .before .before .hold .kept .0 ∙ c .before .before .before .before .before .before .before .guesses .inv .0 .size
+same-length c =
+    let c2 = c .before .before in
+    let c7 = c2 .before .before .before .before .before in
+    c2 .hold .kept .0 ∙ c7 .guesses .inv .0 .size
 
 returns : tie.Need-returns Inv-guesses μ-guesses
-returns c = laws.retrace-holds (c .before .before .before .before .before .before .before .guesses .inv .0) (sym (c .before .before .before .before .before .trial-holds .ensures) ∙ c .before .before .before .before .if1 .taken) (c .before .before .hold .ensures)
+returns c =
+    let c2 = c .before .before in
+    let c4 = c2 .before .before in
+    let c5 = c4 .before in
+    let c7 = c5 .before .before in
+    laws.retrace-holds (c7 .guesses .inv .0) (sym (c5 .trial-holds .ensures) ∙ c4 .if1 .taken) (c2 .hold .ensures)
 
 hold-requires-2 : tie.Need-hold-requires-2 Inv-guesses μ-guesses
 hold-requires-2 c κs = search needs
 
 same-length-2 : tie.Need-same-length-2 Inv-guesses μ-guesses
-same-length-2 c = c .before .before .hold2 .kept .0 ∙ c .before .before .before .before .before .before .before .before .guesses .inv .0 .size
+same-length-2 c =
+    let c2 = c .before .before in
+    let c8 = c2 .before .before .before .before .before .before in
+    c2 .hold2 .kept .0 ∙ c8 .guesses .inv .0 .size
 
 returns-2 : tie.Need-returns-2 Inv-guesses μ-guesses
-returns-2 c = laws.retrace-none (c .before .before .before .before .before .before .before .before .guesses .inv .0) (sym (c .before .before .before .before .before .before .trial-holds .ensures) ∙ c .before .before .before .before .before .if1 .left) (c .before .before .before .before .if2 .taken) (c .before .before .hold2 .ensures)
+returns-2 c =
+    let c2 = c .before .before in
+    let c4 = c2 .before .before in
+    let c5 = c4 .before in
+    let c6 = c5 .before in
+    let c8 = c6 .before .before in
+    laws.retrace-none (c8 .guesses .inv .0) (sym (c6 .trial-holds .ensures) ∙ c5 .if1 .left) (c4 .if2 .taken) (c2 .hold2 .ensures)
 
 sub-depth : tie.Need-sub-depth Inv-guesses μ-guesses
 sub-depth c = search needs
@@ -58,17 +75,29 @@ wide-requires c κs = search needs
 
 unwind-requires : tie.Need-unwind-requires Inv-guesses μ-guesses
 unwind-requires c κs =
-    let the-guesses = c .before .before .before .before .before .before .before .before .before .guesses in
-    (c .before .before .before .before .before .before .before .before .before .before .before .before .before .before .pre .1 .0 .0, laws.can-retrace (the-guesses .inv .0) (sym (c .before .before .before .before .before .before .before .trial-holds .ensures) ∙ c .before .before .before .before .before .before .if1 .left) (the-guesses .depth - 1) (omega (arith, c .before .before .before .before .before .if2 .left)) (c .before .before .before .wide .ensures), the-guesses .inv .1)
+    let c3 = c .before .before .before in
+    let c5 = c3 .before .before in
+    let c6 = c5 .before in
+    let c7 = c6 .before in
+    let c9 = c7 .before .before in
+    let c14 = c9 .before .before .before .before .before in
+    let the-guesses = c9 .guesses in
+    (c14 .pre .1 .0 .0, laws.can-retrace (the-guesses .inv .0) (sym (c7 .trial-holds .ensures) ∙ c6 .if1 .left) (the-guesses .depth - 1) (omega (arith, c5 .if2 .left)) (c3 .wide .ensures), the-guesses .inv .1)
 
 guesses-less : tie.Need-guesses-less Inv-guesses μ-guesses
 guesses-less c = search needs
 
 guesses-again : tie.Need-guesses-again Inv-guesses μ-guesses
 guesses-again c =
-    let the-unwind = c .before .before .unwind in
-    let the-guesses = c .before .before .before .before .before .before .before .before .before .before .before .before .guesses in
-    (laws.retrace-on (the-guesses .inv .0) (sym (c .before .before .before .before .before .before .before .before .before .before .trial-holds .ensures) ∙ c .before .before .before .before .before .before .before .before .before .if1 .left) (the-guesses .depth - 1) (omega (arith, c .before .before .before .before .before .before .before .before .if2 .left)) (c .before .before .before .before .before .before .wide .ensures) (the-unwind .ensures .values), the-unwind .ensures .rows)
+    let c2 = c .before .before in
+    let c6 = c2 .before .before .before .before in
+    let c8 = c6 .before .before in
+    let c9 = c8 .before in
+    let c10 = c9 .before in
+    let c12 = c10 .before .before in
+    let the-unwind = c2 .unwind in
+    let the-guesses = c12 .guesses in
+    (laws.retrace-on (the-guesses .inv .0) (sym (c10 .trial-holds .ensures) ∙ c9 .if1 .left) (the-guesses .depth - 1) (omega (arith, c8 .if2 .left)) (c6 .wide .ensures) (the-unwind .ensures .values), the-unwind .ensures .rows)
 
 pub walk-back-spec : {M : Type 1} → statement M
 walk-back-spec =

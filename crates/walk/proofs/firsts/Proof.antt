@@ -30,10 +30,18 @@ add-at : tie.Need-add-at Inv-records μ-records
 add-at c = search needs
 
 records-less : tie.Need-records-less Inv-records μ-records
-records-less c = omega (arith, c .before .before .before .before .before .before .pre .0, c .before .before .before .before .records .inv .place .inside, c .before .before .before .records-test .taken)
+records-less c =
+    let c3 = c .before .before .before in
+    let c4 = c3 .before in
+    let c6 = c4 .before .before in
+    omega (arith, c6 .pre .0, c4 .records .inv .place .inside, c3 .records-test .taken)
 
 records-again : tie.Need-records-again Inv-records μ-records
-records-again c = placing-on (c .before .before .before .before .before .before .pre .0) (c .before .before .before .before .records .inv) (c .before .before .before .records-test .taken)
+records-again c =
+    let c3 = c .before .before .before in
+    let c4 = c3 .before in
+    let c6 = c4 .before .before in
+    placing-on (c6 .pre .0) (c4 .records .inv) (c3 .records-test .taken)
 
 mul-places : tie.Need-mul-places Inv-records μ-records
 mul-places c = search needs
@@ -45,13 +53,20 @@ add-at-2 : tie.Need-add-at-2 Inv-records μ-records
 add-at-2 c = search needs
 
 records-less-2 : tie.Need-records-less-2 Inv-records μ-records
-records-less-2 c = omega (arith, c .before .before .before .before .before .before .before .pre .0, c .before .before .before .before .before .records .inv .place .inside, c .before .before .before .before .records-test .taken)
+records-less-2 c =
+    let c4 = c .before .before .before .before in
+    let c5 = c4 .before in
+    let c7 = c5 .before .before in
+    omega (arith, c7 .pre .0, c5 .records .inv .place .inside, c4 .records-test .taken)
 
 records-again-2 : tie.Need-records-again-2 Inv-records μ-records
 records-again-2 c =
-    let p = c .before .before .before .before .before .before .before .pre .0 in
-    let i = c .before .before .before .before .before .records .inv in
-    let l = c .before .before .before .before .records-test .taken in
+    let c4 = c .before .before .before .before in
+    let c5 = c4 .before in
+    let c7 = c5 .before .before in
+    let p = c7 .pre .0 in
+    let i = c5 .records .inv in
+    let l = c4 .records-test .taken in
     ⊎-elim (λ w. rw (w .1) (placing-set p i l _)) (λ w. rw (w .1) (placing-on p i l)) (c .if2 .came)
 
 returns : tie.Need-returns Inv-records μ-records

@@ -33,7 +33,14 @@ seconds-less : tie.Need-seconds-less Inv-seconds μ-seconds
 seconds-less c = search needs
 
 seconds-again : tie.Need-seconds-again Inv-seconds μ-seconds
-seconds-again c = linking-on (c .before .before .before .before .before .before .seconds .inv) (c .before .before .before .before .before .seconds-test .taken) (c .before .before .before .after-move .ensures .0) (c .before .before .before .before .pair .ensures .0) (c .before .before .pair2 .ensures .0) (c .before .before .before .before .before .before .before .pre .1) (c .put .ensures)
+seconds-again c =
+    let c2 = c .before .before in
+    let c3 = c2 .before in
+    let c4 = c3 .before in
+    let c5 = c4 .before in
+    let c6 = c5 .before in
+    let c7 = c6 .before in
+    linking-on (c6 .seconds .inv) (c5 .seconds-test .taken) (c3 .after-move .ensures .0) (c4 .pair .ensures .0) (c2 .pair2 .ensures .0) (c7 .pre .1) (c .put .ensures)
 
 returns : tie.Need-returns Inv-seconds μ-seconds
 returns c = c .before .seconds .inv .kept

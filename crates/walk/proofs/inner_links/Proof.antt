@@ -45,18 +45,33 @@ wide-requires-3 c κs = search needs
 
 inner-link-requires : tie.Need-inner-link-requires Inv-records μ-records
 inner-link-requires c κs =
-    let p = c .before .before .before .before .before .before .before .before .before .before .pre in
-    let m = move-small (c .before .before .before .before .before .before .before .before .records .inv .place) (c .before .before .before .before .before .before .before .records-test .taken) (c .before .before .before .before .before .wide .ensures) (c .before .before .before .wide2 .ensures) (c .before .wide3 .ensures) (p .0) in
+    let c1 = c .before in
+    let c3 = c1 .before .before in
+    let c5 = c3 .before .before in
+    let c7 = c5 .before .before in
+    let c8 = c7 .before in
+    let c10 = c8 .before .before in
+    let p = c10 .pre in
+    let m = move-small (c8 .records .inv .place) (c7 .records-test .taken) (c5 .wide .ensures) (c3 .wide2 .ensures) (c1 .wide3 .ensures) (p .0) in
     (m .0, m .1, m .2, p .1)
 
 add-at : tie.Need-add-at Inv-records μ-records
 add-at c = search needs
 
 records-less : tie.Need-records-less Inv-records μ-records
-records-less c = omega (arith, c .before .before .before .before .before .before .before .before .before .records .inv .place .inside, c .before .before .before .before .before .before .before .before .records-test .taken)
+records-less c =
+    let c8 = c .before .before .before .before .before .before .before .before in
+    let c9 = c8 .before in
+    omega (arith, c9 .records .inv .place .inside, c8 .records-test .taken)
 
 records-again : tie.Need-records-again Inv-records μ-records
-records-again c = all-linking-on (c .before .before .before .before .before .before .before .before .before .records .inv) (c .before .before .before .before .before .before .before .before .records-test .taken) (c .before .before .before .before .before .before .wide .ensures) (c .before .before .before .before .wide2 .ensures) (c .before .before .wide3 .ensures) (c .inner-link .ensures)
+records-again c =
+    let c2 = c .before .before in
+    let c4 = c2 .before .before in
+    let c6 = c4 .before .before in
+    let c8 = c6 .before .before in
+    let c9 = c8 .before in
+    all-linking-on (c9 .records .inv) (c8 .records-test .taken) (c6 .wide .ensures) (c4 .wide2 .ensures) (c2 .wide3 .ensures) (c .inner-link .ensures)
 
 returns : tie.Need-returns Inv-records μ-records
 returns c = c .before .records .inv .kept

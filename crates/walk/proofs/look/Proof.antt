@@ -33,13 +33,21 @@ mul-spread c =
 
 spread-requires : tie.Need-spread-requires
 spread-requires c κs =
-    let pre = c .before .before .before .before .before .before .before .before .before .before .before .before .before .before .before .before .before .pre in
-    (c .before .before .before .before .before .before .before .before .before .before .before .before .before .before .pair .ensures .1, few-pairs (pre .0 .few) (pre .0 .pushes-go .few))
+    let c14 = c .before .before .before .before .before .before .before .before .before .before .before .before .before .before in
+    let c17 = c14 .before .before .before in
+    let pre = c17 .pre in
+    (c14 .pair .ensures .1, few-pairs (pre .0 .few) (pre .0 .pushes-go .few))
 
 returns-2 : tie.Need-returns-2
 returns-2 c =
-    let p = c .before .before .before .before .before .before .before .before .before .before .before .before .before .before .before .before .before .before .pre in
-    look-told (c .before .before .before .before .before .before .before .before .before .before .before .before .before .before .before .pair .ensures .0) (λ F h. sym (not-false _ (c .before .before .before .before .before .before .before .before .before .before .before .before .if1 .left)) ∙ c .before .before .before .before .before .before .before .before .before .before .before .before .before .any .ensures F h) (p .3) (p .4) (c .before .before .before .before .before .before .before .before .before .push-all .ensures) (c .before .before .before .before .pop-all .ensures) (c .spread .ensures)
+    let c4 = c .before .before .before .before in
+    let c9 = c4 .before .before .before .before .before in
+    let c12 = c9 .before .before .before in
+    let c13 = c12 .before in
+    let c15 = c13 .before .before in
+    let c18 = c15 .before .before .before in
+    let p = c18 .pre in
+    look-told (c15 .pair .ensures .0) (λ F h. sym (not-false _ (c12 .if1 .left)) ∙ c13 .any .ensures F h) (p .3) (p .4) (c9 .push-all .ensures) (c4 .pop-all .ensures) (c .spread .ensures)
 
 pub look-spec : {M : Type 1} → statement M
 look-spec =

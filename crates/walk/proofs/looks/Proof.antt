@@ -39,7 +39,11 @@ returns : tie.Need-returns Inv-passes μ-passes
 returns c = c .before .before .before .before .passes .inv
 
 pass-requires : tie.Need-pass-requires Inv-passes μ-passes
-pass-requires c κs = (c .before .before .before .before .before .before .before .before .before .before .before .before .before .before .before .pre, c .before .before .before .before .before .before .before .before .before .before .before .before .firsts .ensures, c .before .before .before .before .before .before .before .before .before .before .before .firsts2 .ensures)
+pass-requires c κs =
+    let c11 = c .before .before .before .before .before .before .before .before .before .before .before in
+    let c12 = c11 .before in
+    let c15 = c12 .before .before .before in
+    (c15 .pre, c12 .firsts .ensures, c11 .firsts2 .ensures)
 
 sub-left : tie.Need-sub-left Inv-passes μ-passes
 sub-left c = search needs

@@ -96,8 +96,10 @@ rem-look c = search needs
 
 look-requires : tie.Need-look-requires Inv-pairs μ-pairs
 look-requires c κs =
-    let the-args = c .before .before .before .before .before .before .before .before .before .before .before .before .args in
-    let p = c .before .before .before .before .before .before .before .before .before .before .before .before .pre in (p .0, p .1 .each _, p .2 .each _, first-there (the-args .n) (c .before .before .before .before .before .before .before .before .pairs-test .taken), second-there (the-args .n) _)
+    let c8 = c .before .before .before .before .before .before .before .before in
+    let c12 = c8 .before .before .before .before in
+    let the-args = c12 .args in
+    let p = c12 .pre in (p .0, p .1 .each _, p .2 .each _, first-there (the-args .n) (c8 .pairs-test .taken), second-there (the-args .n) _)
 
 add-u-2 : tie.Need-add-u-2 Inv-pairs μ-pairs
 add-u-2 c =
@@ -110,7 +112,10 @@ pairs-less-2 : tie.Need-pairs-less-2 Inv-pairs μ-pairs
 pairs-less-2 c = search needs
 
 pairs-again-2 : tie.Need-pairs-again-2 Inv-pairs μ-pairs
-pairs-again-2 c = looking-on (c .before .before .before .before .before .before .before .before .before .before .pairs .inv) (c .before .before .before .before .before .before .before .before .before .pairs-test .taken) (c .look .ensures)
+pairs-again-2 c =
+    let c9 = c .before .before .before .before .before .before .before .before .before in
+    let c10 = c9 .before in
+    looking-on (c10 .pairs .inv) (c9 .pairs-test .taken) (c .look .ensures)
 
 returns : tie.Need-returns Inv-pairs μ-pairs
 returns c = c .before .pairs .inv .kept

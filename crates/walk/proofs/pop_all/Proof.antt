@@ -78,8 +78,11 @@ tops-again c = c .before .before .before .before .tops .inv
 
 held-requires : tie.Need-held-requires Inv-tops μ-tops
 held-requires c κs =
-    let pre = c .before .before .before .before .before .before .before .before .pre in
-    (c .before .before .before .before .before .before .pair .ensures .1, omega (arith, few-pairs (pre .5) (pre .2 .few), c .before .before .before .before .tops-test .taken))
+    let c4 = c .before .before .before .before in
+    let c6 = c4 .before .before in
+    let c8 = c6 .before .before in
+    let pre = c8 .pre in
+    (c6 .pair .ensures .1, omega (arith, few-pairs (pre .5) (pre .2 .few), c4 .tops-test .taken))
 
 add-y-2 : tie.Need-add-y-2 Inv-tops μ-tops
 add-y-2 c =
@@ -94,8 +97,11 @@ tops-again-2 c = c .before .before .before .before .before .before .before .tops
 
 held-requires-2 : tie.Need-held-requires-2 Inv-tops μ-tops
 held-requires-2 c κs =
-    let pre = c .before .before .before .before .before .before .before .before .before .before .before .pre in
-    (c .before .before .before .before .before .before .before .before .before .pair .ensures .1, omega (arith, few-pairs (pre .5) (pre .2 .few), c .before .before .before .before .before .before .before .tops-test .taken))
+    let c7 = c .before .before .before .before .before .before .before in
+    let c9 = c7 .before .before in
+    let c11 = c9 .before .before in
+    let pre = c11 .pre in
+    (c9 .pair .ensures .1, omega (arith, few-pairs (pre .5) (pre .2 .few), c7 .tops-test .taken))
 
 add-y-3 : tie.Need-add-y-3 Inv-tops μ-tops
 add-y-3 c =
@@ -110,13 +116,18 @@ tops-again-3 c = c .before .before .before .before .before .before .before .befo
 
 put-requires : tie.Need-put-requires Inv-tops μ-tops
 put-requires c κs =
-    let pre = c .before .before .before .before .before .before .before .before .before .before .before .before .before .before .pre in
-    (c .before .before .before .before .before .before .before .before .before .before .before .before .pair .ensures .1, omega (arith, few-pairs (pre .5) (pre .2 .few), c .before .before .before .before .before .before .before .before .before .before .tops-test .taken))
+    let c10 = c .before .before .before .before .before .before .before .before .before .before in
+    let c12 = c10 .before .before in
+    let c14 = c12 .before .before in
+    let pre = c14 .pre in
+    (c12 .pair .ensures .1, omega (arith, few-pairs (pre .5) (pre .2 .few), c10 .tops-test .taken))
 
 pop-over-requires : tie.Need-pop-over-requires Inv-tops μ-tops
 pop-over-requires c κs =
-    let pre = c .before .before .before .before .before .before .before .before .before .before .before .before .before .before .before .before .before .before .pre in
-    (pre .0, pre .1, pre .2, pre .3, pre .4, omega (arith, few-pairs (pre .5) (pre .2 .few), c .before .before .before .before .before .before .before .before .before .before .before .before .before .before .tops-test .taken))
+    let c14 = c .before .before .before .before .before .before .before .before .before .before .before .before .before .before in
+    let c18 = c14 .before .before .before .before in
+    let pre = c18 .pre in
+    (pre .0, pre .1, pre .2, pre .3, pre .4, omega (arith, few-pairs (pre .5) (pre .2 .few), c14 .tops-test .taken))
 
 add-y-4 : tie.Need-add-y-4 Inv-tops μ-tops
 add-y-4 c =
@@ -127,7 +138,13 @@ tops-less-4 : tie.Need-tops-less-4 Inv-tops μ-tops
 tops-less-4 c = omega (arith, c .before .before .before .before .before .before .before .before .before .before .before .before .before .before .before .tops-test .taken)
 
 tops-again-4 : tie.Need-tops-again-4 Inv-tops μ-tops
-tops-again-4 c = tops-on (c .before .before .before .before .before .before .before .before .before .before .before .before .before .before .before .before .tops .inv) (c .before .before .before .before .before .before .before .before .before .before .before .before .before .before .before .tops-test .taken) (c .before .before .before .before .before .before .before .before .before .before .before .before .before .before .before .before .before .pair .ensures .0) (λ F h. sym (not-false _ (c .before .before .before .before .before .before .before .before .before .if2 .left)) ∙ c .before .before .before .before .before .before .before .before .before .before .held .ensures F h) (c .pop-over .ensures)
+tops-again-4 c =
+    let c9 = c .before .before .before .before .before .before .before .before .before in
+    let c10 = c9 .before in
+    let c15 = c10 .before .before .before .before .before in
+    let c16 = c15 .before in
+    let c17 = c16 .before in
+    tops-on (c16 .tops .inv) (c15 .tops-test .taken) (c17 .pair .ensures .0) (λ F h. sym (not-false _ (c9 .if2 .left)) ∙ c10 .held .ensures F h) (c .pop-over .ensures)
 
 returns : tie.Need-returns Inv-tops μ-tops
 returns c = c .before .tops .inv .kept

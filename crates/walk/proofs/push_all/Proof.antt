@@ -52,13 +52,26 @@ wide-requires-3 c κs = search needs
 
 after-move-requires : tie.Need-after-move-requires Inv-records μ-records
 after-move-requires c κs =
-    let pre = c .before .before .before .before .before .before .before .before .before .before .before .pre in
-    (pre .2, pre .4, move-small (c .before .before .before .before .before .before .before .before .records .inv .place) (c .before .before .before .before .before .before .before .records-test .taken) (sym (c .before .before .before .before .if1 .left) ∙ c .before .before .before .before .before .wide .ensures) (c .before .before .wide2 .ensures) (c .wide3 .ensures) (pre .1) .1)
+    let c2 = c .before .before in
+    let c4 = c2 .before .before in
+    let c5 = c4 .before in
+    let c7 = c5 .before .before in
+    let c8 = c7 .before in
+    let c11 = c8 .before .before .before in
+    let pre = c11 .pre in
+    (pre .2, pre .4, move-small (c8 .records .inv .place) (c7 .records-test .taken) (sym (c4 .if1 .left) ∙ c5 .wide .ensures) (c2 .wide2 .ensures) (c .wide3 .ensures) (pre .1) .1)
 
 pair-requires-2 : tie.Need-pair-requires-2 Inv-records μ-records
 pair-requires-2 c κs =
-    let pre = c .before .before .before .before .before .before .before .before .before .before .before .before .pre in
-    (move-small (c .before .before .before .before .before .before .before .before .before .records .inv .place) (c .before .before .before .before .before .before .before .before .records-test .taken) (sym (c .before .before .before .before .before .if1 .left) ∙ c .before .before .before .before .before .before .wide .ensures) (c .before .before .before .wide2 .ensures) (c .before .wide3 .ensures) (pre .1) .2, c .after-move .ensures .1, pre .2 .few)
+    let c1 = c .before in
+    let c3 = c1 .before .before in
+    let c5 = c3 .before .before in
+    let c6 = c5 .before in
+    let c8 = c6 .before .before in
+    let c9 = c8 .before in
+    let c12 = c9 .before .before .before in
+    let pre = c12 .pre in
+    (move-small (c9 .records .inv .place) (c8 .records-test .taken) (sym (c5 .if1 .left) ∙ c6 .wide .ensures) (c3 .wide2 .ensures) (c1 .wide3 .ensures) (pre .1) .2, c .after-move .ensures .1, pre .2 .few)
 
 gain-requires : tie.Need-gain-requires Inv-records μ-records
 gain-requires c κs = search needs
@@ -67,19 +80,32 @@ add-at : tie.Need-add-at Inv-records μ-records
 add-at c = search needs
 
 records-less : tie.Need-records-less Inv-records μ-records
-records-less c = omega (arith, c .before .before .before .before .before .before .before .before .before .before .before .before .before .records .inv .place .inside, c .before .before .before .before .before .before .before .before .before .before .before .before .records-test .taken)
+records-less c =
+    let c12 = c .before .before .before .before .before .before .before .before .before .before .before .before in
+    let c13 = c12 .before in
+    omega (arith, c13 .records .inv .place .inside, c12 .records-test .taken)
 
 records-again : tie.Need-records-again Inv-records μ-records
 records-again c =
-    let pre = c .before .before .before .before .before .before .before .before .before .before .before .before .before .before .before .before .pre in
-    let inv = c .before .before .before .before .before .before .before .before .before .before .before .before .before .records .inv in
-    let inside = c .before .before .before .before .before .before .before .before .before .before .before .before .records-test .taken in
-    let wide-gave = c .before .before .before .before .before .before .before .before .before .before .wide .ensures in
-    let if1-told = c .before .before .before .before .before .before .before .before .before .if1 .left in
-    let wide2-gave = c .before .before .before .before .before .before .before .wide2 .ensures in
-    let wide3-gave = c .before .before .before .before .before .wide3 .ensures in
-    let after-move-gave = c .before .before .before .before .after-move .ensures in
-    push-on inv inside (sym if1-told ∙ wide-gave) wide2-gave wide3-gave (after-move-gave .0) (c .before .before .before .before .before .before .before .before .before .before .before .before .before .before .pair .ensures .0) (c .before .before .before .pair2 .ensures .0) (pre .4) (move-small (inv .place) inside (sym if1-told ∙ wide-gave) wide2-gave wide3-gave (pre .1) .1) (after-move-gave .1) (c .gain .ensures)
+    let c3 = c .before .before .before in
+    let c4 = c3 .before in
+    let c5 = c4 .before in
+    let c7 = c5 .before .before in
+    let c9 = c7 .before .before in
+    let c10 = c9 .before in
+    let c12 = c10 .before .before in
+    let c13 = c12 .before in
+    let c14 = c13 .before in
+    let c16 = c14 .before .before in
+    let pre = c16 .pre in
+    let inv = c13 .records .inv in
+    let inside = c12 .records-test .taken in
+    let wide-gave = c10 .wide .ensures in
+    let if1-told = c9 .if1 .left in
+    let wide2-gave = c7 .wide2 .ensures in
+    let wide3-gave = c5 .wide3 .ensures in
+    let after-move-gave = c4 .after-move .ensures in
+    push-on inv inside (sym if1-told ∙ wide-gave) wide2-gave wide3-gave (after-move-gave .0) (c14 .pair .ensures .0) (c3 .pair2 .ensures .0) (pre .4) (move-small (inv .place) inside (sym if1-told ∙ wide-gave) wide2-gave wide3-gave (pre .1) .1) (after-move-gave .1) (c .gain .ensures)
 
 returns-2 : tie.Need-returns-2 Inv-records μ-records
 returns-2 c = c .before .records .inv .kept

@@ -12,8 +12,10 @@ looks-requires c κs = search needs
 
 returns : tie.Need-returns
 returns c =
-    let p = c .before .before .before .before .before .before .before .before .pre in
-    λ s t i d e x. c .looks .ensures s t d e record { rows = x; links = c .before .before .before .inner-links .ensures s t _ i (no-links (i .counts) (p .0 .few) (p .0 .pushes-go .few)) } .rows
+    let c3 = c .before .before .before in
+    let c8 = c3 .before .before .before .before .before in
+    let p = c8 .pre in
+    λ s t i d e x. c .looks .ensures s t d e record { rows = x; links = c3 .inner-links .ensures s t _ i (no-links (i .counts) (p .0 .few) (p .0 .pushes-go .few)) } .rows
 
 pub quick-spec : {M : Type 1} → statement M
 quick-spec = tie.close (tie.spec inner-links-requires looks-requires returns)

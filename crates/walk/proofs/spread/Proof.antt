@@ -63,7 +63,12 @@ links-less-3 : tie.Need-links-less-3 Inv-links μ-links
 links-less-3 c = omega (arith, c .before .before .before .before .before .before .before .links-test .taken)
 
 links-again-3 : tie.Need-links-again-3 Inv-links μ-links
-links-again-3 c = spread-on (c .before .before .before .before .before .before .before .before .links .inv) (c .before .before .before .before .before .before .before .links-test .taken) (λ F h. sym (not-false _ (c .before .before .before .if2 .left)) ∙ c .before .before .before .before .held .ensures F h) (c .flow .ensures)
+links-again-3 c =
+    let c3 = c .before .before .before in
+    let c4 = c3 .before in
+    let c7 = c4 .before .before .before in
+    let c8 = c7 .before in
+    spread-on (c8 .links .inv) (c7 .links-test .taken) (λ F h. sym (not-false _ (c3 .if2 .left)) ∙ c4 .held .ensures F h) (c .flow .ensures)
 
 returns : tie.Need-returns Inv-links μ-links
 returns c = c .before .links .inv .kept

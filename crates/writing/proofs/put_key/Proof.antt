@@ -40,8 +40,10 @@ same-length c = search needs
 returns : tie.Need-returns
 unfolding bytes32
 returns c =
-    let a = c .before .before .before .before .before .before .before in
-    c .before .before .put-bytes .ensures ∙ ap (λ x. over x (a .args .out .now)) (last-part (a .args .width) (a .args .key) (a .pre .0))
+    let c2 = c .before .before in
+    let c7 = c2 .before .before .before .before .before in
+    let a = c7 in
+    c2 .put-bytes .ensures ∙ ap (λ x. over x (a .args .out .now)) (last-part (a .args .width) (a .args .key) (a .pre .0))
 
 pub put-key-spec : {M : Type 1} → statement M
 put-key-spec =

@@ -41,9 +41,12 @@ put-key-requires c κs = let h = key-room (c .before .before .before .keys .inv)
 
 add-at : tie.Need-add-at Inv-keys μ-keys
 add-at c =
-    let the-keys = c .before .before .before .before .before .before .keys in
-    let a = c .before .before .before .before .before .before .before .before .before in
-    let h = key-room (the-keys .inv) (λ k. length-last (a .args .width) k (a .pre .0)) (c .before .before .before .before .before .keys-test .taken) in
+    let c5 = c .before .before .before .before .before in
+    let c6 = c5 .before in
+    let c9 = c6 .before .before .before in
+    let the-keys = c6 .keys in
+    let a = c9 in
+    let h = key-room (the-keys .inv) (λ k. length-last (a .args .width) k (a .pre .0)) (c5 .keys-test .taken) in
     let k = same-long (the-keys .inv .rest) in
     omega (arith, h, k, length-over (gather (recordOf (a .args .width)) (a .args .keys .now)) (a .args .out .now) (a .pre .1), a .good .1 .1 .0 .0)
 
@@ -55,8 +58,12 @@ keys-less c = search needs
 
 keys-again : tie.Need-keys-again Inv-keys μ-keys
 keys-again c =
-    let the-keys = c .before .before .before .before .before .before .keys in
-    key-listed (the-keys .inv) (λ k. length-last (c .before .before .before .before .before .before .before .before .before .args .width) k (c .before .before .before .before .before .before .before .before .before .pre .0)) (c .before .before .before .before .before .keys-test .taken) (part-put _ (the-keys .out) (the-keys .at) (c .before .before .put-key .ensures))
+    let c2 = c .before .before in
+    let c5 = c2 .before .before .before in
+    let c6 = c5 .before in
+    let c9 = c6 .before .before .before in
+    let the-keys = c6 .keys in
+    key-listed (the-keys .inv) (λ k. length-last (c9 .args .width) k (c9 .pre .0)) (c5 .keys-test .taken) (part-put _ (the-keys .out) (the-keys .at) (c2 .put-key .ensures))
 
 same-length : tie.Need-same-length Inv-keys μ-keys
 same-length c = ap length (listed (c .before .keys .inv) (c .keys-test .left)) ∙ length-over _ _ (c .before .before .before .before .pre .1)

@@ -151,7 +151,10 @@ part-put-bytes-end : tie.Need-part-put-bytes-end
 part-put-bytes-end c = search needs
 
 put-bytes-requires-2 : tie.Need-put-bytes-requires-2
-put-bytes-requires-2 c κs = let a = c .before .before .before .before .before .before .before .before .before .before .before in part-room (states a) (behind a behindStates) (symbols-put (c .before)) refl
+put-bytes-requires-2 c κs =
+    let c1 = c .before in
+    let c11 = c1 .before .before .before .before .before .before .before .before .before .before in
+    let a = c11 in part-room (states a) (behind a behindStates) (symbols-put (c1)) refl
 
 add-at : tie.Need-add-at
 add-at c = omega (arith, states-put c .room, same-long (states-put c), end-long (start3 c))
@@ -166,7 +169,10 @@ part-put-keys-end : tie.Need-part-put-keys-end
 part-put-keys-end c = search needs
 
 put-keys-requires : tie.Need-put-keys-requires
-put-keys-requires c κs = let a = c .before .before .before .before .before .before .before .before .before .before .before .before .before .before .before in (omega arith, part-room (gather (recordOf 3) (a .args .internals .now)) (behind a behindInternals) (states-put (c .before)) refl)
+put-keys-requires c κs =
+    let c1 = c .before in
+    let c15 = c1 .before .before .before .before .before .before .before .before .before .before .before .before .before .before in
+    let a = c15 in (omega arith, part-room (gather (recordOf 3) (a .args .internals .now)) (behind a behindInternals) (states-put (c1)) refl)
 
 mul-at : tie.Need-mul-at
 mul-at c = omega (arith, internals-put c .room, same-long (internals-put c), end-long (start4 c))
@@ -184,7 +190,10 @@ part-put-keys-end-2 : tie.Need-part-put-keys-end-2
 part-put-keys-end-2 c = search needs
 
 put-keys-requires-2 : tie.Need-put-keys-requires-2
-put-keys-requires-2 c κs = let a = c .before .before .before .before .before .before .before .before .before .before .before .before .before .before .before .before .before .before .before in (omega arith, part-room (gather (recordOf 3) (a .args .calls .now)) (behind a behindCalls) (internals-put (c .before)) refl)
+put-keys-requires-2 c κs =
+    let c1 = c .before in
+    let c19 = c1 .before .before .before .before .before .before .before .before .before .before .before .before .before .before .before .before .before .before in
+    let a = c19 in (omega arith, part-room (gather (recordOf 3) (a .args .calls .now)) (behind a behindCalls) (internals-put (c1)) refl)
 
 mul-at-2 : tie.Need-mul-at-2
 mul-at-2 c = omega (arith, calls-put c .room, same-long (calls-put c), end-long (start5 c))
@@ -202,7 +211,10 @@ part-put-keys-end-3 : tie.Need-part-put-keys-end-3
 part-put-keys-end-3 c = search needs
 
 put-keys-requires-3 : tie.Need-put-keys-requires-3
-put-keys-requires-3 c κs = let a = c .before .before .before .before .before .before .before .before .before .before .before .before .before .before .before .before .before .before .before .before .before .before .before in (omega arith, part-room (gather (recordOf 4) (a .args .returns .now)) (behind a behindReturns) (calls-put (c .before)) refl)
+put-keys-requires-3 c κs =
+    let c1 = c .before in
+    let c23 = c1 .before .before .before .before .before .before .before .before .before .before .before .before .before .before .before .before .before .before .before .before .before .before in
+    let a = c23 in (omega arith, part-room (gather (recordOf 4) (a .args .returns .now)) (behind a behindReturns) (calls-put (c1)) refl)
 
 mul-at-3 : tie.Need-mul-at-3
 mul-at-3 c = omega (arith, returns-put c .room, same-long (returns-put c), end-long (start6 c))
@@ -221,8 +233,10 @@ part-put-trailer-end c = search needs
 
 put-trailer-requires : tie.Need-put-trailer-requires
 put-trailer-requires c κs =
-    let a = c .before .before .before .before .before .before .before .before .before .before .before .before .before .before .before .before .before .before .before .before .before .before .before .before .before .before .before in
-    let r = part-room (behind a behindReturns) [] (returns-put (c .before)) (sym (append-nil (behind a behindReturns))) in
+    let c1 = c .before in
+    let c27 = c1 .before .before .before .before .before .before .before .before .before .before .before .before .before .before .before .before .before .before .before .before .before .before .before .before .before .before in
+    let a = c27 in
+    let r = part-room (behind a behindReturns) [] (returns-put (c1)) (sym (append-nil (behind a behindReturns))) in
     (omega (arith, a .pre, all-long a, a .good .1 .1 .1 .1 .1 .1 .0 .0), rw (length-trailer (a .args .version) (a .args .symbols .now) (states a) (a .args .internals .now) (a .args .calls .now) (a .args .returns .now)) at r)
 
 same-length : tie.Need-same-length

@@ -40,9 +40,12 @@ put-word-requires c κs = let h = key-room (c .before .before .before .words .in
 
 add-at : tie.Need-add-at Inv-words μ-words
 add-at c =
-    let the-words = c .before .before .before .before .before .before .words in
-    let a = c .before .before .before .before .before .before .before .before .before in
-    let h = key-room (the-words .inv) length-word (c .before .before .before .before .before .words-test .taken) in
+    let c5 = c .before .before .before .before .before in
+    let c6 = c5 .before in
+    let c9 = c6 .before .before .before in
+    let the-words = c6 .words in
+    let a = c9 in
+    let h = key-room (the-words .inv) length-word (c5 .words-test .taken) in
     let k = same-long (the-words .inv .rest) in
     omega (arith, h, k, length-over (gather bytes16 (a .args .words .now)) (a .args .out .now) (a .pre), a .good .1 .0 .0)
 
@@ -54,8 +57,11 @@ words-less c = search needs
 
 words-again : tie.Need-words-again Inv-words μ-words
 words-again c =
-    let the-words = c .before .before .before .before .before .before .words in
-    key-listed (the-words .inv) length-word (c .before .before .before .before .before .words-test .taken) (part-put _ (the-words .out) (the-words .at) (c .before .before .put-word .ensures))
+    let c2 = c .before .before in
+    let c5 = c2 .before .before .before in
+    let c6 = c5 .before in
+    let the-words = c6 .words in
+    key-listed (the-words .inv) length-word (c5 .words-test .taken) (part-put _ (the-words .out) (the-words .at) (c2 .put-word .ensures))
 
 same-length : tie.Need-same-length Inv-words μ-words
 same-length c = ap length (listed (c .before .words .inv) (c .words-test .left)) ∙ length-over _ _ (c .before .before .before .before .pre)

@@ -39,11 +39,19 @@ byte-at-requires-2 c κs = search needs
 
 ends-at-requires : tie.Need-ends-at-requires Inv-pairs μ-pairs
 ends-at-requires c κs =
-    let pre = c .before .before .before .before .before .before .pre in
-    let h = few-pairs (pre .0) (pre .1) in (omega (arith, h, c .before .before .pairs-test .taken), omega (arith, h))
+    let c2 = c .before .before in
+    let c6 = c2 .before .before .before .before in
+    let pre = c6 .pre in
+    let h = few-pairs (pre .0) (pre .1) in (omega (arith, h, c2 .pairs-test .taken), omega (arith, h))
 
 returns : tie.Need-returns Inv-pairs μ-pairs
-returns c = ending-met (c .before .before .before .before .before .pairs .inv) (c .before .before .before .before .pairs-test .taken) (c .before .before .before .byte-at .ensures) (c .before .before .byte-at2 .ensures) (λ F h. sym (c .if1 .taken) ∙ c .before .ends-at .ensures F h)
+returns c =
+    let c1 = c .before in
+    let c2 = c1 .before in
+    let c3 = c2 .before in
+    let c4 = c3 .before in
+    let c5 = c4 .before in
+    ending-met (c5 .pairs .inv) (c4 .pairs-test .taken) (c3 .byte-at .ensures) (c2 .byte-at2 .ensures) (λ F h. sym (c .if1 .taken) ∙ c1 .ends-at .ensures F h)
 
 add-u : tie.Need-add-u Inv-pairs μ-pairs
 add-u c =
@@ -54,7 +62,13 @@ pairs-less : tie.Need-pairs-less Inv-pairs μ-pairs
 pairs-less c = search needs
 
 pairs-again : tie.Need-pairs-again Inv-pairs μ-pairs
-pairs-again c = ending-on (c .before .before .before .before .before .pairs .inv) (c .before .before .before .before .pairs-test .taken) (c .before .before .before .byte-at .ensures) (c .before .before .byte-at2 .ensures) (λ F h. sym (c .if1 .left) ∙ c .before .ends-at .ensures F h)
+pairs-again c =
+    let c1 = c .before in
+    let c2 = c1 .before in
+    let c3 = c2 .before in
+    let c4 = c3 .before in
+    let c5 = c4 .before in
+    ending-on (c5 .pairs .inv) (c4 .pairs-test .taken) (c3 .byte-at .ensures) (c2 .byte-at2 .ensures) (λ F h. sym (c .if1 .left) ∙ c1 .ends-at .ensures F h)
 
 returns-2 : tie.Need-returns-2 Inv-pairs μ-pairs
 returns-2 c = ending-done (c .before .pairs .inv) (c .pairs-test .left)

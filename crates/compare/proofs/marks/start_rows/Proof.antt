@@ -38,8 +38,10 @@ byte-at-requires-2 c κs = search needs
 
 start-at-requires : tie.Need-start-at-requires Inv-pairs μ-pairs
 start-at-requires c κs =
-    let pre = c .before .before .before .before .before .before .before .pre in
-    let h = few-pairs (pre .0) (pre .1) in (omega (arith, h, c .before .before .before .pairs-test .taken), omega (arith, h))
+    let c3 = c .before .before .before in
+    let c7 = c3 .before .before .before .before in
+    let pre = c7 .pre in
+    let h = few-pairs (pre .0) (pre .1) in (omega (arith, h, c3 .pairs-test .taken), omega (arith, h))
 
 add-u : tie.Need-add-u Inv-pairs μ-pairs
 add-u c =
@@ -50,7 +52,12 @@ pairs-less : tie.Need-pairs-less Inv-pairs μ-pairs
 pairs-less c = search needs
 
 pairs-again : tie.Need-pairs-again Inv-pairs μ-pairs
-pairs-again c = starting-on (c .before .before .before .before .before .pairs .inv) (c .before .before .before .before .pairs-test .taken) (c .before .before .before .byte-at .ensures) (c .before .before .byte-at2 .ensures) (c .start-at .ensures)
+pairs-again c =
+    let c2 = c .before .before in
+    let c3 = c2 .before in
+    let c4 = c3 .before in
+    let c5 = c4 .before in
+    starting-on (c5 .pairs .inv) (c4 .pairs-test .taken) (c3 .byte-at .ensures) (c2 .byte-at2 .ensures) (c .start-at .ensures)
 
 returns : tie.Need-returns Inv-pairs μ-pairs
 returns c = started (c .before .pairs .inv) (c .pairs-test .left)

@@ -41,8 +41,14 @@ moves-less c = search needs
 
 moves-again : tie.Need-moves-again Inv-moves μ-moves
 moves-again c =
-    let the-args = c .before .before .before .before .before .before .before .args in
-    fill-on (c .before .before .before .before .before .moves .inv) (c .before .before .before .before .moves-test .taken) (c .target-of .ensures _ (c .before .move-key .ensures) ∙ (λ j. after (records 3 (the-args .section .now)) (the-args .sink) (c .before .before .before .narrow .ensures j ∷ c .before .before .narrow2 .ensures j ∷ [])))
+    let c1 = c .before in
+    let c2 = c1 .before in
+    let c3 = c2 .before in
+    let c4 = c3 .before in
+    let c5 = c4 .before in
+    let c7 = c5 .before .before in
+    let the-args = c7 .args in
+    fill-on (c5 .moves .inv) (c4 .moves-test .taken) (c .target-of .ensures _ (c1 .move-key .ensures) ∙ (λ j. after (records 3 (the-args .section .now)) (the-args .sink) (c3 .narrow .ensures j ∷ c2 .narrow2 .ensures j ∷ [])))
 
 returns : tie.Need-returns Inv-moves μ-moves
 returns c =

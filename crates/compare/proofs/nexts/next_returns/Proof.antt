@@ -44,8 +44,15 @@ returns-less c = search needs
 
 returns-again : tie.Need-returns-again Inv-returns μ-returns
 returns-again c =
-    let the-args = c .before .before .before .before .before .before .before .before .args in
-    fill-on (c .before .before .before .before .before .before .returns .inv) (c .before .before .before .before .before .returns-test .taken) (c .target-of .ensures _ (c .before .return-key .ensures) ∙ (λ j. after (records 4 (the-args .section .now)) (the-args .sink) (c .before .before .before .before .narrow .ensures j ∷ c .before .before .before .narrow2 .ensures j ∷ c .before .before .narrow3 .ensures j ∷ [])))
+    let c1 = c .before in
+    let c2 = c1 .before in
+    let c3 = c2 .before in
+    let c4 = c3 .before in
+    let c5 = c4 .before in
+    let c6 = c5 .before in
+    let c8 = c6 .before .before in
+    let the-args = c8 .args in
+    fill-on (c6 .returns .inv) (c5 .returns-test .taken) (c .target-of .ensures _ (c1 .return-key .ensures) ∙ (λ j. after (records 4 (the-args .section .now)) (the-args .sink) (c4 .narrow .ensures j ∷ c3 .narrow2 .ensures j ∷ c2 .narrow3 .ensures j ∷ [])))
 
 returns : tie.Need-returns Inv-returns μ-returns
 returns c =

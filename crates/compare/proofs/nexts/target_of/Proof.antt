@@ -22,9 +22,12 @@ shared-slice-read-result c = search needs
 
 returns-2 : tie.Need-returns-2
 returns-2 c =
-    let the-starting = c .before .before .starting in
-    let the-args = c .before .before .before .before .args in
-    λ k d. a-target (the-args .section .now) k (the-starting .result .now) (d .long) (the-starting .ensures k d (c .before .before .before .before .pre .1)) (the-args .sink) (omega (arith, c .before .if1 .left))
+    let c1 = c .before in
+    let c2 = c1 .before in
+    let c4 = c2 .before .before in
+    let the-starting = c2 .starting in
+    let the-args = c4 .args in
+    λ k d. a-target (the-args .section .now) k (the-starting .result .now) (d .long) (the-starting .ensures k d (c4 .pre .1)) (the-args .sink) (omega (arith, c1 .if1 .left))
 
 pub target-of-spec : {M : Type 1} → statement M
 target-of-spec =

@@ -14,10 +14,19 @@ part-requires-2 : tie.Need-part-requires-2
 part-requires-2 c κs = search needs
 
 any-ends-requires : tie.Need-any-ends-requires
-any-ends-requires c κs = both-few (c .before .before .before .before .before .before .pre) (c .before .before .part .ensures) (c .before .part2 .ensures)
+any-ends-requires c κs =
+    let c1 = c .before in
+    let c2 = c1 .before in
+    let c6 = c2 .before .before .before .before in
+    both-few (c6 .pre) (c2 .part .ensures) (c1 .part2 .ensures)
 
 returns : tie.Need-returns
-returns c = fits-told (c .before .before .before .before .before .before .before .pre) (c .before .before .before .part .ensures) (c .before .before .part2 .ensures) (c .before .before .before .before .pair-rows .ensures) (c .any-ends .ensures)
+returns c =
+    let c2 = c .before .before in
+    let c3 = c2 .before in
+    let c4 = c3 .before in
+    let c7 = c4 .before .before .before in
+    fits-told (c7 .pre) (c3 .part .ensures) (c2 .part2 .ensures) (c4 .pair-rows .ensures) (c .any-ends .ensures)
 
 pub fits-spec : {M : Type 1} → statement M
 fits-spec =

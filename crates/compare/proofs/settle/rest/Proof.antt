@@ -58,8 +58,15 @@ same-rows-requires c κs = search needs
 
 returns : tie.Need-returns Inv-rounds μ-rounds
 returns c =
-    let the-args = c .before .before .before .before .before .before .before .before .before .before .before .before .before .before .before .args in
-    rested (c .before .before .before .before .before .before .before .before .before .before .before .rounds .inv) (c .before .before .before .before .before .before .before .before .before .before .rounds-test .taken) (λ s t d. round-turns d (c .before .before .before .before .before .before .before .by-moves .ensures (t .internals) (d .moves-are) (the-args .k) (d .internals-named)) (c .before .before .before .before .before .by-moves2 .ensures (t .calls) (d .pushes-are) (the-args .k) (d .calls-named)) (c .before .before .before .by-returns .ensures (t .returns) (d .pops-are) (the-args .k) (d .returns-named))) (sym (c .before .same-rows .ensures) ∙ c .if1 .taken)
+    let c1 = c .before in
+    let c3 = c1 .before .before in
+    let c5 = c3 .before .before in
+    let c7 = c5 .before .before in
+    let c10 = c7 .before .before .before in
+    let c11 = c10 .before in
+    let c15 = c11 .before .before .before .before in
+    let the-args = c15 .args in
+    rested (c11 .rounds .inv) (c10 .rounds-test .taken) (λ s t d. round-turns d (c7 .by-moves .ensures (t .internals) (d .moves-are) (the-args .k) (d .internals-named)) (c5 .by-moves2 .ensures (t .calls) (d .pushes-are) (the-args .k) (d .calls-named)) (c3 .by-returns .ensures (t .returns) (d .pops-are) (the-args .k) (d .returns-named))) (sym (c1 .same-rows .ensures) ∙ c .if1 .taken)
 
 sub-left : tie.Need-sub-left Inv-rounds μ-rounds
 sub-left c = search needs
@@ -69,8 +76,15 @@ rounds-less c = search needs
 
 rounds-again : tie.Need-rounds-again Inv-rounds μ-rounds
 rounds-again c =
-    let the-args = c .before .before .before .before .before .before .before .before .before .before .before .before .before .before .before .args in
-    rest-on (c .before .before .before .before .before .before .before .before .before .before .before .rounds .inv) (c .before .before .before .before .before .before .before .before .before .before .rounds-test .taken) (λ s t d. round-turns d (c .before .before .before .before .before .before .before .by-moves .ensures (t .internals) (d .moves-are) (the-args .k) (d .internals-named)) (c .before .before .before .before .before .by-moves2 .ensures (t .calls) (d .pushes-are) (the-args .k) (d .calls-named)) (c .before .before .before .by-returns .ensures (t .returns) (d .pops-are) (the-args .k) (d .returns-named))) (sym (c .before .same-rows .ensures) ∙ c .if1 .left)
+    let c1 = c .before in
+    let c3 = c1 .before .before in
+    let c5 = c3 .before .before in
+    let c7 = c5 .before .before in
+    let c10 = c7 .before .before .before in
+    let c11 = c10 .before in
+    let c15 = c11 .before .before .before .before in
+    let the-args = c15 .args in
+    rest-on (c11 .rounds .inv) (c10 .rounds-test .taken) (λ s t d. round-turns d (c7 .by-moves .ensures (t .internals) (d .moves-are) (the-args .k) (d .internals-named)) (c5 .by-moves2 .ensures (t .calls) (d .pushes-are) (the-args .k) (d .calls-named)) (c3 .by-returns .ensures (t .returns) (d .pops-are) (the-args .k) (d .returns-named))) (sym (c1 .same-rows .ensures) ∙ c .if1 .left)
 
 returns-2 : tie.Need-returns-2 Inv-rounds μ-rounds
 returns-2 c = spent (c .before .rounds .inv) (c .rounds-test .left)

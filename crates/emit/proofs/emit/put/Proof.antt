@@ -59,15 +59,28 @@ same-length c = search needs
 
 -- src/emit.rt:32:1
 returns-2 : tie.Need-returns-2
-returns-2 c = put-stored _ _ _ _ (n-literals (c .before .before .before .before .before .before .before .before .before .before)) (c .before .before .before .before .before .before .before .before .if1 .left) (c .before .before .before .before .before .if2 .taken) (c .before .before .before .before .if3 .taken) (c .before .before .store .ensures)
+returns-2 c =
+    let c2 = c .before .before in
+    let c4 = c2 .before .before in
+    let c5 = c4 .before in
+    let c8 = c5 .before .before .before in
+    let c10 = c8 .before .before in
+    put-stored _ _ _ _ (n-literals (c10)) (c8 .if1 .left) (c5 .if2 .taken) (c4 .if3 .taken) (c2 .store .ensures)
 
 -- src/emit.rt:32:1
 returns-3 : tie.Need-returns-3
-returns-3 c = put-short _ _ _ (n-literals (c .before .before .before .before .before .before)) (c .before .before .before .before .if1 .left) (c .before .if2 .taken) (c .if3 .left)
+returns-3 c =
+    let c1 = c .before in
+    let c4 = c1 .before .before .before in
+    let c6 = c4 .before .before in
+    put-short _ _ _ (n-literals (c6)) (c4 .if1 .left) (c1 .if2 .taken) (c .if3 .left)
 
 -- src/emit.rt:32:1
 returns-4 : tie.Need-returns-4
-returns-4 c = put-counted _ _ _ (n-literals (c .before .before .before .before .before)) (c .before .before .before .if1 .left) (c .if2 .left)
+returns-4 c =
+    let c3 = c .before .before .before in
+    let c5 = c3 .before .before in
+    put-counted _ _ _ (n-literals (c5)) (c3 .if1 .left) (c .if2 .left)
 
 pub put-spec : {M : Type 1} → statement M
 put-spec =

@@ -67,22 +67,39 @@ array-share-prefix-symbol-bytes : tie.Need-array-share-prefix-symbol-bytes
 array-share-prefix-symbol-bytes c = let a = c .before .before .before .before .before .before .before .before .before .before .before in omega (arith, a .pre .0)
 
 slice-aggregate-put-table : tie.Need-slice-aggregate-put-table
-slice-aggregate-put-table c = let a = c .before .before .before .before .before .before .before .before .before .before .before .before in holds-long (put-front (symbolBytes (a .args .internals) (a .args .calls) (a .args .symbols)) _ _ (length-symbols _ _ _) (c .before .before .before .before .before .put-symbols .ensures))
+slice-aggregate-put-table c =
+    let c5 = c .before .before .before .before .before in
+    let c12 = c5 .before .before .before .before .before .before .before in
+    let a = c12 in holds-long (put-front (symbolBytes (a .args .internals) (a .args .calls) (a .args .symbols)) _ _ (length-symbols _ _ _) (c5 .put-symbols .ensures))
 
 array-share-prefix-state-bytes : tie.Need-array-share-prefix-state-bytes
 array-share-prefix-state-bytes c = let a = c .before .before .before .before .before .before .before .before .before .before .before .before in omega (arith, a .pre .0)
 
 slice-aggregate-put-table-2 : tie.Need-slice-aggregate-put-table-2
-slice-aggregate-put-table-2 c = let a = c .before .before .before .before .before .before .before .before .before .before .before .before .before in holds-long (put-front (stateBytes (a .args .states)) _ _ (length-states _) (c .before .before .before .put-states .ensures))
+slice-aggregate-put-table-2 c =
+    let c3 = c .before .before .before in
+    let c13 = c3 .before .before .before .before .before .before .before .before .before .before in
+    let a = c13 in holds-long (put-front (stateBytes (a .args .states)) _ _ (length-states _) (c3 .put-states .ensures))
 
 put-table-requires : tie.Need-put-table-requires
-put-table-requires c κs = let a = c .before .before .before .before .before .before .before .before .before .before .before .before .before .before in room (a .args .states) (a .args .internals) (a .args .calls) (a .args .symbols) (a .args .moves .now) (a .args .pushes .now) (a .args .pops .now) (put-front (symbolBytes (a .args .internals) (a .args .calls) (a .args .symbols)) _ _ (length-symbols _ _ _) (c .before .before .before .before .before .before .before .put-symbols .ensures)) (put-front (stateBytes (a .args .states)) _ _ (length-states _) (c .before .before .before .before .put-states .ensures)) (a .args .out .now) (c .before .before .before .before .before .before .before .before .before .if1 .left)
+put-table-requires c κs =
+    let c4 = c .before .before .before .before in
+    let c7 = c4 .before .before .before in
+    let c9 = c7 .before .before in
+    let c14 = c9 .before .before .before .before .before in
+    let a = c14 in room (a .args .states) (a .args .internals) (a .args .calls) (a .args .symbols) (a .args .moves .now) (a .args .pushes .now) (a .args .pops .now) (put-front (symbolBytes (a .args .internals) (a .args .calls) (a .args .symbols)) _ _ (length-symbols _ _ _) (c7 .put-symbols .ensures)) (put-front (stateBytes (a .args .states)) _ _ (length-states _) (c4 .put-states .ensures)) (a .args .out .now) (c9 .if1 .left)
 
 same-length : tie.Need-same-length
 same-length c = search needs
 
 returns-2 : tie.Need-returns-2
-returns-2 c = let a = c .before .before .before .before .before .before .before .before .before .before .before .before .before .before .before .before .before in put (a .args .states) (a .args .internals) (a .args .calls) (a .args .symbols) (a .args .moves .now) (a .args .pushes .now) (a .args .pops .now) (put-front (symbolBytes (a .args .internals) (a .args .calls) (a .args .symbols)) _ _ (length-symbols _ _ _) (c .before .before .before .before .before .before .before .before .before .before .put-symbols .ensures)) (put-front (stateBytes (a .args .states)) _ _ (length-states _) (c .before .before .before .before .before .before .before .put-states .ensures)) (a .args .out .now) (c .before .before .before .before .before .before .before .before .before .before .before .before .if1 .left) (c .before .before .put-table .ensures)
+returns-2 c =
+    let c2 = c .before .before in
+    let c7 = c2 .before .before .before .before .before in
+    let c10 = c7 .before .before .before in
+    let c12 = c10 .before .before in
+    let c17 = c12 .before .before .before .before .before in
+    let a = c17 in put (a .args .states) (a .args .internals) (a .args .calls) (a .args .symbols) (a .args .moves .now) (a .args .pushes .now) (a .args .pops .now) (put-front (symbolBytes (a .args .internals) (a .args .calls) (a .args .symbols)) _ _ (length-symbols _ _ _) (c10 .put-symbols .ensures)) (put-front (stateBytes (a .args .states)) _ _ (length-states _) (c7 .put-states .ensures)) (a .args .out .now) (c12 .if1 .left) (c2 .put-table .ensures)
 
 pub write-keys-spec : {M : Type 1} → statement M
 write-keys-spec =

@@ -47,7 +47,10 @@ shared-slice-read-move-record-3 : tie.Need-shared-slice-read-move-record-3 Inv-r
 shared-slice-read-move-record-3 c = search needs
 
 move-record-requires : tie.Need-move-record-requires Inv-records μ-records
-move-record-requires c κs = (c .before .before .before .before .before .before .before .before .before .before .pre .0, c .before .before .before .before .before .before .before .records .inv .coming .ordered)
+move-record-requires c κs =
+    let c7 = c .before .before .before .before .before .before .before in
+    let c10 = c7 .before .before .before in
+    (c10 .pre .0, c7 .records .inv .coming .ordered)
 
 add-at : tie.Need-add-at Inv-records μ-records
 add-at c = search needs
@@ -56,7 +59,12 @@ records-less : tie.Need-records-less Inv-records μ-records
 records-less c = search needs
 
 records-again : tie.Need-records-again Inv-records μ-records
-records-again c = move-turn (c .before .before .before .before .before .before .before .before .before .before .before .before .before .args .count) (c .before .before .before .before .before .before .before .before .before .before .records .inv) (c .before .before .before .before .before .before .before .before .before .records-test .taken) (c .before .before .move-record .ensures)
+records-again c =
+    let c2 = c .before .before in
+    let c9 = c2 .before .before .before .before .before .before .before in
+    let c10 = c9 .before in
+    let c13 = c10 .before .before .before in
+    move-turn (c13 .args .count) (c10 .records .inv) (c9 .records-test .taken) (c2 .move-record .ensures)
 
 same-length-2 : tie.Need-same-length-2 Inv-records μ-records
 same-length-2 c = c .before .records .inv .coming .long

@@ -18,7 +18,11 @@ same-length : tie.Need-same-length
 same-length c = search needs
 
 returns-2 : tie.Need-returns-2
-returns-2 c = alive _ _ _ _ _ (c .before .before .before .before .before .is-live .ensures) (not-false _ (c .before .before .before .before .if1 .left)) (c .before .before .return-record .ensures)
+returns-2 c =
+    let c2 = c .before .before in
+    let c4 = c2 .before .before in
+    let c5 = c4 .before in
+    alive _ _ _ _ _ (c5 .is-live .ensures) (not-false _ (c4 .if1 .left)) (c2 .return-record .ensures)
 
 pub live-record-spec : {M : Type 1} → statement M
 live-record-spec =

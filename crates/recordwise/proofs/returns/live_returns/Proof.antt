@@ -53,9 +53,12 @@ shared-slice-read-t20 c = search needs
 
 live-record-requires : tie.Need-live-record-requires Inv-records μ-records
 live-record-requires c κs =
-    let the-records-test = c .before .before .before .before .before .before .before .records-test in
-    let the-records = c .before .before .before .before .before .before .before .before .records in
-    let the-pre = c .before .before .before .before .before .before .before .before .before .before .before .pre in
+    let c7 = c .before .before .before .before .before .before .before in
+    let c8 = c7 .before in
+    let c11 = c8 .before .before .before in
+    let the-records-test = c7 .records-test in
+    let the-records = c8 .records in
+    let the-pre = c11 .pre in
     let u = under-few (the-records .inv) (the-records-test .taken) (the-pre .0) in (the-pre .0, from-few (the-records .inv) (the-records-test .taken) (the-pre .0), omega arith, the-pre .1, the-records .inv .coming .ordered)
 
 add-at : tie.Need-add-at Inv-records μ-records
@@ -66,8 +69,12 @@ records-less c = search needs
 
 records-again : tie.Need-records-again Inv-records μ-records
 records-again c =
-    let the-args = c .before .before .before .before .before .before .before .before .before .before .before .before .before .before .args in
-    return-turn (the-args .tops .now) (the-args .count) (c .before .before .before .before .before .before .before .before .before .before .before .records .inv) (c .before .before .before .before .before .before .before .before .before .before .records-test .taken) (c .before .before .live-record .ensures)
+    let c2 = c .before .before in
+    let c10 = c2 .before .before .before .before .before .before .before .before in
+    let c11 = c10 .before in
+    let c14 = c11 .before .before .before in
+    let the-args = c14 .args in
+    return-turn (the-args .tops .now) (the-args .count) (c11 .records .inv) (c10 .records-test .taken) (c2 .live-record .ensures)
 
 same-length-2 : tie.Need-same-length-2 Inv-records μ-records
 same-length-2 c = c .before .records .inv .coming .long

@@ -30,7 +30,10 @@ element-copy-out-word : tie.Need-element-copy-out-word Inv-states μ-states
 element-copy-out-word c = search needs
 
 return-tops-requires : tie.Need-return-tops-requires Inv-states μ-states
-return-tops-requires c κs = (c .before .before .before .before .before .before .before .pre .0, c .before .before .before .before .states .inv .coming .ordered)
+return-tops-requires c κs =
+    let c4 = c .before .before .before .before in
+    let c7 = c4 .before .before .before in
+    (c7 .pre .0, c4 .states .inv .coming .ordered)
 
 add-q : tie.Need-add-q Inv-states μ-states
 add-q c = search needs
@@ -40,9 +43,14 @@ states-less c = search needs
 
 states-again : tie.Need-states-again Inv-states μ-states
 states-again c =
-    let the-states = c .before .before .before .before .before .before .before .states in
-    let the-args = c .before .before .before .before .before .before .before .before .before .before .args in
-    over-on (the-states .inv) (c .before .before .before .before .before .before .states-test .taken) (of-word (λ u. returnOf (records 4 (the-args .section .now)) (the-args .x) (the-states .q) u) (the-args .tops .now) (the-args .count) (the-states .q) _ (c .before .before .before .before .before .wide .ensures) (c .before .before .return-tops .ensures))
+    let c2 = c .before .before in
+    let c5 = c2 .before .before .before in
+    let c6 = c5 .before in
+    let c7 = c6 .before in
+    let c10 = c7 .before .before .before in
+    let the-states = c7 .states in
+    let the-args = c10 .args in
+    over-on (the-states .inv) (c6 .states-test .taken) (of-word (λ u. returnOf (records 4 (the-args .section .now)) (the-args .x) (the-states .q) u) (the-args .tops .now) (the-args .count) (the-states .q) _ (c5 .wide .ensures) (c2 .return-tops .ensures))
 
 same-length : tie.Need-same-length Inv-states μ-states
 same-length c = c .before .states .inv .coming .long

@@ -32,16 +32,29 @@ cast-return-clause : tie.Need-cast-return-clause Inv-tops μ-tops
 cast-return-clause c = search needs
 
 return-clause-requires : tie.Need-return-clause-requires Inv-tops μ-tops
-return-clause-requires c κs = (c .before .before .before .before .before .before .before .pre .0, c .before .before .before .before .tops .inv .coming .ordered)
+return-clause-requires c κs =
+    let c4 = c .before .before .before .before in
+    let c7 = c4 .before .before .before in
+    (c7 .pre .0, c4 .tops .inv .coming .ordered)
 
 later-states-requires : tie.Need-later-states-requires Inv-tops μ-tops
 later-states-requires c κs = search needs
 
 tops-less : tie.Need-tops-less Inv-tops μ-tops
-tops-less c = let k = toward-less (c .before .before .before .before .before .before .before .before .tops .inv) (c .before .before .before .before .before .before .before .tops-test .taken) (c .before .before .before .before .before .before .next-state .ensures) in omega (arith, c .later-states .ensures)
+tops-less c =
+    let c6 = c .before .before .before .before .before .before in
+    let c7 = c6 .before in
+    let c8 = c7 .before in
+    let k = toward-less (c8 .tops .inv) (c7 .tops-test .taken) (c6 .next-state .ensures) in omega (arith, c .later-states .ensures)
 
 tops-again : tie.Need-tops-again Inv-tops μ-tops
-tops-again c = toward-on (c .before .before .before .before .before .before .before .before .tops .inv) (c .before .before .before .before .before .before .before .tops-test .taken) (c .before .before .before .before .before .before .next-state .ensures) (c .before .before .before .before .before .if1 .left) (c .before .before .before .return-clause .ensures) (c .later-states .ensures)
+tops-again c =
+    let c3 = c .before .before .before in
+    let c5 = c3 .before .before in
+    let c6 = c5 .before in
+    let c7 = c6 .before in
+    let c8 = c7 .before in
+    toward-on (c8 .tops .inv) (c7 .tops-test .taken) (c6 .next-state .ensures) (c5 .if1 .left) (c3 .return-clause .ensures) (c .later-states .ensures)
 
 same-length-2 : tie.Need-same-length-2 Inv-tops μ-tops
 same-length-2 c = c .before .tops .inv .coming .long

@@ -52,9 +52,13 @@ add-move-pair-2 c =
 
 move-pair-requires : tie.Need-move-pair-requires Inv-seconds μ-seconds
 move-pair-requires c κs =
-    let the-wide = c .before .wide in
-    let pre = c .before .before .before .before .before .pre in
-    (pair-fits (pre .0) (pre .3 .few) (c .before .before .before .seconds-test .taken), pair-fits {b = the-wide .result} (pre .2) (pre .3 .few) (omega (arith, the-wide .ensures, pre .3 .within (c .before .before .before .before .seconds .b * 32 + c .before .before .before .before .before .args .a))))
+    let c1 = c .before in
+    let c3 = c1 .before .before in
+    let c4 = c3 .before in
+    let c5 = c4 .before in
+    let the-wide = c1 .wide in
+    let pre = c5 .pre in
+    (pair-fits (pre .0) (pre .3 .few) (c3 .seconds-test .taken), pair-fits {b = the-wide .result} (pre .2) (pre .3 .few) (omega (arith, the-wide .ensures, pre .3 .within (c4 .seconds .b * 32 + c5 .args .a))))
 
 add-b : tie.Need-add-b Inv-seconds μ-seconds
 add-b c = search needs
@@ -64,8 +68,12 @@ seconds-less c = search needs
 
 seconds-again : tie.Need-seconds-again Inv-seconds μ-seconds
 seconds-again c =
-    let pre = c .before .before .before .before .before .before .pre in
-    seconds-on (c .before .before .before .before .before .seconds .inv) (pre .3) (pre .1) (c .before .before .before .before .seconds-test .taken) (c .before .before .wide .ensures) (c .move-pair .ensures)
+    let c2 = c .before .before in
+    let c4 = c2 .before .before in
+    let c5 = c4 .before in
+    let c6 = c5 .before in
+    let pre = c6 .pre in
+    seconds-on (c5 .seconds .inv) (pre .3) (pre .1) (c4 .seconds-test .taken) (c2 .wide .ensures) (c .move-pair .ensures)
 
 returns : tie.Need-returns Inv-seconds μ-seconds
 returns c = seconds-done (c .before .seconds .inv) (c .seconds-test .left)

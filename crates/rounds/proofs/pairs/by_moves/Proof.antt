@@ -45,8 +45,14 @@ wide-requires-3 c κs = search needs
 
 by-move-requires : tie.Need-by-move-requires Inv-records μ-records
 by-move-requires c κs =
-    let pre = c .before .before .before .before .before .before .before .before .before .before .pre in
-    let b = bytes-named (c .before .before .before .before .before .before .before .before .records .inv) (c .before .before .before .before .before .before .before .records-test .taken) (c .before .before .before .before .before .wide .ensures) (c .before .before .before .wide2 .ensures) (c .before .wide3 .ensures) (pre .0) in (b .0, b .1, b .2, pre .1)
+    let c1 = c .before in
+    let c3 = c1 .before .before in
+    let c5 = c3 .before .before in
+    let c7 = c5 .before .before in
+    let c8 = c7 .before in
+    let c10 = c8 .before .before in
+    let pre = c10 .pre in
+    let b = bytes-named (c8 .records .inv) (c7 .records-test .taken) (c5 .wide .ensures) (c3 .wide2 .ensures) (c1 .wide3 .ensures) (pre .0) in (b .0, b .1, b .2, pre .1)
 
 add-at : tie.Need-add-at Inv-records μ-records
 add-at c = search needs
@@ -55,7 +61,13 @@ records-less : tie.Need-records-less Inv-records μ-records
 records-less c = search needs
 
 records-again : tie.Need-records-again Inv-records μ-records
-records-again c = moving-on (c .before .before .before .before .before .before .before .before .before .records .inv) (c .before .before .before .before .before .before .before .before .records-test .taken) (c .before .before .before .before .before .before .wide .ensures) (c .before .before .before .before .wide2 .ensures) (c .before .before .wide3 .ensures) (c .by-move .ensures)
+records-again c =
+    let c2 = c .before .before in
+    let c4 = c2 .before .before in
+    let c6 = c4 .before .before in
+    let c8 = c6 .before .before in
+    let c9 = c8 .before in
+    moving-on (c9 .records .inv) (c8 .records-test .taken) (c6 .wide .ensures) (c4 .wide2 .ensures) (c2 .wide3 .ensures) (c .by-move .ensures)
 
 returns : tie.Need-returns Inv-records μ-records
 returns c = moving-done (c .before .records .inv) (omega (arith, c .records-test .left))

@@ -66,10 +66,14 @@ add-return-pair-2 c =
 
 return-pair-requires : tie.Need-return-pair-requires Inv-unders μ-unders
 return-pair-requires c κs =
-    let the-wide = c .before .wide in
-    let the-args = c .before .before .before .before .before .args in
-    let pre = c .before .before .before .before .before .pre in
-    (pair-fits {b = the-args .b} (pre .0) (pre .5 .few) (omega (arith, pre .2)), pair-fits (pre .3) (pre .5 .few) (c .before .before .before .unders-test .taken), pair-fits {b = the-wide .result} (pre .4) (pre .5 .few) (omega (arith, the-wide .ensures, pre .5 .within ((the-args .b * 32 + the-args .a) * 25 + c .before .before .before .before .unders .c))))
+    let c1 = c .before in
+    let c3 = c1 .before .before in
+    let c4 = c3 .before in
+    let c5 = c4 .before in
+    let the-wide = c1 .wide in
+    let the-args = c5 .args in
+    let pre = c5 .pre in
+    (pair-fits {b = the-args .b} (pre .0) (pre .5 .few) (omega (arith, pre .2)), pair-fits (pre .3) (pre .5 .few) (c3 .unders-test .taken), pair-fits {b = the-wide .result} (pre .4) (pre .5 .few) (omega (arith, the-wide .ensures, pre .5 .within ((the-args .b * 32 + the-args .a) * 25 + c4 .unders .c))))
 
 add-c : tie.Need-add-c Inv-unders μ-unders
 add-c c = search needs
@@ -79,8 +83,12 @@ unders-less c = search needs
 
 unders-again : tie.Need-unders-again Inv-unders μ-unders
 unders-again c =
-    let pre = c .before .before .before .before .before .before .pre in
-    unders-on (c .before .before .before .before .before .unders .inv) (pre .5) (pre .1) (pre .2) (c .before .before .before .before .unders-test .taken) (c .before .before .wide .ensures) (c .return-pair .ensures)
+    let c2 = c .before .before in
+    let c4 = c2 .before .before in
+    let c5 = c4 .before in
+    let c6 = c5 .before in
+    let pre = c6 .pre in
+    unders-on (c5 .unders .inv) (pre .5) (pre .1) (pre .2) (c4 .unders-test .taken) (c2 .wide .ensures) (c .return-pair .ensures)
 
 returns : tie.Need-returns Inv-unders μ-unders
 returns c = unders-done (c .before .unders .inv) (c .unders-test .left)

@@ -54,8 +54,15 @@ wide-requires-4 c κs = search needs
 
 by-return-requires : tie.Need-by-return-requires Inv-records μ-records
 by-return-requires c κs =
-    let pre = c .before .before .before .before .before .before .before .before .before .before .before .before .pre in
-    let b = returns-named (c .before .before .before .before .before .before .before .before .before .before .records .inv) (c .before .before .before .before .before .before .before .before .before .records-test .taken) (c .before .before .before .before .before .before .before .wide .ensures) (c .before .before .before .before .before .wide2 .ensures) (c .before .before .before .wide3 .ensures) (c .before .wide4 .ensures) (pre .0) in (b .0, b .1, b .2, b .3, pre .1)
+    let c1 = c .before in
+    let c3 = c1 .before .before in
+    let c5 = c3 .before .before in
+    let c7 = c5 .before .before in
+    let c9 = c7 .before .before in
+    let c10 = c9 .before in
+    let c12 = c10 .before .before in
+    let pre = c12 .pre in
+    let b = returns-named (c10 .records .inv) (c9 .records-test .taken) (c7 .wide .ensures) (c5 .wide2 .ensures) (c3 .wide3 .ensures) (c1 .wide4 .ensures) (pre .0) in (b .0, b .1, b .2, b .3, pre .1)
 
 add-at : tie.Need-add-at Inv-records μ-records
 add-at c = search needs
@@ -64,7 +71,14 @@ records-less : tie.Need-records-less Inv-records μ-records
 records-less c = search needs
 
 records-again : tie.Need-records-again Inv-records μ-records
-records-again c = returning-on (c .before .before .before .before .before .before .before .before .before .before .before .records .inv) (c .before .before .before .before .before .before .before .before .before .before .records-test .taken) (c .before .before .before .before .before .before .before .before .wide .ensures) (c .before .before .before .before .before .before .wide2 .ensures) (c .before .before .before .before .wide3 .ensures) (c .before .before .wide4 .ensures) (c .by-return .ensures)
+records-again c =
+    let c2 = c .before .before in
+    let c4 = c2 .before .before in
+    let c6 = c4 .before .before in
+    let c8 = c6 .before .before in
+    let c10 = c8 .before .before in
+    let c11 = c10 .before in
+    returning-on (c11 .records .inv) (c10 .records-test .taken) (c8 .wide .ensures) (c6 .wide2 .ensures) (c4 .wide3 .ensures) (c2 .wide4 .ensures) (c .by-return .ensures)
 
 returns : tie.Need-returns Inv-records μ-records
 returns c = returning-done (c .before .records .inv) (omega (arith, c .records-test .left))

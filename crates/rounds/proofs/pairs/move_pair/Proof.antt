@@ -29,13 +29,20 @@ returns c =
 
 returns-2 : tie.Need-returns-2
 returns-2 c =
-    let the-args = c .before .before .before .before .before .before .before .args in
-    λ k n lu lv. subst (λ (d : Kind). Turns k n (the-args .rows .now) (c .put .last .0) (stepKind d (the-args .u) (the-args .v))) (sym (c .before .before .before .before .before .enum-told2 .given .1)) (call-turns (the-args .u) (the-args .v) (λ F h. sym (c .before .before .if1 .taken) ∙ c .before .before .before .any .ensures F h) (c .put .ensures) k n lu lv)
+    let c2 = c .before .before in
+    let c3 = c2 .before in
+    let c5 = c3 .before .before in
+    let c7 = c5 .before .before in
+    let the-args = c7 .args in
+    λ k n lu lv. subst (λ (d : Kind). Turns k n (the-args .rows .now) (c .put .last .0) (stepKind d (the-args .u) (the-args .v))) (sym (c5 .enum-told2 .given .1)) (call-turns (the-args .u) (the-args .v) (λ F h. sym (c2 .if1 .taken) ∙ c3 .any .ensures F h) (c .put .ensures) k n lu lv)
 
 returns-3 : tie.Need-returns-3
 returns-3 c =
-    let the-args = c .before .before .before .before .before .args in
-    λ k n lu lv. subst (λ (d : Kind). Turns k n (the-args .rows .now) (the-args .rows .now) (stepKind d (the-args .u) (the-args .v))) (sym (c .before .before .before .enum-told2 .given .1)) (call-none (the-args .u) (the-args .v) (λ F h. sym (c .if1 .left) ∙ c .before .any .ensures F h) k n)
+    let c1 = c .before in
+    let c3 = c1 .before .before in
+    let c5 = c3 .before .before in
+    let the-args = c5 .args in
+    λ k n lu lv. subst (λ (d : Kind). Turns k n (the-args .rows .now) (the-args .rows .now) (stepKind d (the-args .u) (the-args .v))) (sym (c3 .enum-told2 .given .1)) (call-none (the-args .u) (the-args .v) (λ F h. sym (c .if1 .left) ∙ c1 .any .ensures F h) k n)
 
 pub move-pair-spec : {M : Type 1} → statement M
 move-pair-spec =

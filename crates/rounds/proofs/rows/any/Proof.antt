@@ -30,7 +30,11 @@ element-copy-out-if1 : tie.Need-element-copy-out-if1 Inv-words μ-words
 element-copy-out-if1 c = search needs
 
 returns : tie.Need-returns Inv-words μ-words
-returns c = λ F h. seek-found (c .before .before .before .words .inv) (c .before .before .words-test .taken) (c .if1 .taken) ∙ any-told h _ (c .before .before .before .before .pre)
+returns c =
+    let c2 = c .before .before in
+    let c3 = c2 .before in
+    let c4 = c3 .before in
+    λ F h. seek-found (c3 .words .inv) (c2 .words-test .taken) (c .if1 .taken) ∙ any-told h _ (c4 .pre)
 
 words-less : tie.Need-words-less Inv-words μ-words
 words-less c = search needs

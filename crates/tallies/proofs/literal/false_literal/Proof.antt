@@ -18,16 +18,20 @@ add-result c = search needs
 
 returns : tie.Need-returns
 returns c =
-    let the-pre = c .before .before .before .before .pre in
-    laws.literal-one (c .before .before .before .before .args .values .now) (the-pre .0) (the-pre .1) (c .before .before .wide .ensures) (c .if1 .taken)
+    let c2 = c .before .before in
+    let c4 = c2 .before .before in
+    let the-pre = c4 .pre in
+    laws.literal-one (c4 .args .values .now) (the-pre .0) (the-pre .1) (c2 .wide .ensures) (c .if1 .taken)
 
 mul-result-2 : tie.Need-mul-result-2
 mul-result-2 c = search needs
 
 returns-2 : tie.Need-returns-2
 returns-2 c =
-    let the-pre = c .before .before .before .before .pre in
-    laws.literal-none (c .before .before .before .before .args .values .now) (the-pre .0) (the-pre .1) (c .before .before .wide .ensures) (c .if1 .left)
+    let c2 = c .before .before in
+    let c4 = c2 .before .before in
+    let the-pre = c4 .pre in
+    laws.literal-none (c4 .args .values .now) (the-pre .0) (the-pre .1) (c2 .wide .ensures) (c .if1 .left)
 
 pub false-literal-spec : {M : Type 1} → statement M
 false-literal-spec =
