@@ -17,7 +17,7 @@ use Rattle.tallies.specs.Tallies.{Indexed, Tallied}
 use Rattle.occurrences.specs.Occurrences.{Listed, IndexRoom}
 use Rattle.propagate.specs.Sinking.{Room}
 use Rattle.turning.specs.Turns.{Rested}
-use Rattle.turns.specs.Preparing.{Prepared}
+use Rattle.closing.specs.Preparing.{Prepared}
 use Rattle.search.specs.Room.{WordRoom}
 
 pub listed : {ws : List ℕ} {n : ℕ} → whole ws ≡ true → length ws ≤ 32768 → Formed (clausesIn ws) n → n ≤ 780 → Listed ws

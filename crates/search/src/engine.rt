@@ -11,7 +11,7 @@ ghost use Rattle.rows.specs.Rows.{Rows};
 ghost use Rattle.search.specs.Room.{WordRoom};
 ghost use Rattle.tallies.specs.Tallies.{Tallied};
 ghost use Rattle.turning.specs.Turns.{Fresh, Begun, Rested, EndsWith};
-ghost use Rattle.turns.specs.Preparing.{Prepared};
+ghost use Rattle.closing.specs.Preparing.{Prepared};
 use occurrences::index;
 use occurrences::no_firsts;
 use pairs::pair_table;

@@ -33,7 +33,7 @@ use Rattle.rows.specs.Trail.{unsetting, Ready, Grown, Worked, Queue, closedBy, 
 use Rattle.rows.specs.Rows.{Rows, Own, Settable, Forced}
 use Rattle.rows.specs.Conclusions.{withTriangles}
 use Rattle.trial.specs.Trial.{heldIf, backAlong, Retraceable}
-use Rattle.turning.specs.Turns.{NextUnset, Fresh, Begun, Rested, EndsWith, outcomeOf}
+use Rattle.turning.specs.Turns.{NextUnset, LowestUnset, Fresh, Begun, Rested, EndsWith, outcomeOf}
 use Rattle.rows.specs.Undo.{Undoable, Undone}
 use Rattle.turning.specs.declared.Ending.{Ending}
 use Rattle.turning.specs.declared.Ending.the-variants.{Found, Absent, Spent}
@@ -489,6 +489,16 @@ module _ {cs : List (List ℕ)} {v t ms w s : List ℕ} {n b most from count dep
   pub after-depth : depth ≤ more
   after-depth = omega (arith, depth-le after-stands, trail-length)
 
+  -- the trials can be walked back
+  pub can-retrace : Retraceable w s ms depth more
+  can-retrace = record {
+    few = omega (arith, after-depth, after-count, i .most);
+    room = omega (arith, after-count);
+    below = after-places;
+    places = λ e h. omega (arith, stands-places after-stands e h, trail-length);
+    ascend = λ e f h k. stands-ascend after-stands e f h k;
+  }
+
   formed : Formed cs n
   formed = rw (i .size) at (i .ready .formed)
 
@@ -589,15 +599,15 @@ module _ {cs : List (List ℕ)} {v t ms w s : List ℕ} {n b most from count dep
 
   -- ---- the values are at rest
 
-  module _ {x : ℕ} (e : isBroken ≡ false) (f : NextUnset w low x) where
+  module _ (e : isBroken ≡ false) where
     least : Closes cs v (rests w)
     least = rw e at (c .closes)
 
     after-values : Values n w
     after-values = record { long = after-size; small = least .small }
 
-    after-lower : (j : ℕ) → j < x → valueOf w j ≢ 2
-    after-lower j h = go (decLt j low)
+    after-lower : {x : ℕ} → NextUnset w low x → (j : ℕ) → j < x → valueOf w j ≢ 2
+    after-lower f j h = go (decLt j low)
       where
         go : Dec (j < low) → valueOf w j ≢ 2
         go (yes l) = λ z. i .lower j l (sym (least .extends .keeps j (i .lower j l)) ∙ z)
@@ -612,16 +622,16 @@ module _ {cs : List (List ℕ)} {v t ms w s : List ℕ} {n b most from count dep
     rests-with e l = turn (rests w) values least l
 
     -- nothing is unset
-    pub turn-solved : x ≡ length w → EndsWith (searchTried cs n b) (Found made) w most
+    pub turn-solved : NextUnset w low (length w) → EndsWith (searchTried cs n b) (Found made) w most
     unfolding decide
-    turn-solved q = found-ends formed best (i .leads (endOf (solved w made) (trialsOf best most)) (rests-with (endOf (solved w made) (trialsOf best most)) (rw (lowest-none w 0 (λ j h. after-lower j (omega arith))) there)))
+    turn-solved f = found-ends formed best (i .leads (endOf (solved w made) (trialsOf best most)) (rests-with (endOf (solved w made) (trialsOf best most)) (rw (lowest-none w 0 (after-lower f)) there)))
 
-    module _ (q : x ≡ length w → ⊥) where
-      inner : x < length w
-      inner = omega (arith, f .to)
+    module _ {x : ℕ} (f : LowestUnset w low x) where
+      guess-unset : valueOf w x ≡ 2
+      guess-unset = f .first .found (f .inside)
 
       first : lowestUnset w 0 ≡ some x
-      first = let z : 0 + x ≡ x = omega arith in lowest-some w 0 x inner (f .found inner) after-lower ∙ ap some z
+      first = let z : 0 + x ≡ x = omega arith in lowest-some w 0 x (f .inside) guess-unset (after-lower (f .first)) ∙ ap some z
 
       -- the budget is spent
       spent-ends : made ≡ b → searchTried cs n b ≡ endOf (spent made) (trialsOf best most)
@@ -635,26 +645,17 @@ module _ {cs : List (List ℕ)} {v t ms w s : List ℕ} {n b most from count dep
           let held : best ≡ u = holds-latest (holds-closed (i .holds) least) after-values x ∙ stands-back ds same x after-values (least .at-rest) after-stands ∙ sym q in
           spent-ends p ∙ (λ j. endOf (spent made) (trialsOf (held j) most))
 
-      pub can-retrace : Retraceable w s ms depth more
-      can-retrace = record {
-        few = omega (arith, after-depth, after-count, i .most);
-        room = omega (arith, after-count);
-        below = after-places;
-        places = λ e h. omega (arith, stands-places after-stands e h, trail-length);
-        ascend = λ e f h k. stands-ascend after-stands e f h k;
-      }
-
       -- a guess
       further : Grown w s more (set w x 1) (set s more x) (more + 1)
-      further = grown-store (c .grown .counted) (omega (arith, after-size, after-count)) inner (f .found inner) (omega arith)
+      further = grown-store (c .grown .counted) (omega (arith, after-size, after-count)) (f .inside) guess-unset (omega arith)
 
       pub room-left : more < n
-      room-left = omega (arith, c .grown .counted, after-size, unset-set w x 0 inner (f .found inner) (omega arith))
+      room-left = omega (arith, c .grown .counted, after-size, unset-set w x 0 (f .inside) guess-unset (omega arith))
 
       pub can-guess : {l m : ℕ} {joined apart : List ℕ} → l ≡ 2 * x → Rows m w joined apart → Settable m w joined apart (l / 2) (1 - l % 2) × (more < length s)
       can-guess {l} z o =
           let half : l / 2 ≡ x = omega arith in
-          (record { rows = o; inside = rw half inner; unset = rw half (f .found inner); small = omega arith }, omega (arith, room-left, after-count))
+          (record { rows = o; inside = rw half (f .inside); unset = rw half guess-unset; small = omega arith }, omega (arith, room-left, after-count))
 
       longer : take (more + 1) (set s more x) ≡ take more s ++ (x ∷ [])
       longer = rw add-one (take-suc-set s more x (omega (arith, room-left, after-count)))
@@ -664,7 +665,7 @@ module _ {cs : List (List ℕ)} {v t ms w s : List ℕ} {n b most from count dep
 
       guessed-stands : Stands cs n (set ms depth (length (take more s))) (set w x 1) (take more s ++ (x ∷ [])) (suc depth) (guessOf w x ∷ i .guesses)
       guessed-stands =
-          stands-guess (omega (arith, after-depth, room-left, i .most, i .marks)) after-values (omega (arith, trail-length, c .grown .counted, after-size)) (f .found inner) after-lower (least .at-rest) after-stands
+          stands-guess (omega (arith, after-depth, room-left, i .most, i .marks)) after-values (omega (arith, trail-length, c .grown .counted, after-size)) guess-unset (after-lower (f .first)) (least .at-rest) after-stands
 
       guess-made : (made ≡ b → ⊥) → Turning cs n b most (set w x 1) (set s more x) (set ms depth more) more (more + 1) (depth + 1) (made + 1) (x + 1)
       guess-made p = record {
@@ -674,7 +675,7 @@ module _ {cs : List (List ℕ)} {v t ms w s : List ℕ} {n b most from count dep
           counted = further .counted;
           room = omega (arith, guess-size, after-count, length-set s more x);
         };
-        queue = queue-one (least .at-rest) inner (omega arith) (omega (arith, room-left, after-count, length-set s more x)) (sym (getD-set-same s more x 0 (omega (arith, room-left, after-count))));
+        queue = queue-one (least .at-rest) (f .inside) (omega arith) (omega (arith, room-left, after-count, length-set s more x)) (sym (getD-set-same s more x 0 (omega (arith, room-left, after-count))));
         size = guess-size;
         most = i .most;
         long = length-set s more x ∙ after-long;
@@ -682,17 +683,17 @@ module _ {cs : List (List ℕ)} {v t ms w s : List ℕ} {n b most from count dep
         below = λ y k. pick y (append-cases (take more s) (subst (λ (l : List ℕ). List·Memᴰ y l) longer k));
         guesses = guessOf w x ∷ i .guesses;
         stands = rw (longer, add-one depth) (rw trail-length at guessed-stands);
-        low-in = omega (arith, inner, after-size);
-        lower = set-lower w x 1 inner (omega arith) after-lower;
+        low-in = omega (arith, f .inside, after-size);
+        lower = set-lower w x 1 (f .inside) (omega arith) (after-lower (f .first));
         few = omega (arith, i .few);
         held = best;
-        holds = holds-guess (holds-closed (i .holds) least) after-values x (omega (arith, inner, after-size)) (f .found inner);
+        holds = holds-guess (holds-closed (i .holds) least) after-values x (omega (arith, f .inside, after-size)) guess-unset;
         leads = λ e l. i .leads e (rests-with e (again e l));
       }
         where
           pick : (y : ℕ) → List·Memᴰ y (take more s) ⊎ List·Memᴰ y (x ∷ []) → y < n
           pick y (inl k) = after-below y k
-          pick y (inr k) = omega (arith, eq-of-singleton k, inner, after-size)
+          pick y (inr k) = omega (arith, eq-of-singleton k, f .inside, after-size)
 
           again : (e : Tried) → TriesTo cs n b (goes (stateOf (set w x 1) (guessOf w x ∷ i .guesses) (made + 1))) (trialsOf best most) e → TriesTo cs n b (decide b (stateOf w (i .guesses) made) (lowestUnset w 0)) (trialsOf best most) e
           again e l = unfold decide in rw (first, ne-eqb made b p, decide) l

@@ -5,7 +5,7 @@ use mathlib.Core.Bool.{true}
 use mathlib.Core.List.{List, List·Memᴰ}
 use mathlib.Core.Option.{some}
 use Prim.Native.Nat.{ℕ, _+_, _≤_, _<_}
-use lib.ListN.{length, set, take, replicate}
+use lib.ListN.{length, take, replicate}
 use Rattle.cnf.specs.Clauses.{valueOf, clausesIn, whole}
 use Rattle.cnf.specs.Search.{Outcome, solved, none-exists, spent}
 use Rattle.cnf.specs.Trials.{Tried}
@@ -16,6 +16,8 @@ use Rattle.rows.specs.Trail.{Ready, Queue}
 use Rattle.rows.specs.Conclusions.{withTriangles}
 use Rattle.turning.specs.declared.Ending.{Ending}
 use Rattle.turning.specs.declared.Ending.the-variants.{Found, Absent, Spent}
+use Rattle.turning.specs.declared.Due.{Due}
+use Rattle.turning.specs.declared.Due.the-variants as due
 
 -- r is the first unset variable from low on, or the number of variables
 pub record NextUnset (v : List ℕ) (low r : ℕ) : Type 0 where
@@ -23,6 +25,22 @@ pub record NextUnset (v : List ℕ) (low r : ℕ) : Type 0 where
   pub to : r ≤ length v
   pub passed : (j : ℕ) → low ≤ j → j < r → valueOf v j ≢ 2
   pub found : r < length v → valueOf v r ≡ 2
+
+-- variable is the lowest unset one from low on
+pub record LowestUnset (v : List ℕ) (low variable : ℕ) : Type 0 where
+  pub first : NextUnset v low variable
+  pub inside : variable < length v
+
+-- some variable from low on is unset
+pub record SomeUnset (v : List ℕ) (low : ℕ) : Type 0 where
+  pub variable : ℕ
+  pub lowest : LowestUnset v low variable
+
+-- what is due at rest after made guesses: none from low on is unset, the budget is spent, or the lowest unset variable is guessed
+abbrev pub DueAt : List ℕ → ℕ → ℕ → ℕ → Due → Type 0
+DueAt v low made budget due.Solved = NextUnset v low (length v)
+DueAt v low made budget due.Spent = SomeUnset v low × (made ≡ budget)
+DueAt v low made budget (due.Guess x) = LowestUnset v low x × (made ≢ budget)
 
 -- the values of 780 variables, none of which is set
 unfoldable pub noneSet : List ℕ

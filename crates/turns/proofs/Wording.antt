@@ -1,25 +1,22 @@
 -- Laws for the words of the clauses over the turns. Assumes nothing.
-use mathlib.Core.Path.{_≡_, refl, sym, ap, _∙_}
+use mathlib.Core.Path.{_≡_}
 use mathlib.Core.Bool.{Bool, true, false}
 use mathlib.Core.List.{List}
 use Prim.Native.Nat.{ℕ, suc, _+_, _-_, _*_, _/_, _%_, _≤_, _<_}
 use native.Mathlib.Omega.{arith}
 use lib.ListN.{length, getD, set}
 use lib.Seq.{getD-set-same}
-use Rattle.cnf.specs.Clauses.{valueOf, clausesIn}
+use Rattle.cnf.specs.Clauses.{clausesIn}
 use Rattle.rows.specs.Trail.{Ready, Settles}
 use Rattle.cnf.specs.Closing.{unsetCount}
 use Rattle.rows.specs.Conclusions.{withTriangles}
 use Rattle.rows.specs.Rows.{Forced}
 use Rattle.rows.proofs.Trails.{grown-count, grown-length}
-use Rattle.tallies.specs.Tallies.{Tallied}
-use Rattle.tallies.specs.Behind.{Behind}
 use Rattle.tallies.proofs.Lagging.{behind-guess, behind-grown, behind-rested}
-use Rattle.propagate.specs.Sinking.{Room}
 use Rattle.restore.specs.Restoring.{Lags, Passed, Sized}
-use Rattle.turning.specs.Turns.{NextUnset}
+use Rattle.turning.specs.Turns.{LowestUnset}
 use Rattle.turning.proofs.Ends.{Turning, after-size, after-count, after-places, counted-before, room-left, list-formed}
-use Rattle.turns.specs.Preparing.{Prepared, TalliedIf, CaughtIf}
+use Rattle.closing.specs.Preparing.{Prepared, TalliedIf, CaughtIf}
 
 -- the latest guess is at the place where the values were last closed, or before it
 pub record Marked (ms : List ℕ) (depth at : ℕ) : Type 0 where
@@ -55,8 +52,8 @@ module _ (ws : List ℕ) (m : ℕ) {v t ms w s : List ℕ} {n b most from count 
   }
 
   -- the words that were saved
-  pub saved-on : {words : List ℕ} (clauses : List ℕ) → Lags ws clauses v t from count words → Lags ws clauses w s from more words
-  saved-on clauses l = λ k. behind-grown (c .grown) (i .queue .inside) trail-room (l k)
+  pub saved-on : {words saved : List ℕ} (clauses : List ℕ) → (length ws ≤ length clauses → saved ≡ words) → Lags ws clauses v t from count words → Lags ws clauses w s from more saved
+  saved-on clauses e l = λ k. rw (e k) (behind-grown (c .grown) (i .queue .inside) trail-room (l k))
 
   -- a clause is broken
   pub passed : (e : isBroken ≡ true) (d : ℕ) {mark : ℕ} (q : depth ≡ suc d) (z : mark ≡ getD ms d 0) → Marked ms depth from → Passed ws w s mark from more
@@ -70,7 +67,7 @@ module _ (ws : List ℕ) (m : ℕ) {v t ms w s : List ℕ} {n b most from count 
   }
 
   -- a guess is made
-  pub lags-guess : {x l k last : ℕ} {words u r joined apart : List ℕ} (clauses : List ℕ) (e : isBroken ≡ false) (f : NextUnset w low x) → (x ≡ length w → ⊥) → CaughtIf ws clauses w words isBroken → l ≡ 2 * x → Forced k w s more l u r joined apart last → Lags ws clauses u r more last words
-  lags-guess {x} {l} clauses e f q g z h =
+  pub lags-guess : {x l k last : ℕ} {words u r joined apart : List ℕ} (clauses : List ℕ) (e : isBroken ≡ false) (f : LowestUnset w low x) → CaughtIf ws clauses w words isBroken → l ≡ 2 * x → Forced k w s more l u r joined apart last → Lags ws clauses u r more last words
+  lags-guess {x} {l} clauses e f g z h =
       let half : l / 2 ≡ x = omega (arith, z) in
-      λ y. rw (h .assigned .values, h .trail, h .count-more, half) (behind-guess s more x (1 - l % 2) (g y e) (c .grown .counted) (f .found (omega (arith, q, f .to))) (omega (arith, room-left i c e f q, after-count i c)))
+      λ y. rw (h .assigned .values, h .trail, h .count-more, half) (behind-guess s more x (1 - l % 2) (g y e) (c .grown .counted) (f .first .found (f .inside)) (omega (arith, room-left i c e f, after-count i c)))

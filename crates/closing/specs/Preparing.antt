@@ -1,4 +1,4 @@
--- What the turns are lent beside the list: its index, and room for the words of its clauses. Assumes nothing.
+-- What the closing and the turns are lent beside the list: its index, and room for the words of its clauses. Assumes nothing.
 use mathlib.Core.Path.{_≡_}
 use mathlib.Core.Bool.{Bool, true}
 use mathlib.Core.List.{List}
@@ -15,9 +15,10 @@ pub record Prepared (ws firsts clauses words noted : List ℕ) : Type 0 where
   pub indexed : IndexedIf ws firsts clauses
   pub room : Room clauses words noted
 
--- where they are indexed, the words are those of the values; after a closing, where no clause is broken
+-- where they are indexed, the words are those of the values
 abbrev pub TalliedIf : List ℕ → List ℕ → List ℕ → List ℕ → Type 0
 TalliedIf ws clauses v words = length ws ≤ length clauses → Tallied ws v words
 
+-- where they are indexed, the words are those of the values once these are closed and no clause is broken
 abbrev pub CaughtIf : List ℕ → List ℕ → List ℕ → List ℕ → Bool → Type 0
 CaughtIf ws clauses v words isBroken = length ws ≤ length clauses → Caught ws v words isBroken

@@ -1,4 +1,4 @@
--- `turns::close` meets its contract: the queue is empty, or one of the two ways closes the values. Assumes nothing.
+-- `closing::close` meets its contract: the queue is empty, or one of the two ways closes the values. Assumes nothing.
 use borrow.Author.Needs.{needs}
 use native.Mathlib.Omega.{arith}
 use Rattle.cnf.specs.Clauses.{clausesIn}
@@ -7,8 +7,8 @@ use Rattle.rows.proofs.Working.{queue-part, drained-settles}
 use Rattle.conclude.proofs.Queueing.{queueing, queue-end}
 use Rattle.passes.proofs.Attending.{to-ds}
 use Rattle.tallies.proofs.Lagging.{rested-behind}
-use Rattle.turns.proofs.close.Statement.{statement}
-use Rattle.turns.proofs.close.Tie as tie
+use Rattle.closing.proofs.close.Statement.{statement}
+use Rattle.closing.proofs.close.Tie as tie
 
 returns : tie.Need-returns
 returns c =

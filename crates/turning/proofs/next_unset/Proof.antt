@@ -1,11 +1,11 @@
--- `turns::next_unset` meets its contract. The loop's invariant: no variable passed is unset.
+-- `turning::next_unset` meets its contract. The loop's invariant: no variable passed is unset.
 -- Assumes nothing.
 use borrow.Author.Needs.{needs}
 use Prim.Native.Nat.{_-_}
 use lib.ListN.{length}
-use Rattle.turns.proofs.Seeking as laws
-use Rattle.turns.proofs.next_unset.Statement.{statement}
-use Rattle.turns.proofs.next_unset.Tie as tie
+use Rattle.turning.proofs.Seeking as laws
+use Rattle.turning.proofs.next_unset.Statement.{statement}
+use Rattle.turning.proofs.next_unset.Tie as tie
 
 abbrev Inv-variables : tie.InvT-variables
 Inv-variables values low x₀ x = laws.Seeking values low x
