@@ -7,12 +7,6 @@ ghost use Rattle.io.specs.Digits.{glyph};
 ghost use Rattle.lists.specs.Lists.{over};
 ghost use Rattle.printed.specs.Lines.{Put, decimalText, spentText, countsText, hexText, mapText, tableText, recordsText};
 
-fn wide(x: u8) -> u64
-    ensures { λ r. ⌜ r ≡ x ⌝ }
-{
-    x as u64
-}
-
 // Bytes at a place of the text; the place behind them.
 pub fn put(bytes: &[u8], text: &mut [u8], at: usize) -> usize
     requires { ⌜ at + length (now bytes) ≤ length (now text) ⌝ }
@@ -80,7 +74,7 @@ pub fn put_map(map: &[u8], text: &mut [u8], at: usize) -> usize
     let mut to = put(b"map", text, at);
     let mut q: usize = 0;
     'states: while q < map.len() {
-        to = put_number(b" ", wide(map[q]), text, to);
+        to = put_number(b" ", casts::long(map[q]), text, to);
         q += 1;
     }
     put(b"\n", text, to)

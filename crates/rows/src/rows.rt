@@ -9,13 +9,6 @@ use super::wanted;
 use super::wide;
 use pairs::pair_of;
 
-// A state as an index.
-fn index(x: u8) -> usize
-    ensures { λ r. ⌜ r ≡ x ⌝ }
-{
-    x as usize
-}
-
 // The word whose only state is x.
 fn bit(x: u8) -> u64
     requires { ⌜ x < 64 ⌝ }
@@ -36,7 +29,7 @@ pub fn lacking(a: &[u64; 40], p: u8, b: &[u64; 40], q: u8) -> u64
     requires { ⌜ (p < 40) × (q < 40) ⌝ }
     ensures { λ r. ⌜ r ≡ without (getD (now (a .entry)) p 0) (getD (now (b .entry)) q 0) ⌝ }
 {
-    without(a[index(p)], b[index(q)])
+    without(a[casts::wide(p)], b[casts::wide(q)])
 }
 
 // Each state's word has that state alone: nothing is joined yet.
@@ -46,7 +39,7 @@ pub fn own_rows() -> [u64; 40]
     let mut words = [0u64; 40];
     let mut p: u8 = 0;
     'states: while p < 40 {
-        words[index(p)] = bit(p);
+        words[casts::wide(p)] = bit(p);
         p += 1;
     }
     words
@@ -57,7 +50,7 @@ fn gain(words: &mut [u64; 40], p: u8, q: u8)
     requires { ⌜ (p < 40) × (q < 40) ⌝ }
     ensures { λ _. ⌜ now (words .exit) ≡ gain (now (words .entry)) p q ⌝ }
 {
-    let i = index(p);
+    let i = casts::wide(p);
     words[i] = words[i] | bit(q);
 }
 
@@ -75,7 +68,7 @@ fn lose(words: &mut [u64; 40], p: u8, q: u8)
     requires { ⌜ (p < 40) × (q < 40) ⌝ }
     ensures { λ _. ⌜ now (words .exit) ≡ lose (now (words .entry)) p q ⌝ }
 {
-    let i = index(p);
+    let i = casts::wide(p);
     words[i] = without(words[i], bit(q));
 }
 
