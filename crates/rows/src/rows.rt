@@ -73,7 +73,7 @@ fn lose(words: &mut [u64; 40], p: u8, q: u8)
 }
 
 // And p the word of q.
-pub(crate) fn unmark(words: &mut [u64; 40], p: u8, q: u8)
+pub fn unmark(words: &mut [u64; 40], p: u8, q: u8)
     requires { ⌜ (p < 40) × (q < 40) ⌝ }
     ensures { λ _. ⌜ now (words .exit) ≡ unmarked (now (words .entry)) p q ⌝ }
 {
@@ -117,7 +117,7 @@ pub fn put(
 }
 
 // Gives an unset variable a value.
-pub(crate) fn assign(
+pub fn assign(
     n: u8,
     table: &[u16],
     x: u16,

@@ -1,13 +1,13 @@
-// Variables are unset again, in the values and in the words of their states.
+// The way back along the trail: variables are unset again, in the values and in the words of their states.
 ghost use Prim.Native.Nat.{_<_};
 ghost use lib.ListN.{length};
 ghost use Rattle.pairs.specs.Entries.{PairTable};
-ghost use Rattle.rows.specs.Undo.{Undoable, Undone};
-ghost use Rattle.rows.specs.Rows.{Rows, Assigned, Unwound};
-use super::rows::assign;
-use super::rows::unmark;
-use super::wide;
+ghost use Rattle.rows.specs.Rows.{Rows, Assigned};
+ghost use Rattle.retract.specs.Undo.{Undoable, Unwound, Undone};
 use pairs::pair_of;
+use rows::assign;
+use rows::unmark;
+use rows::wide;
 
 // Unsets a variable. Where it was not set it has no mark, and none is cleared.
 fn unset(

@@ -1,10 +1,10 @@
--- `rows::retract::unset` meets its contract. Assumes nothing.
+-- `retract::unset` meets its contract. Assumes nothing.
 use mathlib.Core.Path.{refl}
 use native.Mathlib.Omega.{arith}
 use Rattle.rows.proofs.Setting as laws
 use borrow.Author.Needs.{needs}
-use Rattle.rows.proofs.retract.unset.Statement.{statement}
-use Rattle.rows.proofs.retract.unset.Tie as tie
+use Rattle.retract.proofs.unset.Statement.{statement}
+use Rattle.retract.proofs.unset.Tie as tie
 
 wide-requires : tie.Need-wide-requires
 wide-requires c κs = search needs

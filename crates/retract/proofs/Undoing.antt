@@ -5,9 +5,9 @@ use Prim.Native.Nat.{ℕ, suc, _-_, _≤_, _<_}
 use native.Mathlib.Omega.{arith}
 use lib.ListN.{length, getD, set}
 use lib.Seq.{slice, slice-empty, slice-cons}
 use Rattle.rows.specs.Trail.{unsetting}
-use Rattle.rows.specs.Undo.{Undoable}
 use Rattle.rows.proofs.Trails.{length-unsetting}
+use Rattle.retract.specs.Undo.{Undoable}
 
 -- ---- a part of the trail is unset
 

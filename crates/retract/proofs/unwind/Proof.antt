@@ -1,10 +1,10 @@
--- `rows::retract::unwind` meets its contract. The loop's invariant: the variables from place i of the trail on are unset. Assumes nothing.
+-- `retract::unwind` meets its contract. The loop's invariant: the variables from place i of the trail on are unset. Assumes nothing.
 use borrow.Author.Needs.{needs}
 use mathlib.Core.Path.{refl}
-use Rattle.rows.proofs.Undoing.{same-length as undone-length}
-use Rattle.rows.proofs.Unwinding as laws
-use Rattle.rows.proofs.retract.unwind.Statement.{statement}
-use Rattle.rows.proofs.retract.unwind.Tie as tie
+use Rattle.retract.proofs.Undoing.{same-length as undone-length}
+use Rattle.retract.proofs.Unwinding as laws
+use Rattle.retract.proofs.unwind.Statement.{statement}
+use Rattle.retract.proofs.unwind.Tie as tie
 
 abbrev Inv-trail : tie.InvT-trail
 Inv-trail n table values₀ trail joined₀ apart₀ mark count i₀ values joined apart i = laws.Unwinding n values₀ trail mark count values joined apart i

@@ -1,8 +1,8 @@
--- `rows::retract::undo` meets its contract. Assumes nothing.
-use Rattle.rows.proofs.Unwinding as laws
+-- `retract::undo` meets its contract. Assumes nothing.
+use Rattle.retract.proofs.Unwinding as laws
 use borrow.Author.Needs.{needs}
-use Rattle.rows.proofs.retract.undo.Statement.{statement}
-use Rattle.rows.proofs.retract.undo.Tie as tie
+use Rattle.retract.proofs.undo.Statement.{statement}
+use Rattle.retract.proofs.undo.Tie as tie
 
 unwind-requires : tie.Need-unwind-requires
 unwind-requires c κs = search needs

@@ -6,11 +6,11 @@ use native.Mathlib.Omega.{arith}
 use lib.ListN.{length, getD, set}
 use lib.Seq.{slice, slice-cons, getD-set-same}
 use Rattle.cnf.specs.Clauses.{valueOf}
 use Rattle.rows.specs.Trail.{unsetting}
-use Rattle.rows.specs.Undo.{Undoable, Undone}
+use Rattle.rows.specs.Rows.{Rows, Settable, Assigned}
 use Rattle.rows.proofs.Trails.{length-unsetting}
-use Rattle.rows.proofs.Undoing.{Undoing, undoing, undo-on, undo-below}
-use Rattle.rows.specs.Rows.{Rows, Settable, Assigned, Unwound}
+use Rattle.retract.specs.Undo.{Undoable, Unwound, Undone}
+use Rattle.retract.proofs.Undoing.{Undoing, undoing, undo-on, undo-below}
 
 -- the variables from i to count are unset
 pub record Unwinding (n : ℕ) (v t : List ℕ) (mark count : ℕ) (w joined apart : List ℕ) (i : ℕ) : Type 0 where
