@@ -28,7 +28,8 @@ use Rattle.cnf.proofs.Closure.{closes-one, closes-below, units-break, turnTo, a
 use Rattle.cnf.proofs.Trying.{closedTrials, endOf, TriesTo, there, turn, tried-outcome, turns-tried}
 use Rattle.cnf.proofs.Trials.{latest as latestTrial, Holds, holds-start, holds-closed, holds-undone, holds-guess, holds-latest, horn-trial, solved-held, tried-alike}
 use Rattle.pairs.specs.Triangles.{triangles}
-use Rattle.sifting.specs.Sift.{Left, Sifts, AllSet, lightened, Lightens}
+use Rattle.sifting.specs.Sift.{Left, Sifts}
+use Rattle.lightening.specs.Lighten.{AllSet, lightened, Lightens}
 use Rattle.rows.specs.Trail.{unsetting, Ready, Grown, Worked, Queue, closedBy, Settles}
 use Rattle.rows.specs.Rows.{Rows, Own, Settable, Forced}
 use Rattle.rows.specs.Conclusions.{withTriangles}
@@ -41,7 +42,7 @@ use Rattle.rows.proofs.Trails.{unsetting-append, length-unsetting, unsetting-st
 use Rattle.rows.proofs.Working.{worked-length, worked-on, worked-part, ready-part}
 use Rattle.passes.proofs.Attending.{to-cs}
 use Rattle.passes.proofs.Settling.{worked-queue}
-use Rattle.sifting.proofs.Lightening.{covered, lighter-to, lighter-from, lighter-formed}
+use Rattle.lightening.proofs.Lightening.{covered, lighter-to, lighter-from, lighter-formed}
 use Rattle.rows.proofs.Marking.{rows-start}
 use Rattle.conclude.proofs.Triangles.{with-formed, triangles-horn, unset-rest}
 

@@ -1,4 +1,4 @@
--- `sifting::holds` meets its contract: no literal passed is right. Assumes nothing.
+-- `lightening::holds` meets its contract: no literal passed is right. Assumes nothing.
 use borrow.Author.Needs.{needs}
 use native.Mathlib.Omega.{arith}
 use Prim.Native.Nat.{_-_}
@@ -6,9 +6,9 @@ use mathlib.Core.Path.{sym, _∙_}
 use lib.ListN.{length}
 use Rattle.lists.proofs.Members.{getD-mem}
 use Rattle.asking.proofs.Asking.{holds-at}
-use Rattle.sifting.proofs.Lightening as laws
-use Rattle.sifting.proofs.holds.Statement.{statement}
-use Rattle.sifting.proofs.holds.Tie as tie
+use Rattle.lightening.proofs.Lightening as laws
+use Rattle.lightening.proofs.holds.Statement.{statement}
+use Rattle.lightening.proofs.holds.Tie as tie
 
 abbrev Inv-literals : tie.InvT-literals
 Inv-literals literals values i₀ i = laws.Unheld literals values i

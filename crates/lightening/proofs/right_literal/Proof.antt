@@ -1,9 +1,9 @@
--- `sifting::right_literal` meets its contract. Assumes nothing.
+-- `lightening::right_literal` meets its contract. Assumes nothing.
 use borrow.Author.Needs.{needs}
 use native.Mathlib.Omega.{arith}
-use Rattle.sifting.proofs.Lightening as laws
-use Rattle.sifting.proofs.right_literal.Statement.{statement}
-use Rattle.sifting.proofs.right_literal.Tie as tie
+use Rattle.lightening.proofs.Lightening as laws
+use Rattle.lightening.proofs.right_literal.Statement.{statement}
+use Rattle.lightening.proofs.right_literal.Tie as tie
 
 wide-requires : tie.Need-wide-requires
 wide-requires c κs = search needs

@@ -1,13 +1,13 @@
--- `sifting::put_units` meets its contract. Assumes nothing.
+-- `lightening::put_units` meets its contract. Assumes nothing.
 use borrow.Author.Needs.{needs}
 use native.Mathlib.Omega.{arith}
 use Prim.Native.Nat.{_-_}
 use mathlib.Core.Path.{_≡_}
 use lib.ListN.{length}
 use Rattle.lists.proofs.Members.{getD-mem}
-use Rattle.sifting.proofs.Lightening as laws
-use Rattle.sifting.proofs.put_units.Statement.{statement}
-use Rattle.sifting.proofs.put_units.Tie as tie
+use Rattle.lightening.proofs.Lightening as laws
+use Rattle.lightening.proofs.put_units.Statement.{statement}
+use Rattle.lightening.proofs.put_units.Tie as tie
 
 abbrev Inv-variables : tie.InvT-variables
 Inv-variables values variables out₀ at₀ i₀ out at i = laws.Uniting values variables out at i × (length out ≡ length out₀)

@@ -1,11 +1,11 @@
--- `sifting::put_words` meets its contract. Assumes nothing.
+-- `lightening::put_words` meets its contract. Assumes nothing.
 use borrow.Author.Needs.{needs}
 use native.Mathlib.Omega.{arith}
 use Prim.Native.Nat.{_-_}
 use lib.ListN.{length}
-use Rattle.sifting.proofs.Lightening as laws
-use Rattle.sifting.proofs.put_words.Statement.{statement}
-use Rattle.sifting.proofs.put_words.Tie as tie
+use Rattle.lightening.proofs.Lightening as laws
+use Rattle.lightening.proofs.put_words.Statement.{statement}
+use Rattle.lightening.proofs.put_words.Tie as tie
 
 abbrev Inv-words : tie.InvT-words
 Inv-words words out₀ at i₀ out i = laws.Putting words out₀ out at i

@@ -17,13 +17,13 @@ use Rattle.cnf.specs.Search.{isRight, isUnset}
 use Rattle.cnf.specs.Closing.{Formed, _⊑_, Settled, holds, waits, AtRest}
 use Rattle.cnf.proofs.Values.{set-cases}
 use Rattle.cnf.proofs.Found.{right-is}
-use Rattle.asking.specs.Asked.{Over}
-use Rattle.asking.specs.Asked.{clauseAt}
 use Rattle.rows.specs.Conclusions.{saying}
-use Rattle.sifting.specs.Sift.{StandsAt, Left, units, unheld, lightened, SetIn, AllSet, Written}
 use Rattle.rows.specs.Trail.{unsetting}
+use Rattle.asking.specs.Asked.{Over, clauseAt}
 use Rattle.asking.proofs.Walking.{clause-words}
+use Rattle.sifting.specs.Sift.{StandsAt, Left}
 use Rattle.sifting.proofs.Sifting.{any-more}
+use Rattle.lightening.specs.Lighten.{units, unheld, lightened, SetIn, AllSet, Written}
 
 -- ---- members of a mapped list
 

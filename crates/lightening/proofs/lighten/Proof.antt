@@ -1,4 +1,4 @@
--- `sifting::lighten` meets its contract: the words so far are those of the units and of the clauses at the places passed that do not hold.
+-- `lightening::lighten` meets its contract: the words so far are those of the units and of the clauses at the places passed that do not hold.
 -- Assumes nothing.
 use borrow.Author.Needs.{needs}
 use native.Mathlib.Omega.{arith}
@@ -6,9 +6,9 @@ use Prim.Native.Nat.{_-_}
 use mathlib.Core.Path.{_≡_, sym, _∙_}
 use lib.ListN.{length}
 use Rattle.lists.proofs.Members.{getD-mem}
-use Rattle.sifting.proofs.Lightening as laws
-use Rattle.sifting.proofs.lighten.Statement.{statement}
-use Rattle.sifting.proofs.lighten.Tie as tie
+use Rattle.lightening.proofs.Lightening as laws
+use Rattle.lightening.proofs.lighten.Statement.{statement}
+use Rattle.lightening.proofs.lighten.Tie as tie
 
 abbrev Inv-places : tie.InvT-places
 Inv-places list places values variables out₀ none at₀ i₀ out at i = laws.Lightening list values variables places out at i × (length out ≡ length out₀)
