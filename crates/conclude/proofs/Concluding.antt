@@ -17,31 +17,12 @@ use Rattle.pairs.proofs.Pairs.{variable-sym}
 use Rattle.pairs.specs.Triangles.{triangles}
 use Rattle.rows.specs.Trail.{Ready, Worked, Attended}
 use Rattle.rows.specs.Rows.{IsJoined, itself, other, IsApart, Rows, without, PairAt}
-use Rattle.rows.specs.Conclusions.{Concludes, alike, parted, Spreads, Spread, SpreadBoth}
+use Rattle.rows.specs.Conclusions.{Concludes, alike, parted, Spreads, SpreadBoth}
 use Rattle.rows.proofs.Words.{without-of, of-without}
 use Rattle.rows.proofs.Trails.{grown-same}
 use Rattle.rows.proofs.Working.{worked-none, worked-extends, worked-on, worked-trans}
-use Rattle.conclude.proofs.Triangles.{no-triangles, Drawn, drawn-seen, pair-settled}
-use Rattle.conclude.proofs.Spreading.{concludes-more}
-
-pub spreads-more : {n : ℕ} {v w : List ℕ} {q todo x : ℕ} → v ⊑ w → Spreads n v q todo x → Spreads n w q todo x
-spreads-more up h = record { p = h .p; p-in = h .p-in; q-in = h .q-in; different = h .different; small = h .small; each = λ s b. let e = h .each s b in (e .0, e .1, e .2, concludes-more up (e .3)) }
-
--- ---- a spread behind a spread
-
-module _ {n p q todo back x : ℕ} {v t w s : List ℕ} {start more : ℕ} {isBroken : Bool} (i : Ready (triangles n) v t start) (k : Spread n v t start q todo x w s isBroken more) where
-  pub both-then : Spreads n v p back x → Spreads n w p back x
-  both-then h = spreads-more (worked-extends i (k .worked)) h
-
-  pub both-broken : isBroken ≡ true → SpreadBoth n v t start p q todo back x w s isBroken more
-  both-broken e = record { worked = k .worked; done-q = λ f. absurd (true≢false (sym e ∙ f)); done-p = λ f. absurd (true≢false (sym e ∙ f)) }
-
-  pub both-done : {u r : List ℕ} {last : ℕ} {isBroken′ : Bool} → x ≤ 1 → isBroken ≡ false → Spread n w s more p back x u r isBroken′ last → SpreadBoth n v t start p q todo back x u r isBroken′ last
-  both-done {u} small b h = record {
-    worked = worked-trans (k .worked) (h .worked);
-    done-q = λ f y m. let d = k .done b y m in units-more (triangles n) w u (h .worked .units) .keeps (variableOf q y) (omega arith) ∙ d;
-    done-p = h .done;
-  }
+use Rattle.spreading.proofs.Triangles.{no-triangles, Drawn, drawn-seen, pair-settled}
+use Rattle.spreading.proofs.Spreading.{spreads-more}
 
 -- ---- the states that the words name
 

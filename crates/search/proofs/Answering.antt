@@ -15,7 +15,7 @@ use Rattle.turning.specs.declared.Ending.{Ending}
 use Rattle.turning.specs.declared.Ending.the-variants.{Found, Absent, Spent}
 use Rattle.rows.specs.Conclusions.{withTriangles}
 use Rattle.turning.specs.Turns.{noneSet, Fresh, EndsWith, outcomeOf}
-use Rattle.conclude.proofs.Triangles.{with-none}
+use Rattle.spreading.proofs.Triangles.{with-none}
 use Rattle.turning.proofs.Ends.{ends-outcome}
 
 -- ---- the values and the outcome

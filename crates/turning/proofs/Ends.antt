@@ -44,7 +44,7 @@ use Rattle.passes.proofs.Attending.{to-cs}
 use Rattle.passes.proofs.Settling.{worked-queue}
 use Rattle.lightening.proofs.Lightening.{covered, lighter-to, lighter-from, lighter-formed}
 use Rattle.rows.proofs.Marking.{rows-start}
-use Rattle.conclude.proofs.Triangles.{with-formed, triangles-horn, unset-rest}
+use Rattle.spreading.proofs.Triangles.{with-formed, triangles-horn, unset-rest}
 
 -- ---- the guesses that stand
 

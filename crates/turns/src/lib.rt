@@ -10,13 +10,13 @@ ghost use Rattle.rows.specs.Trail.{Ready, Queue, Settles};
 ghost use Rattle.restore.specs.Restoring.{Lags};
 ghost use Rattle.turning.specs.Turns.{NextUnset, Rested, EndsWith};
 ghost use Rattle.turns.specs.Preparing.{Prepared, TalliedIf, CaughtIf};
-use conclude::Reached;
 use passes::settle;
 use propagate::settle_indexed;
 use restore::copy;
 use restore::retreat;
 use rows::force;
 use rows::wide;
+use spreading::Reached;
 use trial::walk_back;
 use turning::Ending;
 

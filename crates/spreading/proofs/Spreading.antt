@@ -1,9 +1,9 @@
--- Laws for the loop that sets the pairs of one state with those of a word. Assumes nothing.
+-- Laws for the loop that sets the pairs of one state with those of a word, and for such a loop behind another. Assumes nothing.
 use mathlib.Core.Path.{_≡_, sym, ap, _∙_, subst}
 use mathlib.Core.Logic.{_⊎_, inl, inr, _≢_}
-use mathlib.Core.Bool.{true, false, true≢false}
+use mathlib.Core.Bool.{Bool, true, false, true≢false}
 use mathlib.Core.List.{List}
-use Prim.Native.Nat.{ℕ, _-_, _^_, _<_}
+use Prim.Native.Nat.{ℕ, _-_, _^_, _≤_, _<_}
 use native.Mathlib.Omega.{arith}
 use native.Mathlib.Decide.{ℕ-discrete}
 use lib.ListN.{length, getD, set}
@@ -18,21 +18,25 @@ use Rattle.cnf.specs.Clauses.{valueOf}
 use Rattle.cnf.specs.Search.{forcing}
 use Rattle.cnf.specs.Closing.{_⊑_, Found}
 use Rattle.cnf.proofs.Values.{⊑-refl, set-more}
+use Rattle.cnf.proofs.Order.{units-more}
 use Rattle.pairs.specs.Pairs.{variableOf}
 use Rattle.pairs.specs.Triangles.{triangles}
 use Rattle.rows.specs.Trail.{Ready, Worked}
 use Rattle.rows.specs.Rows.{Rows, Put}
-use Rattle.rows.specs.Conclusions.{saying, Concludes, alike, parted, Spreads, Spread}
+use Rattle.rows.specs.Conclusions.{saying, Concludes, alike, parted, Spreads, Spread, SpreadBoth}
 use Rattle.rows.proofs.Marking.{pair-inside}
 use Rattle.rows.proofs.Setting.{put-forced}
 use Rattle.rows.proofs.Working.{worked-none, worked-extends, worked-on, worked-trans, forced-room, worked-forced}
-use Rattle.conclude.proofs.Triangles.{conclude-forces, conclude-breaks}
+use Rattle.spreading.proofs.Triangles.{conclude-forces, conclude-breaks}
 
 -- ---- a conclusion stays one
 
 pub concludes-more : {v w : List ℕ} {x y k : ℕ} → v ⊑ w → Concludes v x y k → Concludes w x y k
 concludes-more {v} {w} {x} {y} {k} h (alike a b c) = alike (h .keeps x (omega arith) ∙ a) (h .keeps y (λ z. c (sym b ∙ z)) ∙ b) c
 concludes-more {v} {w} {x} {y} {k} h (parted a b c) = parted (h .keeps x (omega arith) ∙ a) (h .keeps y (omega arith) ∙ b) c
+
+pub spreads-more : {n : ℕ} {v w : List ℕ} {q todo x : ℕ} → v ⊑ w → Spreads n v q todo x → Spreads n w q todo x
+spreads-more up h = record { p = h .p; p-in = h .p-in; q-in = h .q-in; different = h .different; small = h .small; each = λ s b. let e = h .each s b in (e .0, e .1, e .2, concludes-more up (e .3)) }
 
 -- ---- the loop
 
@@ -175,3 +179,19 @@ module _ {n : ℕ} {v t : List ℕ} {start q todo x : ℕ} {w s : List ℕ} {cou
       },
       j .rows,
     )
+
+-- ---- a spread behind a spread
+
+module _ {n p q todo back x : ℕ} {v t w s : List ℕ} {start more : ℕ} {isBroken : Bool} (i : Ready (triangles n) v t start) (k : Spread n v t start q todo x w s isBroken more) where
+  pub both-then : Spreads n v p back x → Spreads n w p back x
+  both-then h = spreads-more (worked-extends i (k .worked)) h
+
+  pub both-broken : isBroken ≡ true → SpreadBoth n v t start p q todo back x w s isBroken more
+  both-broken e = record { worked = k .worked; done-q = λ f. absurd (true≢false (sym e ∙ f)); done-p = λ f. absurd (true≢false (sym e ∙ f)) }
+
+  pub both-done : {u r : List ℕ} {last : ℕ} {isBroken′ : Bool} → x ≤ 1 → isBroken ≡ false → Spread n w s more p back x u r isBroken′ last → SpreadBoth n v t start p q todo back x u r isBroken′ last
+  both-done {u} small b h = record {
+    worked = worked-trans (k .worked) (h .worked);
+    done-q = λ f y m. let d = k .done b y m in units-more (triangles n) w u (h .worked .units) .keeps (variableOf q y) (omega arith) ∙ d;
+    done-p = h .done;
+  }

@@ -1,9 +1,9 @@
--- `conclude::spread_both` meets its contract. Assumes nothing.
+-- `spreading::spread_both` meets its contract. Assumes nothing.
 use Rattle.rows.proofs.Working.{worked-length, worked-on, worked-trans}
-use Rattle.conclude.proofs.Concluding as laws
+use Rattle.spreading.proofs.Spreading as laws
 use borrow.Author.Needs.{needs}
-use Rattle.conclude.proofs.spread_both.Statement.{statement}
-use Rattle.conclude.proofs.spread_both.Tie as tie
+use Rattle.spreading.proofs.spread_both.Statement.{statement}
+use Rattle.spreading.proofs.spread_both.Tie as tie
 
 spread-requires : tie.Need-spread-requires
 spread-requires c κs = search needs

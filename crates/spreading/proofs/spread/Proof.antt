@@ -1,12 +1,12 @@
--- `conclude::spread` meets its contract. The loop's invariant: what was set are unit steps by group 2, and each state of the word is still to come or
+-- `spreading::spread` meets its contract. The loop's invariant: what was set are unit steps by group 2, and each state of the word is still to come or
 -- has its pair set. Assumes nothing.
 use borrow.Author.Needs.{needs}
 use mathlib.Core.Path.{refl, _∙_}
 use native.Mathlib.Omega.{arith}
 use Rattle.rows.proofs.Working.{worked-length}
-use Rattle.conclude.proofs.Spreading as laws
-use Rattle.conclude.proofs.spread.Statement.{statement}
-use Rattle.conclude.proofs.spread.Tie as tie
+use Rattle.spreading.proofs.Spreading as laws
+use Rattle.spreading.proofs.spread.Statement.{statement}
+use Rattle.spreading.proofs.spread.Tie as tie
 
 abbrev Inv-states : tie.InvT-states
 Inv-states n q todo x values₀ trail₀ joined₀ apart₀ start count₀ rest₀ values trail joined apart count rest =
