@@ -1,9 +1,9 @@
--- `conclude::conclude_apart` meets its contract: what is set is all that p ≠ q says. Assumes nothing.
+-- `transitivity::conclude_apart` meets its contract: what is set is all that p ≠ q says. Assumes nothing.
 use Rattle.rows.proofs.Working.{worked-length}
-use Rattle.conclude.proofs.Concluding as laws
+use Rattle.transitivity.proofs.Concluding as laws
 use borrow.Author.Needs.{needs}
-use Rattle.conclude.proofs.conclude_apart.Statement.{statement}
-use Rattle.conclude.proofs.conclude_apart.Tie as tie
+use Rattle.transitivity.proofs.conclude_apart.Statement.{statement}
+use Rattle.transitivity.proofs.conclude_apart.Tie as tie
 
 lacking-requires : tie.Need-lacking-requires
 lacking-requires c κs = search needs

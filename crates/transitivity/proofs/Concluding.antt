@@ -2,13 +2,12 @@
 use mathlib.Core.Path.{_≡_, refl, sym, ap, _∙_, subst}
 use mathlib.Core.Logic.{_≢_}
 use mathlib.Core.Bool.{Bool, true, false, true≢false}
-use mathlib.Core.List.{List, List·Memᴰ, List·Memᴰ·not-nil as not-nil}
+use mathlib.Core.List.{List}
 use Prim.Native.Nat.{ℕ, zero, suc, _/_, _%_, _^_, _≤_, _<_}
 use native.Mathlib.Omega.{arith}
 use native.Mathlib.Decide.{ℕ-discrete}
-use lib.ListN.{length, getD}
+use lib.ListN.{getD}
 use Rattle.lists.specs.Bits.{Bit}
-use Rattle.lists.proofs.Members.{getD-any}
 use Rattle.cnf.specs.Clauses.{valueOf}
 use Rattle.cnf.specs.Closing.{_⊑_}
 use Rattle.cnf.proofs.Order.{units-more}
@@ -16,12 +15,12 @@ use Rattle.pairs.specs.Pairs.{variableOf}
 use Rattle.pairs.proofs.Pairs.{variable-sym}
 use Rattle.pairs.specs.Triangles.{triangles}
 use Rattle.rows.specs.Trail.{Ready, Worked, Attended}
-use Rattle.rows.specs.Rows.{IsJoined, itself, other, IsApart, Rows, without, PairAt}
+use Rattle.rows.specs.Rows.{IsJoined, itself, other, IsApart, Rows, without}
 use Rattle.rows.specs.Conclusions.{Concludes, alike, parted, Spreads, SpreadBoth}
 use Rattle.rows.proofs.Words.{without-of, of-without}
 use Rattle.rows.proofs.Trails.{grown-same}
-use Rattle.rows.proofs.Working.{worked-none, worked-extends, worked-on, worked-trans}
-use Rattle.spreading.proofs.Triangles.{no-triangles, Drawn, drawn-seen, pair-settled}
+use Rattle.rows.proofs.Working.{worked-extends, worked-on, worked-trans}
+use Rattle.spreading.proofs.Triangles.{Drawn, drawn-seen, pair-settled}
 use Rattle.spreading.proofs.Spreading.{spreads-more}
 
 -- ---- the states that the words name
@@ -172,26 +171,3 @@ module _ {n : ℕ} {v t joined apart : List ℕ} {start : ℕ} (i : Ready (trian
           attended all (λ c. drawn all (omega arith)
           (drawn-same rows p q lp lq diff up small-values e (λ r m. let d = k .done-q b r (rw f m) in on .keeps (variableOf q r) (omega arith) ∙ d) (λ r m. l .done-q c r (rw h m)))
           (drawn-same rows q p lq lp diff′ up small-values (turned e) (λ r m. let d = k .done-p b r (rw g m) in on .keeps (variableOf p r) (omega arith) ∙ d) (λ r m. l .done-p c r (rw o m))))
-
--- ---- a variable by its pair
-
-module _ {n x : ℕ} {v t : List ℕ} {start : ℕ} (i : Ready (triangles n) v t start) where
-  -- no states have no clauses of group 2
-  pub attended-none : n ≡ 0 → Attended (triangles n) x v t start v t false start
-  attended-none z = record { worked = worked-none i; settles = λ _ c m. absurd (not-nil (subst (λ (l : List (List ℕ)). List·Memᴰ c l) (ap triangles z ∙ no-triangles) m)) }
-
-  module _ {p q m : ℕ} (g : PairAt n x p q) (b : (x < length v) × (valueOf v x ≢ 2)) (e : m ≡ x) where
-    value-there : valueOf v (variableOf p q) ≡ getD v m 0
-    value-there = ap (valueOf v) (g .is-x ∙ sym e) ∙ getD-any v m 2 0 (omega (arith, b .0))
-
-    pub value-joined : getD v m 0 ≡ 1 → valueOf v (variableOf p q) ≡ 1
-    value-joined k = value-there ∙ k
-
-    pub value-apart : (getD v m 0 ≡ 1 → ⊥) → valueOf v (variableOf p q) ≡ 0
-    value-apart k = omega (arith, value-there, i .values .small (variableOf p q), not-two, k)
-      where
-        not-two : valueOf v (variableOf p q) ≢ 2
-        not-two z = b .1 (ap (valueOf v) (sym (g .is-x)) ∙ z)
-
-  pub at-variable : {p q : ℕ} {w s : List ℕ} {more : ℕ} {isBroken : Bool} → PairAt n x p q → Attended (triangles n) (variableOf p q) v t start w s isBroken more → Attended (triangles n) x v t start w s isBroken more
-  at-variable {w = w} {s = s} {more = more} {isBroken = isBroken} g k = subst (λ (y : ℕ). Attended (triangles n) y v t start w s isBroken more) (g .is-x) k

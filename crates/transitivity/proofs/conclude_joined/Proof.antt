@@ -1,9 +1,9 @@
--- `conclude::conclude_joined` meets its contract: what is set, true and false, is all that p = q says. Assumes nothing.
+-- `transitivity::conclude_joined` meets its contract: what is set, true and false, is all that p = q says. Assumes nothing.
 use Rattle.rows.proofs.Working.{worked-length, worked-on, worked-trans}
-use Rattle.conclude.proofs.Concluding as laws
+use Rattle.transitivity.proofs.Concluding as laws
 use borrow.Author.Needs.{needs}
-use Rattle.conclude.proofs.conclude_joined.Statement.{statement}
-use Rattle.conclude.proofs.conclude_joined.Tie as tie
+use Rattle.transitivity.proofs.conclude_joined.Statement.{statement}
+use Rattle.transitivity.proofs.conclude_joined.Tie as tie
 
 lacking-requires : tie.Need-lacking-requires
 lacking-requires c κs = search needs
