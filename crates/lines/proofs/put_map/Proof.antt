@@ -3,7 +3,7 @@ use mathlib.Core.Path.{_∙_}
 use native.Mathlib.Omega.{arith}
 use Prim.Native.Nat.{_-_}
 use lib.ListN.{length}
-use Rattle.lines.proofs.Putting.{Mapping, mapping, map-on, mapped}
+use Rattle.lines.proofs.Mapping.{Mapping, mapping, map-on, mapped}
 use borrow.Author.Needs.{needs}
 use Rattle.lines.proofs.put_map.Statement.{statement}
 use Rattle.lines.proofs.put_map.Tie as tie

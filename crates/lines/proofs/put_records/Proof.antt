@@ -1,6 +1,6 @@
 -- `lines::put_records` meets its contract: one piece behind the other. Assumes nothing.
 use Rattle.printed.specs.Lines.{recordsText}
-use Rattle.lines.proofs.Putting.{put-on}
+use Rattle.digits.proofs.Putting.{put-on}
 use borrow.Author.Needs.{needs}
 use Rattle.lines.proofs.put_records.Statement.{statement}
 use Rattle.lines.proofs.put_records.Tie as tie

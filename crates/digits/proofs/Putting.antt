@@ -1,17 +1,16 @@
 -- Text that is put together in a buffer, piece by piece. Assumes nothing.
 use mathlib.Core.Path.{_≡_, refl, sym, ap, _∙_, subst}
-use mathlib.Core.List.{List, [], _∷_, _++_, append-assoc, append-nil}
-use Prim.Native.Nat.{ℕ, _+_, _-_, _*_, _≤_, _<_}
+use mathlib.Core.List.{List, [], _++_, append-assoc, append-nil}
+use Prim.Native.Nat.{ℕ, _+_, _-_, _*_, _≤_}
 use native.Mathlib.Omega.{arith}
-use lib.ListN.{length, getD, take, drop, length-append, length-drop}
-use lib.Seq.{take-suc, take-all, take-at, length-take-le}
-use native.Mathlib.Numerals.{add-one}
+use lib.ListN.{length, take, drop, length-append, length-drop}
+use lib.Seq.{take-at, length-take-le}
 use Rattle.lists.specs.Lists.{over}
 use Rattle.lists.proofs.Copying.{copied}
 use Rattle.writing.proofs.Writing.{part-put}
 use Rattle.io.specs.Counts.{Counts}
-use Rattle.printed.specs.Lines.{Put, decimalText, hexText, numbersText, mapName, mapText}
-use Rattle.lines.proofs.Text.{hex-length}
+use Rattle.printed.specs.Lines.{Put, hexText}
+use Rattle.digits.proofs.Text.{hex-length}
 
 -- a piece over what stood behind the place
 put-over : (x old : List ℕ) (at : ℕ) {new : List ℕ} → at + length x ≤ length old → new ≡ take at old ++ over x (drop at old) → Put x at old (at + length x) new
@@ -65,33 +64,3 @@ put-same {a = a} {b = b} {at = at} {r = r} e p = subst (λ (z : List ℕ). Put z
 -- all of it
 pub put-whole : {xs ys old new : List ℕ} {r : ℕ} → xs ≡ ys → Put xs 0 old r new → (take r new ≡ ys) × Counts r new
 put-whole {new = new} {r = r} e p = (p .front ∙ e, (p .inside, sym (length-take-le r new (p .inside))))
-
--- ---- the map's line
-
-numbers-snoc : (xs : List ℕ) (x : ℕ) → numbersText (xs ++ (x ∷ [])) ≡ numbersText xs ++ ((32 ∷ []) ++ decimalText x)
-unfolding numbersText
-numbers-snoc [] x = append-nil ((32 ∷ []) ++ decimalText x)
-numbers-snoc (y ∷ xs) x = ap (λ z. (32 ∷ []) ++ decimalText y ++ z) (numbers-snoc xs x) ∙ sym (append-assoc ((32 ∷ []) ++ decimalText y) (numbersText xs) ((32 ∷ []) ++ decimalText x))
-
--- the classes of the states before q are put
-pub record Mapping (m old new : List ℕ) (at to q : ℕ) : Type 0 where
-  pub inside : q ≤ length m
-  pub few : to ≤ at + 21 * q
-  pub told : Put (numbersText (take q m)) at old to new
-
-pub mapping : (m old : List ℕ) (at : ℕ) → at ≤ length old → Mapping m old old at at 0
-unfolding numbersText
-mapping m old at h = record { inside = omega arith; few = omega arith; told = put-none at old h }
-
-module _ {m old new : List ℕ} {at to q : ℕ} (w : Mapping m old new at to q) where
-  pub map-on : {new' : List ℕ} {r : ℕ} {x : ℕ} → q < length m → x ≡ getD m q 0 → Put ((32 ∷ []) ++ decimalText x) to new r new' → r ≤ to + 1 + 20 → Mapping m old new' at r (q + 1)
-  map-on {x = x} h e p f = record {
-    inside = omega arith;
-    few = omega (arith, w .few);
-    told =
-        put-same (sym (numbers-snoc (take q m) x) ∙ ap (λ z. numbersText (take q m ++ (z ∷ []))) e ∙ ap numbersText (sym (take-suc m q 0 h) ∙ ap (λ n. take n m) (sym (add-one q)))) (put-on (w .told) p);
-  }
-
-  pub mapped : {a new' : List ℕ} {from r : ℕ} → length m ≤ q → Put mapName from a at old → Put (10 ∷ []) to new r new' → Put (mapText m) from a r new'
-  unfolding mapText
-  mapped h f p = put-on (put-on f (put-same (ap numbersText (take-all q m h)) (w .told))) p

@@ -1,12 +1,12 @@
--- `lines::put_number` meets its contract: the name, then the fewest digits. Assumes nothing.
+-- `digits::put_number` meets its contract: the name, then the fewest digits. Assumes nothing.
 use mathlib.Core.Path.{_∙_}
 use native.Mathlib.Omega.{arith}
 use Prim.Native.Nat.{_≤_}
-use Rattle.lines.proofs.Decimals.{few-digits, decimal-text}
-use Rattle.lines.proofs.Putting.{put-on, put-same}
+use Rattle.digits.proofs.Decimals.{few-digits, decimal-text}
+use Rattle.digits.proofs.Putting.{put-on, put-same}
 use borrow.Author.Needs.{needs}
-use Rattle.lines.proofs.put_number.Statement.{statement}
-use Rattle.lines.proofs.put_number.Tie as tie
+use Rattle.digits.proofs.put_number.Statement.{statement}
+use Rattle.digits.proofs.put_number.Tie as tie
 
 put-requires : tie.Need-put-requires
 put-requires c κs = search needs

@@ -1,8 +1,8 @@
--- `lines::digit` meets its contract. Assumes nothing.
-use Rattle.lines.proofs.Text.{low-digit, high-digit}
+-- `digits::digit` meets its contract. Assumes nothing.
+use Rattle.digits.proofs.Text.{low-digit, high-digit}
 use borrow.Author.Needs.{needs}
-use Rattle.lines.proofs.digit.Statement.{statement}
-use Rattle.lines.proofs.digit.Tie as tie
+use Rattle.digits.proofs.digit.Statement.{statement}
+use Rattle.digits.proofs.digit.Tie as tie
 
 add-result : tie.Need-add-result
 add-result c = search needs

@@ -1,8 +1,8 @@
--- `lines::put` meets its contract: the bytes stand behind the place. Assumes nothing.
-use Rattle.lines.proofs.Putting.{put-copied}
+-- `digits::put` meets its contract: the bytes stand behind the place. Assumes nothing.
+use Rattle.digits.proofs.Putting.{put-copied}
 use borrow.Author.Needs.{needs}
-use Rattle.lines.proofs.put.Statement.{statement}
-use Rattle.lines.proofs.put.Tie as tie
+use Rattle.digits.proofs.put.Statement.{statement}
+use Rattle.digits.proofs.put.Tie as tie
 
 sub-copy : tie.Need-sub-copy
 sub-copy c = search needs

@@ -1,11 +1,11 @@
--- `lines::put_hex` meets its contract. The loop's invariant: the first bytes stand as text. Assumes nothing.
+-- `digits::put_hex` meets its contract. The loop's invariant: the first bytes stand as text. Assumes nothing.
 use Prim.Native.Nat.{_-_}
 use native.Mathlib.Omega.{arith}
 use lib.ListN.{length, length-set}
 use borrow.Author.Needs.{needs}
-use Rattle.lines.proofs.Text.{Hexed, none-hexed, hexed-length, hex-on, hex-all}
-use Rattle.lines.proofs.put_hex.Statement.{statement}
-use Rattle.lines.proofs.put_hex.Tie as tie
+use Rattle.digits.proofs.Text.{Hexed, none-hexed, hexed-length, hex-on, hex-all}
+use Rattle.digits.proofs.put_hex.Statement.{statement}
+use Rattle.digits.proofs.put_hex.Tie as tie
 
 abbrev Inv-bytes : tie.InvT-bytes
 Inv-bytes bytes text₀ i₀ text i = Hexed bytes text₀ text i
