@@ -20,9 +20,9 @@ use libc::STDOUT_FILENO;
 use limits::Limits;
 use lines::put_counts;
 use lines::put_map;
-use lines::put_records;
 use lines::put_table;
 use reductions::Reduction;
+use summary::put_records;
 
 // "The program uses 40 and 64."
 fn widest() -> Limits

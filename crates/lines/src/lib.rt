@@ -1,7 +1,7 @@
-// The lines that the program prints, put into a buffer behind each other.
+// The first three lines that the program prints, put into a buffer behind each other.
 ghost use Prim.Native.Nat.{_+_, _*_, _≤_};
 ghost use lib.ListN.{length};
-ghost use Rattle.printed.specs.Lines.{Put, spentText, countsText, mapText, tableText, recordsText};
+ghost use Rattle.printed.specs.Lines.{Put, spentText, countsText, mapText, tableText};
 use digits::put;
 use digits::put_hex;
 use digits::put_number;
@@ -67,23 +67,4 @@ pub fn put_table(bytes: &[u8], text: &mut [u8], at: usize) -> usize
     let from = put(b"table", text, at);
     put_hex(bytes, &mut text[from..]);
     put(b"\n", text, from + 3 * bytes.len())
-}
-
-// `records N kept K folded F dead D`
-pub fn put_records(
-    all: usize,
-    kept: usize,
-    folded: usize,
-    dead: usize,
-    text: &mut [u8],
-    at: usize,
-) -> usize
-    requires { ⌜ at + 120 ≤ length (now text) ⌝ }
-    ensures { λ r. ⌜ Put (recordsText all kept folded dead) at (now (text .entry)) r (now (text .exit)) ⌝ }
-{
-    let mut to = put_number(b"records ", all as u64, text, at);
-    to = put_number(b" kept ", kept as u64, text, to);
-    to = put_number(b" folded ", folded as u64, text, to);
-    to = put_number(b" dead ", dead as u64, text, to);
-    put(b"\n", text, to)
 }

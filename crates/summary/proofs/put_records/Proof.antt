@@ -1,9 +1,9 @@
--- `lines::put_records` meets its contract: one piece behind the other. Assumes nothing.
+-- `summary::put_records` meets its contract: one piece behind the other. Assumes nothing.
 use Rattle.printed.specs.Lines.{recordsText}
 use Rattle.digits.proofs.Putting.{put-on}
 use borrow.Author.Needs.{needs}
-use Rattle.lines.proofs.put_records.Statement.{statement}
-use Rattle.lines.proofs.put_records.Tie as tie
+use Rattle.summary.proofs.put_records.Statement.{statement}
+use Rattle.summary.proofs.put_records.Tie as tie
 
 slice-aggregate-put-number : tie.Need-slice-aggregate-put-number
 slice-aggregate-put-number c = search needs
