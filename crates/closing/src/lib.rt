@@ -7,9 +7,9 @@ ghost use Rattle.rows.specs.Rows.{Rows};
 ghost use Rattle.rows.specs.Trail.{Ready, Queue, Settles};
 ghost use Rattle.restore.specs.Restoring.{Lags};
 ghost use Rattle.closing.specs.Preparing.{Prepared, CaughtIf};
-use conclude::Reached;
 use passes::settle;
 use propagate::settle_indexed;
+use spreading::Reached;
 
 // Closes the values, where clauses wait for the trail's variables from `from` on: by the clauses of each literal where the list is indexed, else by passes.
 pub fn close(

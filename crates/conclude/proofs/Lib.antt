@@ -1,4 +1,2 @@
-pub mod Triangles
-pub mod Spreading
-pub mod Concluding
+pub mod Pairing
 pub mod Queueing

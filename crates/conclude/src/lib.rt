@@ -1,171 +1,17 @@
 // Conclusions from pairs that are set, and from those that they set.
-ghost use mathlib.Core.Path.{_≡_};
 ghost use mathlib.Core.Logic.{_≢_};
 ghost use Prim.Native.Nat.{_<_};
 ghost use lib.ListN.{length};
 ghost use Rattle.cnf.specs.Clauses.{valueOf};
-ghost use Rattle.pairs.specs.Pairs.{variableOf};
 ghost use Rattle.pairs.specs.Entries.{PairTable};
 ghost use Rattle.pairs.specs.Triangles.{triangles};
 ghost use Rattle.rows.specs.Trail.{Ready, Attended, Queue, Drained};
 ghost use Rattle.rows.specs.Rows.{Rows};
-ghost use Rattle.rows.specs.Conclusions.{Spreads, Spread, SpreadBoth};
 use pairs::pair_of;
-use pairs::variable_of;
-use rows::lacking;
-use rows::put;
 use rows::wide;
-
-// Whether a clause is broken, and how many variables are set.
-pub struct Reached {
-    pub broken: bool,
-    pub count: usize,
-}
-
-// For each state of the word `todo`: its pair with q is x.
-fn spread(
-    n: u8,
-    q: u8,
-    todo: u64,
-    x: u8,
-    values: &mut [u8],
-    trail: &mut [u16],
-    joined: &mut [u64; 40],
-    apart: &mut [u64; 40],
-    start: usize,
-) -> Reached
-    requires { ⌜ Ready (triangles n) (now values) (now trail) start × Rows n (now values) (now joined) (now apart) ⌝ }
-    requires { ⌜ Spreads n (now values) q todo x ⌝ }
-    ensures { λ r. ⌜
-        Spread n (now (values .entry)) (now (trail .entry)) start q todo x (now (values .exit)) (now (trail .exit)) (r .broken) (r .count)
-        × Rows n (now (values .exit)) (now (joined .exit)) (now (apart .exit)) ⌝ }
-{
-    let mut count = start;
-    let mut rest = todo;
-    'states: while rest != 0 {
-        let s = words::next_state(rest) as u8;
-        rest = words::later_states(rest);
-        let v = variable_of(q, s);
-        let y = values[wide(v)];
-        if y == 2 {
-            count = put(v, q, s, x, values, trail, joined, apart, count);
-            continue 'states;
-        }
-        if y != x {
-            return Reached {
-                broken: true,
-                count,
-            };
-        }
-    }
-    Reached {
-        broken: false,
-        count,
-    }
-}
-
-// For each state of the word `todo` its pair with q is x, and for each of `back` that with p.
-fn spread_both(
-    n: u8,
-    p: u8,
-    q: u8,
-    todo: u64,
-    back: u64,
-    x: u8,
-    values: &mut [u8],
-    trail: &mut [u16],
-    joined: &mut [u64; 40],
-    apart: &mut [u64; 40],
-    start: usize,
-) -> Reached
-    requires { ⌜ Ready (triangles n) (now values) (now trail) start × Rows n (now values) (now joined) (now apart) ⌝ }
-    requires { ⌜ Spreads n (now values) q todo x × Spreads n (now values) p back x ⌝ }
-    ensures { λ r. ⌜
-        SpreadBoth n (now (values .entry)) (now (trail .entry)) start p q todo back x (now (values .exit)) (now (trail .exit)) (r .broken) (r .count)
-        × Rows n (now (values .exit)) (now (joined .exit)) (now (apart .exit)) ⌝ }
-{
-    let a = spread(n, q, todo, x, values, trail, joined, apart, start);
-    if a.broken {
-        return a;
-    }
-    spread(n, p, back, x, values, trail, joined, apart, a.count)
-}
-
-// What p = q says of every third state: whatever holds of one of them holds of the other.
-fn conclude_joined(
-    n: u8,
-    p: u8,
-    q: u8,
-    values: &mut [u8],
-    trail: &mut [u16],
-    joined: &mut [u64; 40],
-    apart: &mut [u64; 40],
-    start: usize,
-) -> Reached
-    requires { ⌜ Ready (triangles n) (now values) (now trail) start × Rows n (now values) (now joined) (now apart) ⌝ }
-    requires { ⌜ (p < q) × (q < n) × (valueOf (now values) (variableOf p q) ≡ 1) ⌝ }
-    ensures { λ r. ⌜
-        Attended (triangles n) (variableOf p q) (now (values .entry)) (now (trail .entry)) start (now (values .exit)) (now (trail .exit)) (r .broken)
-        (r .count)
-        × Rows n (now (values .exit)) (now (joined .exit)) (now (apart .exit)) ⌝ }
-{
-    let to_q = lacking(joined, p, joined, q);
-    let to_p = lacking(joined, q, joined, p);
-    let from_q = lacking(apart, p, apart, q);
-    let from_p = lacking(apart, q, apart, p);
-    let a = spread_both(n, p, q, to_q, to_p, 1, values, trail, joined, apart, start);
-    if a.broken {
-        return a;
-    }
-    spread_both(
-        n,
-        p,
-        q,
-        from_q,
-        from_p,
-        0,
-        values,
-        trail,
-        joined,
-        apart,
-        a.count,
-    )
-}
-
-// What p ≠ q says of every third state: it is joined to at most one of them.
-fn conclude_apart(
-    n: u8,
-    p: u8,
-    q: u8,
-    values: &mut [u8],
-    trail: &mut [u16],
-    joined: &mut [u64; 40],
-    apart: &mut [u64; 40],
-    start: usize,
-) -> Reached
-    requires { ⌜ Ready (triangles n) (now values) (now trail) start × Rows n (now values) (now joined) (now apart) ⌝ }
-    requires { ⌜ (p < q) × (q < n) × (valueOf (now values) (variableOf p q) ≡ 0) ⌝ }
-    ensures { λ r. ⌜
-        Attended (triangles n) (variableOf p q) (now (values .entry)) (now (trail .entry)) start (now (values .exit)) (now (trail .exit)) (r .broken)
-        (r .count)
-        × Rows n (now (values .exit)) (now (joined .exit)) (now (apart .exit)) ⌝ }
-{
-    let from_q = lacking(joined, p, apart, q);
-    let from_p = lacking(joined, q, apart, p);
-    spread_both(
-        n,
-        p,
-        q,
-        from_q,
-        from_p,
-        0,
-        values,
-        trail,
-        joined,
-        apart,
-        start,
-    )
-}
+use spreading::Reached;
+use transitivity::conclude_apart;
+use transitivity::conclude_joined;
 
 // What the pair of a variable that is set says of every third state. With no states there is none.
 pub fn conclude(

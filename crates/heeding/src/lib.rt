@@ -8,9 +8,9 @@ ghost use Rattle.rows.specs.Trail.{Ready};
 ghost use Rattle.heeding.specs.Heeding.{Told, Heeded};
 use asking::is_right;
 use asking::is_unset;
-use conclude::Reached;
 use rows::force;
 use rows::wide;
+use spreading::Reached;
 
 // Sees to clauses that have at most one literal left, by their words: one that is unset is forced, and without one the clause is broken.
 pub fn heed(

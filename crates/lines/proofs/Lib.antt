@@ -1,3 +1,1 @@
-pub mod Decimals
-pub mod Putting
-pub mod Text
+pub mod Mapping

@@ -9,10 +9,10 @@ ghost use Rattle.rows.specs.Rows.{Rows};
 ghost use Rattle.rows.specs.Trail.{Ready, OnePass, Queue, Settles};
 use asking::is_right;
 use asking::is_unset;
-use conclude::Reached;
 use conclude::drain;
 use rows::force;
 use rows::wide;
+use spreading::Reached;
 
 // One pass over the clauses, which sets what is forced as it meets it and is left at a clause whose literals are all false. In a clause `at` is
 // its end, where the next one starts, and `i` the place of the next literal.

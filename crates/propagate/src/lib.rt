@@ -9,10 +9,10 @@ ghost use Rattle.rows.specs.Trail.{Ready, Queue, Settles};
 ghost use Rattle.tallies.specs.Tallies.{Indexed};
 ghost use Rattle.tallies.specs.Behind.{Behind};
 ghost use Rattle.propagate.specs.Sinking.{Room, Caught};
-use conclude::Reached;
 use conclude::conclude;
 use heeding::heed;
 use rows::wide;
+use spreading::Reached;
 use tallies::fall;
 use tallies::false_literal;
 

@@ -44,7 +44,7 @@ use Rattle.turning.specs.Turns.{noneSet, Fresh, EndsWith}
 use Rattle.rows.specs.Conclusions.{withTriangles}
 use Rattle.turning.specs.declared.Ending.{Ending}
 use Rattle.turning.specs.declared.Ending.the-variants.{Found, Absent, Spent}
-use Rattle.search.proofs.Answering.{prefix-is, prefix-values}
+use Rattle.engine.proofs.Prefixes.{prefix-is, prefix-values}
 use Rattle.quotients.specs.Quotient.{quotientNumber, QuotientDone, quotientOf}
 use Rattle.quotients.specs.declared.Written.{Written}
 use Rattle.quotients.specs.declared.Written.the-variants.{Length, Refused as NotWritten}

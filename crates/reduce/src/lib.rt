@@ -111,8 +111,8 @@ fn solve_listed(
         (λ L list. afterSearch L (now (table .entry)) list (now (map .entry)) (now (out .entry)) (triedOfTable (now (table .entry)) budget)) ⌝ }
 {
     let variables = pairs::pairs_of(n) as usize;
-    let mut values = search::none_set();
-    let end = search::solve(list, n, &mut values[..variables], budget);
+    let mut values = engine::none_set();
+    let end = engine::solve(list, n, &mut values[..variables], budget);
     let ending = end.ending;
     let made = made_by(ending);
     if made.absent {

@@ -3,5 +3,3 @@ pub mod Working
 pub mod Words
 pub mod Marking
 pub mod Setting
-pub mod Undoing
-pub mod Unwinding

@@ -1,4 +1,3 @@
 pub mod Trail
 pub mod Rows
 pub mod Conclusions
-pub mod Undo

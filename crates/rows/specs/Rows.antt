@@ -4,12 +4,10 @@ use mathlib.Core.Logic.{_≢_}
 use mathlib.Core.List.{List}
 use Prim.Native.Nat.{ℕ, _+_, _-_, _/_, _%_, _^_, _≤_, _<_}
 use lib.ListN.{length, getD, set}
-use lib.Seq.{slice}
 use lib.Bits.{bitAnd, bitOr, bitXor}
 use Rattle.lists.specs.Bits.{Bit}
 use Rattle.cnf.specs.Clauses.{valueOf}
 use Rattle.pairs.specs.Pairs.{pairs, variableOf}
-use Rattle.rows.specs.Trail.{unsetting}
 
 -- s is p, or joined to it
 pub data IsJoined (n : ℕ) (v : List ℕ) (p s : ℕ) : Type 0 where
@@ -96,8 +94,3 @@ pub record Forced (n : ℕ) (v t : List ℕ) (count l : ℕ) (w s joined apart :
   pub assigned : Assigned n v (l / 2) (1 - l % 2) w joined apart
   pub trail : s ≡ set t count (l / 2)
   pub count-more : r ≡ count + 1
-
--- the variables of the trail from mark on are unset
-pub record Unwound (n : ℕ) (v t : List ℕ) (mark count : ℕ) (w joined apart : List ℕ) : Type 0 where
-  pub values : w ≡ unsetting v (slice mark count t)
-  pub rows : Rows n w joined apart

@@ -1,16 +1,15 @@
-// Variables that are set and unset: their values, the words of joined and apart states, and the way back along the trail.
+// Variables that are set: their values, and the words of joined and apart states.
 ghost use mathlib.Core.Path.{_≡_};
 ghost use Prim.Native.Nat.{_-_, _%_};
 
-mod retract;
 mod rows;
 
-pub use retract::undo;
-pub use retract::unwind;
+pub use rows::assign;
 pub use rows::force;
 pub use rows::lacking;
 pub use rows::own_rows;
 pub use rows::put;
+pub use rows::unmark;
 
 // The value of its variable that makes a literal true.
 pub fn wanted(l: u16) -> u8

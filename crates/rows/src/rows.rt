@@ -9,13 +9,6 @@ use super::wanted;
 use super::wide;
 use pairs::pair_of;
 
-// A state as an index.
-fn index(x: u8) -> usize
-    ensures { λ r. ⌜ r ≡ x ⌝ }
-{
-    x as usize
-}
-
 // The word whose only state is x.
 fn bit(x: u8) -> u64
     requires { ⌜ x < 64 ⌝ }
@@ -36,7 +29,7 @@ pub fn lacking(a: &[u64; 40], p: u8, b: &[u64; 40], q: u8) -> u64
     requires { ⌜ (p < 40) × (q < 40) ⌝ }
     ensures { λ r. ⌜ r ≡ without (getD (now (a .entry)) p 0) (getD (now (b .entry)) q 0) ⌝ }
 {
-    without(a[index(p)], b[index(q)])
+    without(a[casts::wide(p)], b[casts::wide(q)])
 }
 
 // Each state's word has that state alone: nothing is joined yet.
@@ -46,7 +39,7 @@ pub fn own_rows() -> [u64; 40]
     let mut words = [0u64; 40];
     let mut p: u8 = 0;
     'states: while p < 40 {
-        words[index(p)] = bit(p);
+        words[casts::wide(p)] = bit(p);
         p += 1;
     }
     words
@@ -57,7 +50,7 @@ fn gain(words: &mut [u64; 40], p: u8, q: u8)
     requires { ⌜ (p < 40) × (q < 40) ⌝ }
     ensures { λ _. ⌜ now (words .exit) ≡ gain (now (words .entry)) p q ⌝ }
 {
-    let i = index(p);
+    let i = casts::wide(p);
     words[i] = words[i] | bit(q);
 }
 
@@ -75,12 +68,12 @@ fn lose(words: &mut [u64; 40], p: u8, q: u8)
     requires { ⌜ (p < 40) × (q < 40) ⌝ }
     ensures { λ _. ⌜ now (words .exit) ≡ lose (now (words .entry)) p q ⌝ }
 {
-    let i = index(p);
+    let i = casts::wide(p);
     words[i] = without(words[i], bit(q));
 }
 
 // And p the word of q.
-pub(crate) fn unmark(words: &mut [u64; 40], p: u8, q: u8)
+pub fn unmark(words: &mut [u64; 40], p: u8, q: u8)
     requires { ⌜ (p < 40) × (q < 40) ⌝ }
     ensures { λ _. ⌜ now (words .exit) ≡ unmarked (now (words .entry)) p q ⌝ }
 {
@@ -124,7 +117,7 @@ pub fn put(
 }
 
 // Gives an unset variable a value.
-pub(crate) fn assign(
+pub fn assign(
     n: u8,
     table: &[u16],
     x: u16,

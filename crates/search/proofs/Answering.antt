@@ -1,4 +1,4 @@
--- Laws for the operation: the values that the search begins with and those that come back, and the outcome. Assumes nothing.
+-- Laws for the operation: the outcome of the search, and the variables of the limits. Assumes nothing.
 use mathlib.Core.Path.{_≡_, refl, sym, ap, _∙_}
 use mathlib.Core.Bool.{true}
 use mathlib.Core.List.{List, _∷_, _++_}
@@ -15,47 +15,10 @@ use Rattle.turning.specs.declared.Ending.{Ending}
 use Rattle.turning.specs.declared.Ending.the-variants.{Found, Absent, Spent}
 use Rattle.rows.specs.Conclusions.{withTriangles}
 use Rattle.turning.specs.Turns.{noneSet, Fresh, EndsWith, outcomeOf}
-use Rattle.conclude.proofs.Triangles.{with-none}
+use Rattle.spreading.proofs.Triangles.{with-none}
 use Rattle.turning.proofs.Ends.{ends-outcome}
 
--- ---- the values and the outcome
-
-take-replicate : (n m : ℕ) → n ≤ m → take {A = ℕ} n (replicate m 2) ≡ replicate n 2
-take-replicate zero m h = refl
-take-replicate (suc n) zero h = absurd (omega arith)
-take-replicate (suc n) (suc m) h = ap (λ (l : List ℕ). 2 ∷ l) (take-replicate n m (omega arith))
-
-module _ (n : ℕ) (h : n ≤ 780) {s : List ℕ} (z : s ≡ noneSet) where
-  pub prefix-is : take n s ≡ replicate n 2
-  unfolding noneSet
-  prefix-is = ap (take n) z ∙ take-replicate n 780 h
-
-  pub prefix-length : length (take n s) ≡ n
-  prefix-length = ap length prefix-is ∙ length-replicate {A = ℕ} n 2
-
-  pub fresh : {ws : List ℕ} → whole ws ≡ true → Formed (clausesIn ws) n → Fresh ws 0 (take n s)
-  fresh w f = record {
-    all-there = w;
-    formed = rw prefix-length f;
-    none-set = rw prefix-length prefix-is;
-    most = rw prefix-length h;
-    few = omega arith;
-    size = λ k. absurd (omega arith);
-  }
-
-  -- the values that come back, in front of the rest of the array
-  module _ (v : List ℕ) (e : length v ≡ length (take n s)) where
-    long : length v ≡ n
-    long = e ∙ prefix-length
-
-    pub prefix-room : n ≤ length (v ++ drop n s)
-    prefix-room = omega (arith, long, length-append v (drop n s))
-
-    pub prefix-values : take n (v ++ drop n s) ≡ v
-    prefix-values = take-at v (drop n s) n long
-
-    pub prefix-size : length (take n (v ++ drop n s)) ≡ n
-    prefix-size = ap length prefix-values ∙ long
+-- ---- the outcome
 
 module _ (ws : List ℕ) (n b : ℕ) (r : Ending) (v : List ℕ) (u : ℕ) {m : ℕ} (e : m ≡ n) (q : EndsWith (searchTried (withTriangles ws 0) m b) r v u) where
   outcome : outcomeOf r v ≡ searchFrom (clausesIn ws) n b

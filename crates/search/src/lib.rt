@@ -6,24 +6,13 @@ ghost use Rattle.limits.specs.Limits.{standard, limitsFit};
 ghost use Rattle.pairs.specs.Pairs.{pairs};
 ghost use Rattle.solutions.specs.Answers.{Searched, searchAt, searchOf, SearchSays};
 ghost use Rattle.solutions.specs.Demands.{SearchSound};
-ghost use Rattle.turning.specs.Turns.{noneSet};
+use engine::none_set;
+use engine::solve;
 use fits::list_fits;
 use limits::Limits;
 use limits::limits_fit;
 use solutions::Solution;
 use turning::Ending;
-
-mod engine;
-
-pub use engine::End;
-pub use engine::solve;
-
-// Room for the values of 780 variables, none of which is set.
-pub fn none_set() -> [u8; 780]
-    ensures { λ r. ⌜ r ≡ noneSet ⌝ }
-{
-    [2u8; 780]
-}
 
 // Searches over at most so many variables.
 fn search_at(

@@ -1,2 +1,1 @@
 pub mod Sifting
-pub mod Lightening

@@ -9,12 +9,11 @@ use native.Mathlib.Omega.{arith}
 use native.Mathlib.Decide.{ℕ-discrete}
 use lib.Dec.{eqb}
 use lib.ListN.{length, getD, set, length-set}
-use lib.Seq.{slice, slice-empty, slice-cons, length-slice, set-getD, set-set, getD-set-same, getD-set-other}
+use lib.Seq.{slice, slice-empty, slice-cons, length-slice, set-getD, getD-set-same, getD-set-other}
 use Rattle.cnf.specs.Clauses.{valueOf}
 use Rattle.cnf.specs.Closing.{_⊑_, unsetCount}
 use Rattle.rows.specs.Trail.{unsetting, Grown}
-use Rattle.rows.specs.Undo.{Undone}
-use Rattle.rows.proofs.Trails.{unsetting-append, length-unsetting, unsetting-store, grown-slice, grown-length}
+use Rattle.rows.proofs.Trails.{unsetting-append, unsetting-store, grown-slice, grown-length}
 use Rattle.tallies.specs.Tallies.{Tallied}
 use Rattle.tallies.specs.Behind.{earlier, Behind}
 
@@ -107,10 +106,10 @@ module _ {v t w s : List ℕ} {count more at : ℕ} (g : Grown v t count w s mor
   pub behind-grown : {ws words : List ℕ} → Behind ws v t at count words → Behind ws w s at more words
   behind-grown b = record { tallied = rw earlier-grown (b .tallied); counted = rw (earlier-grown, grown-length g) (b .counted) }
 
--- ---- a guess is made, and undone
+-- ---- a guess is made
 
 -- the trail's variable at a place
-one-there : (t : List ℕ) (at : ℕ) → at < length t → slice at (at + 1) t ≡ getD t at 0 ∷ []
+pub one-there : (t : List ℕ) (at : ℕ) → at < length t → slice at (at + 1) t ≡ getD t at 0 ∷ []
 one-there t at h = slice-cons at (at + 1) t 0 (omega arith) (omega (arith, h)) ∙ rw (← add-one at, slice-empty)
 
 pub behind-guess : {ws v words : List ℕ} (t : List ℕ) (at x k : ℕ) → Tallied ws v words → at + unsetCount v ≡ length v → valueOf v x ≡ 2 → at < length t → Behind ws (set v x k) (set t at x) at (at + 1) words
@@ -118,22 +117,3 @@ behind-guess {ws} {v} {words} t at x k b c e h = record { tallied = subst (λ (u
   where
     then : earlier (set v x k) (set t at x) at (at + 1) ≡ v
     then = ap (unsetting (set v x k)) (one-there (set t at x) at (rw length-set h) ∙ ap (λ (y : ℕ). y ∷ []) (getD-set-same t at x 0 h)) ∙ unsetting-store v x k e
-
-pub behind-undone : {ws w s words v : List ℕ} {mark more x : ℕ} → mark < more → more ≤ length s → Undone w s mark more v x → Behind ws w s mark more words → Behind ws v s mark (mark + 1) words
-unfolding unsetting
-behind-undone {ws} {w} {s} {words} {v} {mark} {more} {x} h room n b = record {
-  tallied = subst (λ (u : List ℕ). Tallied ws u words) (sym then) (b .tallied);
-  counted = rw then (omega (arith, b .counted, ap length (n .values), length-set (unsetting w (slice mark more s)) x 0, length-unsetting w (slice mark more s)));
-}
-  where
-    u : List ℕ
-    u = unsetting w (slice (mark + 1) more s)
-
-    first : unsetting w (slice mark more s) ≡ set u (getD s mark 0) 2
-    first = let one : slice mark more s ≡ getD s mark 0 ∷ slice (mark + 1) more s = rw add-one (slice-cons mark more s 0 h room) in ap (unsetting w) one
-
-    then : earlier v s mark (mark + 1) ≡ earlier w s mark more
-    then =
-        ap (unsetting v) (one-there s mark (omega (arith, h, room)))
-        ∙ ap (λ (y : List ℕ). set y (getD s mark 0) 2) (n .values ∙ ap (set (unsetting w (slice mark more s)) x) refl)
-        ∙ rw (n .variable) (set-set (unsetting w (slice mark more s)) (getD s mark 0) 0 2 ∙ rw first (set-set u (getD s mark 0) 2 2))

@@ -8,9 +8,9 @@ use lib.ListN.{length, getD, take}
 use lib.Seq.{slice, take-take}
 use Rattle.cnf.specs.Trials.{onlyTrue, satisfied}
 use Rattle.rows.specs.Trail.{unsetting}
-use Rattle.trial.specs.Trial.{heldIf, backAlong, Retraceable}
-use Rattle.rows.specs.Undo.{Undoable}
 use Rattle.rows.proofs.Trails.{length-unsetting}
+use Rattle.retract.specs.Undo.{Undoable}
+use Rattle.trial.specs.Trial.{heldIf, backAlong, Retraceable}
 
 -- the walk came from the values v₀, with d₀ guesses and count₀ variables on the trail t, to v, with d and count
 pub record Retracing (cs : List (List ℕ)) (ms v₀ t : List ℕ) (d₀ count₀ : ℕ) (v : List ℕ) (d count : ℕ) : Type 0 where

@@ -28,22 +28,23 @@ use Rattle.cnf.proofs.Closure.{closes-one, closes-below, units-break, turnTo, a
 use Rattle.cnf.proofs.Trying.{closedTrials, endOf, TriesTo, there, turn, tried-outcome, turns-tried}
 use Rattle.cnf.proofs.Trials.{latest as latestTrial, Holds, holds-start, holds-closed, holds-undone, holds-guess, holds-latest, horn-trial, solved-held, tried-alike}
 use Rattle.pairs.specs.Triangles.{triangles}
-use Rattle.sifting.specs.Sift.{Left, Sifts, AllSet, lightened, Lightens}
+use Rattle.sifting.specs.Sift.{Left, Sifts}
+use Rattle.lightening.specs.Lighten.{AllSet, lightened, Lightens}
 use Rattle.rows.specs.Trail.{unsetting, Ready, Grown, Worked, Queue, closedBy, Settles}
 use Rattle.rows.specs.Rows.{Rows, Own, Settable, Forced}
 use Rattle.rows.specs.Conclusions.{withTriangles}
 use Rattle.trial.specs.Trial.{heldIf, backAlong, Retraceable}
 use Rattle.turning.specs.Turns.{NextUnset, LowestUnset, Fresh, Begun, Rested, EndsWith, outcomeOf}
-use Rattle.rows.specs.Undo.{Undoable, Undone}
+use Rattle.retract.specs.Undo.{Undoable, Undone}
 use Rattle.turning.specs.declared.Ending.{Ending}
 use Rattle.turning.specs.declared.Ending.the-variants.{Found, Absent, Spent}
 use Rattle.rows.proofs.Trails.{unsetting-append, length-unsetting, unsetting-store, grown-length, grown-store}
 use Rattle.rows.proofs.Working.{worked-length, worked-on, worked-part, ready-part}
 use Rattle.passes.proofs.Attending.{to-cs}
 use Rattle.passes.proofs.Settling.{worked-queue}
-use Rattle.sifting.proofs.Lightening.{covered, lighter-to, lighter-from, lighter-formed}
+use Rattle.lightening.proofs.Lightening.{covered, lighter-to, lighter-from, lighter-formed}
 use Rattle.rows.proofs.Marking.{rows-start}
-use Rattle.conclude.proofs.Triangles.{with-formed, triangles-horn, unset-rest}
+use Rattle.spreading.proofs.Triangles.{with-formed, triangles-horn, unset-rest}
 
 -- ---- the guesses that stand
 

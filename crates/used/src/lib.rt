@@ -1,9 +1,11 @@
 // The lines of use counts: what a line says, and what refuses the lines.
 ghost use mathlib.Core.Path.{_≡_};
-ghost use Prim.Native.Nat.{_<_, _≤_};
+ghost use Prim.Native.Nat.{_≤_};
 ghost use lib.ListN.{length};
 ghost use Rattle.lists.specs.Lists.{firstFailed};
 ghost use Rattle.usage.specs.Uses.{lineOf, statesFit, linesTests};
+use casts::long;
+use casts::wide;
 
 // The bytes of a line: "a state (one byte) and a use count (32 bits, little-endian)".
 const LINE: usize = 5;
@@ -11,25 +13,12 @@ const LINE: usize = 5;
 // "over 65,536 lines"
 const LINES: usize = 65536;
 
-fn wide(x: u8) -> u64
-    ensures { λ r. ⌜ (r ≡ x) × (r < 256) ⌝ }
-{
-    x as u64
-}
-
-// A byte as an index.
-pub fn index(x: u8) -> usize
-    ensures { λ r. ⌜ r ≡ x ⌝ }
-{
-    x as usize
-}
-
 // The state of a line.
 pub fn state_in(line: &[u8]) -> usize
     requires { ⌜ length (now line) ≡ 5 ⌝ }
     ensures { λ r. ⌜ r ≡ lineOf (now (line .entry)) .state ⌝ }
 {
-    index(line[0])
+    wide(line[0])
 }
 
 // The use count of a line, the lowest byte first.
@@ -38,7 +27,7 @@ pub fn uses_in(line: &[u8]) -> u64
     ensures { λ r. ⌜ r ≡ lineOf (now (line .entry)) .uses ⌝ }
     ensures small { λ r. ⌜ r ≤ 4294967295 ⌝ }
 {
-    wide(line[1]) + 256 * wide(line[2]) + 65536 * wide(line[3]) + 16777216 * wide(line[4])
+    long(line[1]) + 256 * long(line[2]) + 65536 * long(line[3]) + 16777216 * long(line[4])
 }
 
 // 33: every line's state is below n.

@@ -10,7 +10,6 @@ ghost use Rattle.usage.specs.Demands.{Fits, Promises};
 use limits::Limits;
 use relations::Checked;
 use usage::Counted;
-use used::index;
 use used::lines_number;
 use used::state_in;
 use used::uses_in;
@@ -30,7 +29,7 @@ fn add_lines(lines: &[u8], map: &[u8]) -> Counted
     'lines: while LINE <= lines.len() - at {
         let next = at + LINE;
         let uses = uses_in(&lines[at..next]);
-        let class = index(numbering::class_of(map, state_in(&lines[at..next])));
+        let class = casts::wide(numbering::class_of(map, state_in(&lines[at..next])));
         sums[class] += uses;
         total += uses;
         at = next;

@@ -10,7 +10,7 @@ use Rattle.relations.specs.Check.{checkNumber}
 use Rattle.reductions.proofs.Theorems.{delivered-fits}
 use Rattle.printed.specs.Program.{widest}
 use Rattle.printed.specs.Lines.{refusedText}
-use Rattle.lines.proofs.Putting.{put-on, put-whole}
+use Rattle.digits.proofs.Putting.{put-on, put-whole}
 use Rattle.printed.proofs.Going.{delivered-checked, map-checked, delivered-text, refused-text}
 use borrow.Author.Needs.{needs}
 use Rattle.basilvault.proofs.reduce_lent.Statement.{statement}

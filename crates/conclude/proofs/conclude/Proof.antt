@@ -1,7 +1,7 @@
 -- `conclude::conclude` meets its contract: the variable is read as its pair. Assumes nothing.
 use Rattle.rows.proofs.Setting.{pair-of}
 use Rattle.rows.proofs.Working.{worked-length}
-use Rattle.conclude.proofs.Concluding as laws
+use Rattle.conclude.proofs.Pairing as laws
 use borrow.Author.Needs.{needs}
 use Rattle.conclude.proofs.conclude.Statement.{statement}
 use Rattle.conclude.proofs.conclude.Tie as tie

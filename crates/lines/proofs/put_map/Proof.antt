@@ -3,7 +3,7 @@ use mathlib.Core.Path.{_∙_}
 use native.Mathlib.Omega.{arith}
 use Prim.Native.Nat.{_-_}
 use lib.ListN.{length}
-use Rattle.lines.proofs.Putting.{Mapping, mapping, map-on, mapped}
+use Rattle.lines.proofs.Mapping.{Mapping, mapping, map-on, mapped}
 use borrow.Author.Needs.{needs}
 use Rattle.lines.proofs.put_map.Statement.{statement}
 use Rattle.lines.proofs.put_map.Tie as tie
@@ -26,11 +26,11 @@ states-holds c = mapping _ _ _ (c .before .before .put .ensures .inside)
 slice-aggregate-put-number : tie.Need-slice-aggregate-put-number Inv-states μ-states
 slice-aggregate-put-number c = search needs
 
-shared-slice-read-wide : tie.Need-shared-slice-read-wide Inv-states μ-states
-shared-slice-read-wide c = search needs
+shared-slice-read-long : tie.Need-shared-slice-read-long Inv-states μ-states
+shared-slice-read-long c = search needs
 
-wide-requires : tie.Need-wide-requires Inv-states μ-states
-wide-requires c κs = search needs
+long-requires : tie.Need-long-requires Inv-states μ-states
+long-requires c κs = search needs
 
 put-number-requires : tie.Need-put-number-requires Inv-states μ-states
 put-number-requires c κs = let a = c .before .before .before .before .before .before .before .before .before .before .before .before .before in let i = c .before .before .before .before .before .states .inv in let p = c .before .before .before .before .before .before .before .before .put .ensures in omega (arith, a .pre, i .few, i .told .long, c .before .before .before .before .states-test .taken, p .place, p .long)
@@ -44,7 +44,7 @@ states-less c = search needs
 states-again : tie.Need-states-again Inv-states μ-states
 states-again c =
     let the-put-number = c .before .before .put-number in
-    map-on (c .before .before .before .before .before .before .before .before .states .inv) (c .before .before .before .before .before .before .before .states-test .taken) (c .before .before .before .before .wide .ensures) (the-put-number .ensures .0) (the-put-number .ensures .1)
+    map-on (c .before .before .before .before .before .before .before .before .states .inv) (c .before .before .before .before .before .before .before .states-test .taken) (c .before .before .before .before .long .ensures .0) (the-put-number .ensures .0) (the-put-number .ensures .1)
 
 slice-aggregate-put-2 : tie.Need-slice-aggregate-put-2 Inv-states μ-states
 slice-aggregate-put-2 c = search needs
@@ -72,8 +72,8 @@ put-map-spec =
     put-requires
     states-holds
     slice-aggregate-put-number
-    shared-slice-read-wide
-    wide-requires
+    shared-slice-read-long
+    long-requires
     put-number-requires
     add-q
     states-less

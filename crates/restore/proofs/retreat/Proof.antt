@@ -1,7 +1,7 @@
 -- `restore::retreat` meets its contract. Assumes nothing.
 use borrow.Author.Needs.{needs}
 use native.Mathlib.Omega.{arith}
-use Rattle.tallies.proofs.Lagging.{behind-undone}
+use Rattle.restore.proofs.Retreating.{behind-undone}
 use Rattle.restore.proofs.retreat.Statement.{statement}
 use Rattle.restore.proofs.retreat.Tie as tie
 

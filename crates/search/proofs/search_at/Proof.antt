@@ -8,6 +8,7 @@ use borrow.Author.Tests.{not-true, not-false}
 use mathlib.Core.Bool.{true, false}
 use mathlib.Core.Path.{sym, ap, _∙_}
 use Rattle.solutions.proofs.Answers as answers
+use Rattle.engine.proofs.Prefixes as prefixes
 use Rattle.search.proofs.Answering as laws
 use Rattle.lists.specs.Lists.{over}
 use lib.ListN.{take, drop}
@@ -61,7 +62,7 @@ array-borrow-prefix-values : tie.Need-array-borrow-prefix-values
 array-borrow-prefix-values c = let h = laws.room (c .before .before .before .before .if1 .left) (c .before .before .before .before .before .before .before .pre) in search needs
 
 slice-aggregate-solve : tie.Need-slice-aggregate-solve
-slice-aggregate-solve c = sym (laws.prefix-length (c .before .before .before .before .before .before .before .before .args .variables) (laws.room (c .before .before .before .before .before .if1 .left) (c .before .before .before .before .before .before .before .before .pre)) (c .before .none-set .ensures))
+slice-aggregate-solve c = sym (prefixes.prefix-length (c .before .before .before .before .before .before .before .before .args .variables) (laws.room (c .before .before .before .before .before .if1 .left) (c .before .before .before .before .before .before .before .before .pre)) (c .before .none-set .ensures))
 
 solve-requires : tie.Need-solve-requires
 solve-requires c κs =
@@ -73,7 +74,7 @@ solve-requires c κs =
     let room = laws.room most (c .before .before .before .before .before .before .before .before .pre) in
     let fits = answers.list-as k n l most true (sym (c .before .before .before .before .list-fits .ensures) ∙ not-false _ (c .before .before .before .if2 .left)) in
     let f = answers.list-formed k n l fits in
-    laws.fresh n room (c .before .none-set .ensures) (f .1) (f .2)
+    prefixes.fresh n room (c .before .none-set .ensures) (f .1) (f .2)
 
 enum-known-ending : tie.Need-enum-known-ending
 enum-known-ending c = search needs
@@ -89,7 +90,7 @@ array-share-prefix-values c =
     let none = c .before .before .before .before .before .before .none-set .ensures in
     let v = the-solve .last .1 .1 .0 in
     let long = the-solve .kept .1 .1 .0 in
-    laws.prefix-room n room none v long
+    prefixes.prefix-room n room none v long
 
 slice-aggregate-copy : tie.Need-slice-aggregate-copy
 slice-aggregate-copy c =
@@ -102,7 +103,7 @@ slice-aggregate-copy c =
     let none = c .before .before .before .before .before .before .before .none-set .ensures in
     let v = the-solve .last .1 .1 .0 in
     let long = the-solve .kept .1 .1 .0 in
-    sym (laws.prefix-size n room none v long)
+    sym (prefixes.prefix-size n room none v long)
 
 copy-requires : tie.Need-copy-requires
 copy-requires c κs =
@@ -115,7 +116,7 @@ copy-requires c κs =
     let none = c .before .before .before .before .before .before .before .before .none-set .ensures in
     let v = the-solve .last .1 .1 .0 in
     let long = the-solve .kept .1 .1 .0 in
-    omega (arith, laws.prefix-size n room none v long, c .before .before .before .before .before .before .before .before .before .if3 .left)
+    omega (arith, prefixes.prefix-size n room none v long, c .before .before .before .before .before .before .before .before .before .if3 .left)
 
 enum-told : tie.Need-enum-told
 enum-told c = search needs
@@ -142,9 +143,9 @@ returns-4 c =
     let none = the-none-set .ensures in
     let v = the-solve .last .1 .1 .0 in
     let long = the-solve .kept .1 .1 .0 in
-    let size = laws.prefix-length n room none in
+    let size = prefixes.prefix-length n room none in
     let found = laws.is-found l n b (the-solve .result .ending) v (the-solve .result .ceiling) size (the-solve .ensures) (c .before .before .before .before .before .before .ending .given .1) in
-    let written = copied (take n (the-solve .last .1 .1 .0 ++ drop n (the-none-set .result))) a (c .before .before .copy .ensures .1) ∙ ap (λ (u : List ℕ). over u a) (laws.prefix-values n room none v long) in
+    let written = copied (take n (the-solve .last .1 .1 .0 ++ drop n (the-none-set .result))) a (c .before .before .copy .ensures .1) ∙ ap (λ (u : List ℕ). over u a) (prefixes.prefix-values n room none v long) in
     answers.promised k l n b a (answers.answer-found k l n b a fits (c .before .before .before .before .before .before .before .before .before .before .before .before .if3 .left) found written)
 
 returns-5 : tie.Need-returns-5
@@ -161,7 +162,7 @@ returns-5 c =
     let fits = answers.list-as k n l most true (sym (c .before .before .before .before .before .before .before .before .list-fits .ensures) ∙ not-false _ (c .before .before .before .before .before .before .before .if2 .left)) in
     let none = c .before .before .before .before .before .none-set .ensures in
     let v = the-solve .last .1 .1 .0 in
-    let size = laws.prefix-length n room none in
+    let size = prefixes.prefix-length n room none in
     let absent = laws.is-absent l n b (the-solve .result .ending) v (the-solve .result .ceiling) size (the-solve .ensures) (c .enum-told .given .1) in
     answers.promised k l n b a (answers.answer-absent k l n b a fits (c .before .before .before .before .before .before .if3 .left) absent)
 
@@ -179,7 +180,7 @@ returns-6 c =
     let fits = answers.list-as k n l most true (sym (c .before .before .before .before .before .before .before .before .list-fits .ensures) ∙ not-false _ (c .before .before .before .before .before .before .before .if2 .left)) in
     let none = c .before .before .before .before .before .none-set .ensures in
     let v = the-solve .last .1 .1 .0 in
-    let size = laws.prefix-length n room none in
+    let size = prefixes.prefix-length n room none in
     let spent = laws.is-spent l n b (the-solve .result .ending) v (the-solve .result .ceiling) size (the-solve .ensures) (c .enum-told2 .given .1) in
     answers.promised k l n b a (answers.answer-spent k l n b a fits (c .before .before .before .before .before .before .if3 .left) spent)
 

@@ -4,15 +4,15 @@ use Rattle.usage.specs.Uses.{lineOf}
 use Rattle.used.proofs.state_in.Statement.{statement}
 use Rattle.used.proofs.state_in.Tie as tie
 
-shared-slice-read-index : tie.Need-shared-slice-read-index
-shared-slice-read-index c = search needs
+shared-slice-read-wide : tie.Need-shared-slice-read-wide
+shared-slice-read-wide c = search needs
 
-index-requires : tie.Need-index-requires
-index-requires c κs = search needs
+wide-requires : tie.Need-wide-requires
+wide-requires c κs = search needs
 
 returns : tie.Need-returns
 unfolding lineOf
 returns c = search needs
 
 pub state-in-spec : {M : Type 1} → statement M
-state-in-spec = tie.close (tie.spec shared-slice-read-index index-requires returns)
+state-in-spec = tie.close (tie.spec shared-slice-read-wide wide-requires returns)

@@ -16,8 +16,8 @@ abbrev μ-lines : tie.MeasureT-lines
 μ-lines lines map sums₀ total₀ at₀ sums total at = length lines - at
 
 -- the class of a line
-small : (c : tie.After-index Inv-lines μ-lines) → c .index .result < 40
-small c = omega (arith, c .index .ensures, c .before .class-of .ensures, c .before .before .before .before .before .before .before .before .before .before .pre .1 (c .before .before .state-in .result))
+small : (c : tie.After-wide Inv-lines μ-lines) → c .wide .result < 40
+small c = omega (arith, c .wide .ensures, c .before .class-of .ensures, c .before .before .before .before .before .before .before .before .before .before .pre .1 (c .before .before .state-in .result))
 
 lines-holds : tie.Need-lines-holds Inv-lines μ-lines
 lines-holds c = adding _ _ (c .before .before .pre .0)
@@ -55,8 +55,8 @@ state-in-requires c κs = search needs
 class-of-requires : tie.Need-class-of-requires Inv-lines μ-lines
 class-of-requires c κs = search needs
 
-index-requires : tie.Need-index-requires Inv-lines μ-lines
-index-requires c κs = search needs
+wide-requires : tie.Need-wide-requires Inv-lines μ-lines
+wide-requires c κs = search needs
 
 mul-sums : tie.Need-mul-sums Inv-lines μ-lines
 mul-sums c = search needs
@@ -80,7 +80,7 @@ lines-again : tie.Need-lines-again Inv-lines μ-lines
 lines-again c =
     let the-uses-in = c .before .before .before .before .uses-in in
     added (c .before .before .before .before .before .before .before .lines .inv) (c .before .before .before .before .before .before .lines-test .taken) (small c) (the-uses-in .ensures .1) (the-uses-in .ensures .0)
-    (c .index .ensures ∙ c .before .class-of .ensures ∙ ap (classOf (c .before .before .before .before .before .before .before .before .before .before .args .map .now)) (c .before .before .state-in .ensures))
+    (c .wide .ensures ∙ c .before .class-of .ensures ∙ ap (classOf (c .before .before .before .before .before .before .before .before .before .before .args .map .now)) (c .before .before .state-in .ensures))
 
 returns : tie.Need-returns Inv-lines μ-lines
 returns c =
@@ -105,7 +105,7 @@ add-lines-spec =
     part-state-in-end
     state-in-requires
     class-of-requires
-    index-requires
+    wide-requires
     mul-sums
     array-read-sums
     add-sums

@@ -4,8 +4,8 @@ use Rattle.rows.specs.Rows.{gain}
 use Rattle.rows.proofs.rows.gain.Statement.{statement}
 use Rattle.rows.proofs.rows.gain.Tie as tie
 
-index-requires : tie.Need-index-requires
-index-requires c κs = search needs
+wide-requires : tie.Need-wide-requires
+wide-requires c κs = search needs
 
 mul-words : tie.Need-mul-words
 mul-words c = search needs
@@ -24,13 +24,13 @@ element-write-words c = search needs
 
 returns : tie.Need-returns
 unfolding gain
-returns c = rw (c .bit .ensures, c .before .before .index .ensures)
+returns c = rw (c .bit .ensures, c .before .before .wide .ensures)
 
 pub gain-spec : {M : Type 1} → statement M
 gain-spec =
     tie.close
     (tie.spec
-    index-requires
+    wide-requires
     mul-words
     element-copy-out-words
     bit-requires

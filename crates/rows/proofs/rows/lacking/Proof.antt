@@ -3,8 +3,8 @@ use borrow.Author.Needs.{needs}
 use Rattle.rows.proofs.rows.lacking.Statement.{statement}
 use Rattle.rows.proofs.rows.lacking.Tie as tie
 
-index-requires : tie.Need-index-requires
-index-requires c κs = search needs
+wide-requires : tie.Need-wide-requires
+wide-requires c κs = search needs
 
 mul-without : tie.Need-mul-without
 mul-without c = search needs
@@ -12,8 +12,8 @@ mul-without c = search needs
 element-copy-out-without : tie.Need-element-copy-out-without
 element-copy-out-without c = search needs
 
-index-requires-2 : tie.Need-index-requires-2
-index-requires-2 c κs = search needs
+wide-requires-2 : tie.Need-wide-requires-2
+wide-requires-2 c κs = search needs
 
 mul-without-2 : tie.Need-mul-without-2
 mul-without-2 c = search needs
@@ -25,16 +25,16 @@ without-requires : tie.Need-without-requires
 without-requires c κs = search needs
 
 returns : tie.Need-returns
-returns c = rw (c .without .ensures, c .before .before .before .before .index .ensures, c .before .before .index2 .ensures)
+returns c = rw (c .without .ensures, c .before .before .before .before .wide .ensures, c .before .before .wide2 .ensures)
 
 pub lacking-spec : {M : Type 1} → statement M
 lacking-spec =
     tie.close
     (tie.spec
-    index-requires
+    wide-requires
     mul-without
     element-copy-out-without
-    index-requires-2
+    wide-requires-2
     mul-without-2
     element-copy-out-without-2
     without-requires

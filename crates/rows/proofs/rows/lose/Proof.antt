@@ -4,8 +4,8 @@ use borrow.Author.Needs.{needs}
 use Rattle.rows.proofs.rows.lose.Statement.{statement}
 use Rattle.rows.proofs.rows.lose.Tie as tie
 
-index-requires : tie.Need-index-requires
-index-requires c κs = search needs
+wide-requires : tie.Need-wide-requires
+wide-requires c κs = search needs
 
 mul-without : tie.Need-mul-without
 mul-without c = search needs
@@ -27,13 +27,13 @@ element-write-words c = search needs
 
 returns : tie.Need-returns
 unfolding lose
-returns c = rw (c .without .ensures, c .before .bit .ensures, c .before .before .before .index .ensures)
+returns c = rw (c .without .ensures, c .before .bit .ensures, c .before .before .before .wide .ensures)
 
 pub lose-spec : {M : Type 1} → statement M
 lose-spec =
     tie.close
     (tie.spec
-    index-requires
+    wide-requires
     mul-without
     element-copy-out-without
     bit-requires

@@ -19,14 +19,14 @@ states-holds c = record { long = refl; most = omega arith; alone = λ i l. absur
 bit-requires : tie.Need-bit-requires Inv-states μ-states
 bit-requires c κs = search needs
 
-index-requires : tie.Need-index-requires Inv-states μ-states
-index-requires c κs = search needs
+wide-requires : tie.Need-wide-requires Inv-states μ-states
+wide-requires c κs = search needs
 
 mul-words : tie.Need-mul-words Inv-states μ-states
 mul-words c = search needs
 
 array-write-words : tie.Need-array-write-words Inv-states μ-states
-array-write-words c = omega (arith, c .before .before .before .states .inv .long, c .index .ensures)
+array-write-words c = omega (arith, c .before .before .before .states .inv .long, c .wide .ensures)
 
 add-p : tie.Need-add-p Inv-states μ-states
 add-p c = search needs
@@ -35,7 +35,7 @@ states-less : tie.Need-states-less Inv-states μ-states
 states-less c = search needs
 
 states-again : tie.Need-states-again Inv-states μ-states
-states-again c = laws.own-on (c .before .before .before .states .inv) (c .before .before .states-test .taken) (c .index .ensures) (c .before .bit .ensures)
+states-again c = laws.own-on (c .before .before .before .states .inv) (c .before .before .states-test .taken) (c .wide .ensures) (c .before .bit .ensures)
 
 returns : tie.Need-returns Inv-states μ-states
 returns c = laws.own-end (c .before .states .inv) (c .states-test .left)
@@ -48,7 +48,7 @@ own-rows-spec =
     μ-states
     states-holds
     bit-requires
-    index-requires
+    wide-requires
     mul-words
     array-write-words
     add-p

@@ -1,0 +1,12 @@
+-- `engine::none_set` meets its contract. Assumes nothing.
+use mathlib.Core.Path.{refl}
+use Rattle.turning.specs.Turns.{noneSet}
+use Rattle.engine.proofs.none_set.Statement.{statement}
+use Rattle.engine.proofs.none_set.Tie as tie
+
+returns : tie.Need-returns
+unfolding noneSet
+returns c = refl
+
+pub none-set-spec : {M : Type 1} → statement M
+none-set-spec = tie.close (tie.spec returns)

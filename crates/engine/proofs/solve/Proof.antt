@@ -1,0 +1,67 @@
+-- `engine::solve` meets its contract. Assumes nothing.
+use Rattle.turning.proofs.Ends as laws
+use borrow.Author.Needs.{needs}
+use Rattle.engine.proofs.solve.Statement.{statement}
+use Rattle.engine.proofs.solve.Tie as tie
+
+pair-table-requires : tie.Need-pair-table-requires
+pair-table-requires c κs = search needs
+
+own-rows-requires : tie.Need-own-rows-requires
+own-rows-requires c κs = search needs
+
+places-requires : tie.Need-places-requires
+places-requires c κs = search needs
+
+slice-aggregate-solve-sifted : tie.Need-slice-aggregate-solve-sifted
+slice-aggregate-solve-sifted c = search needs
+
+slice-aggregate-solve-sifted-2 : tie.Need-slice-aggregate-solve-sifted-2
+slice-aggregate-solve-sifted-2 c = search needs
+
+solve-sifted-requires : tie.Need-solve-sifted-requires
+solve-sifted-requires c κs =
+    let the-pre = c .before .before .before .before .before .before .before .before .before .before .before .pre in
+    ((the-pre, c .before .before .before .before .before .if1 .taken, c .before .before .before .before .before .before .places .ensures), (c .before .before .before .before .before .before .before .before .pair-table .ensures, laws.first-rows (the-pre) (c .before .before .before .before .before .before .before .before .before .before .before .args .budget) (c .before .before .before .before .before .before .before .own-rows .ensures)))
+
+same-length : tie.Need-same-length
+same-length c = search needs
+
+returns : tie.Need-returns
+returns c = search needs
+
+slice-aggregate-finish : tie.Need-slice-aggregate-finish
+slice-aggregate-finish c = search needs
+
+slice-aggregate-finish-2 : tie.Need-slice-aggregate-finish-2
+slice-aggregate-finish-2 c = search needs
+
+finish-requires : tie.Need-finish-requires
+finish-requires c κs =
+    let the-pre = c .before .before .before .before .before .before .before .before .before .before .before .pre in
+    let the-args = c .before .before .before .before .before .before .before .before .before .before .before .args in
+    (laws.begins (the-pre) (the-args .budget) (c .before .before .before .before .before .before .places .ensures), (c .before .before .before .before .before .before .before .before .pair-table .ensures, laws.first-rows (the-pre) (the-args .budget) (c .before .before .before .before .before .before .before .own-rows .ensures)))
+
+same-length-2 : tie.Need-same-length-2
+same-length-2 c = search needs
+
+returns-2 : tie.Need-returns-2
+returns-2 c = search needs
+
+pub solve-spec : {M : Type 1} → statement M
+solve-spec =
+    tie.close
+    (tie.spec
+    pair-table-requires
+    own-rows-requires
+    places-requires
+    slice-aggregate-solve-sifted
+    slice-aggregate-solve-sifted-2
+    solve-sifted-requires
+    same-length
+    returns
+    slice-aggregate-finish
+    slice-aggregate-finish-2
+    finish-requires
+    same-length-2
+    returns-2)

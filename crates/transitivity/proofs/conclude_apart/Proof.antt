@@ -1,0 +1,54 @@
+-- `transitivity::conclude_apart` meets its contract: what is set is all that p ≠ q says. Assumes nothing.
+use Rattle.rows.proofs.Working.{worked-length}
+use Rattle.transitivity.proofs.Concluding as laws
+use borrow.Author.Needs.{needs}
+use Rattle.transitivity.proofs.conclude_apart.Statement.{statement}
+use Rattle.transitivity.proofs.conclude_apart.Tie as tie
+
+lacking-requires : tie.Need-lacking-requires
+lacking-requires c κs = search needs
+
+lacking-requires-2 : tie.Need-lacking-requires-2
+lacking-requires-2 c κs = search needs
+
+spread-both-requires : tie.Need-spread-both-requires
+spread-both-requires c κs =
+    let the-pre = c .before .before .before .before .before .before .before .before .before .before .before .before .pre in
+    let w = the-pre .0 .0 in
+    let rows = the-pre .0 .1 in
+    let o = the-pre .1 in
+    let f = c .before .before .before .before .before .before .before .lacking .ensures in
+    let g = c .before .before .before .before .lacking2 .ensures in
+    ((w, rows), (laws.parts-q w rows _ _ (o .0) (o .1) (o .2) f g, laws.parts-p w rows _ _ (o .0) (o .1) (o .2) f g))
+
+same-length : tie.Need-same-length
+same-length c =
+    let w = c .before .before .before .before .before .before .before .before .before .before .before .before .before .before .before .before .before .pre .0 .0 in
+    let k = c .before .before .before .before .spread-both .ensures .0 in
+    worked-length w (k .worked)
+
+same-length-2 : tie.Need-same-length-2
+same-length-2 c = c .before .before .before .before .spread-both .ensures .0 .worked .grown .long
+
+returns : tie.Need-returns
+returns c =
+    let the-spread-both = c .before .before .before .before .spread-both in
+    let the-pre = c .before .before .before .before .before .before .before .before .before .before .before .before .before .before .before .before .before .pre in
+    let w = the-pre .0 .0 in
+    let rows = the-pre .0 .1 in
+    let o = the-pre .1 in
+    let f = c .before .before .before .before .before .before .before .before .before .before .before .before .lacking .ensures in
+    let g = c .before .before .before .before .before .before .before .before .before .lacking2 .ensures in
+    let k = the-spread-both .ensures .0 in
+    (laws.parts-done w rows _ _ (o .0) (o .1) (o .2) f g k, the-spread-both .ensures .1)
+
+pub conclude-apart-spec : {M : Type 1} → statement M
+conclude-apart-spec =
+    tie.close
+    (tie.spec
+    lacking-requires
+    lacking-requires-2
+    spread-both-requires
+    same-length
+    same-length-2
+    returns)
