@@ -18,8 +18,10 @@ returns c =
 
 settle-indexed-requires : tie.Need-settle-indexed-requires
 settle-indexed-requires c κs =
-    let the-pre = c .before .before .before .before .before .before .before .before .before .before .before .before .before .before .before .pre in
-    let the-if2 = c .before .before .before .before .before .before .if2 in
+    let c6 = c .before .before .before .before .before .before in
+    let c15 = c6 .before .before .before .before .before .before .before .before .before in
+    let the-pre = c15 .pre in
+    let the-if2 = c6 .if2 in
     ((the-pre .0 .indexed (the-if2 .taken), the-pre .0 .room), (the-pre .1 .1 .0, (the-pre .1 .1 .1 .0, (the-pre .1 .0 (the-if2 .taken), the-pre .1 .1 .1 .1))))
 
 same-length : tie.Need-same-length
@@ -41,8 +43,9 @@ returns-2 c =
 
 settle-requires : tie.Need-settle-requires
 settle-requires c κs =
-    let the-pre = c .before .before .before .before .before .before .before .before .before .before .before .before .before .pre in
-    let the-args = c .before .before .before .before .before .before .before .before .before .before .before .before .before .args in
+    let c13 = c .before .before .before .before .before .before .before .before .before .before .before .before .before in
+    let the-pre = c13 .pre in
+    let the-args = c13 .args in
     (the-pre .0 .all-there, ((the-pre .1 .1 .0, queue-part (triangles (the-args .n)) _ (to-ds (clausesIn (the-args .list .now)) _) (the-pre .1 .1 .1 .0 .0)), the-pre .1 .1 .1 .1))
 
 same-length-5 : tie.Need-same-length-5
@@ -52,7 +55,10 @@ same-length-6 : tie.Need-same-length-6
 same-length-6 c = search needs
 
 returns-3 : tie.Need-returns-3
-returns-3 c = (c .before .before .before .before .settle .ensures, λ h. absurd (omega (arith, h, c .before .before .before .before .before .before .before .before .before .if2 .left)))
+returns-3 c =
+    let c4 = c .before .before .before .before in
+    let c9 = c4 .before .before .before .before .before in
+    (c4 .settle .ensures, λ h. absurd (omega (arith, h, c9 .if2 .left)))
 
 pub close-spec : {M : Type 1} → statement M
 close-spec = tie.close (tie.spec returns settle-indexed-requires same-length same-length-2 same-length-3 same-length-4 returns-2 settle-requires same-length-5 same-length-6 returns-3)

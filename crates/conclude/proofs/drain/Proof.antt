@@ -32,43 +32,61 @@ add-at c = omega (arith, laws.at-inside (c .before .before .queue .inv .0) (c .b
 
 conclude-requires : tie.Need-conclude-requires Inv-queue μ-queue
 conclude-requires c κs =
-    let the-queue = c .before .before .before .before .before .before .queue in
-    let q = laws.next-queued (the-queue .inv .0) (c .before .before .before .before .before .queue-test .taken) in ((laws.queue-ready (the-queue .inv .0), the-queue .inv .1), (c .before .before .before .before .before .before .before .before .before .before .pre .1 .0, q))
+    let c5 = c .before .before .before .before .before in
+    let c6 = c5 .before in
+    let c10 = c6 .before .before .before .before in
+    let the-queue = c6 .queue in
+    let q = laws.next-queued (the-queue .inv .0) (c5 .queue-test .taken) in ((laws.queue-ready (the-queue .inv .0), the-queue .inv .1), (c10 .pre .1 .0, q))
 
 same-length : tie.Need-same-length Inv-queue μ-queue
 same-length c =
-    let j = c .before .before .before .before .before .before .before .before .before .before .before .before .queue .inv .0 in
-    let h = c .before .before .before .before .before .before .before .before .before .before .before .queue-test .taken in
-    let k = c .before .before .before .before .before .conclude .ensures .0 in
+    let c5 = c .before .before .before .before .before in
+    let c11 = c5 .before .before .before .before .before .before in
+    let c12 = c11 .before in
+    let j = c12 .queue .inv .0 in
+    let h = c11 .queue-test .taken in
+    let k = c5 .conclude .ensures .0 in
     laws.seen-values j h (laws.attended-seen _ k)
 
 same-length-2 : tie.Need-same-length-2 Inv-queue μ-queue
 same-length-2 c =
-    let j = c .before .before .before .before .before .before .before .before .before .before .before .before .queue .inv .0 in
-    let h = c .before .before .before .before .before .before .before .before .before .before .before .queue-test .taken in
-    let k = c .before .before .before .before .before .conclude .ensures .0 in
+    let c5 = c .before .before .before .before .before in
+    let c11 = c5 .before .before .before .before .before .before in
+    let c12 = c11 .before in
+    let j = c12 .queue .inv .0 in
+    let h = c11 .queue-test .taken in
+    let k = c5 .conclude .ensures .0 in
     laws.seen-trail j h (laws.attended-seen _ k)
 
 returns : tie.Need-returns Inv-queue μ-queue
 returns c =
-    let the-conclude = c .before .before .before .before .before .conclude in
-    let j = c .before .before .before .before .before .before .before .before .before .before .before .before .queue .inv .0 in
-    let h = c .before .before .before .before .before .before .before .before .before .before .before .queue-test .taken in
+    let c5 = c .before .before .before .before .before in
+    let c11 = c5 .before .before .before .before .before .before in
+    let c12 = c11 .before in
+    let the-conclude = c5 .conclude in
+    let j = c12 .queue .inv .0 in
+    let h = c11 .queue-test .taken in
     let k = the-conclude .ensures .0 in
     (laws.queue-broken j h (laws.attended-seen _ k) (c .if1 .taken), the-conclude .ensures .1)
 
 queue-less : tie.Need-queue-less Inv-queue μ-queue
 queue-less c =
-    let j = c .before .before .before .before .before .before .before .before .before .before .before .before .queue .inv .0 in
-    let h = c .before .before .before .before .before .before .before .before .before .before .before .queue-test .taken in
-    let k = c .before .before .before .before .before .conclude .ensures .0 in
+    let c5 = c .before .before .before .before .before in
+    let c11 = c5 .before .before .before .before .before .before in
+    let c12 = c11 .before in
+    let j = c12 .queue .inv .0 in
+    let h = c11 .queue-test .taken in
+    let k = c5 .conclude .ensures .0 in
     laws.queue-less j h (laws.attended-seen _ k)
 
 queue-again : tie.Need-queue-again Inv-queue μ-queue
 queue-again c =
-    let the-conclude = c .before .before .before .before .before .conclude in
-    let j = c .before .before .before .before .before .before .before .before .before .before .before .before .queue .inv .0 in
-    let h = c .before .before .before .before .before .before .before .before .before .before .before .queue-test .taken in
+    let c5 = c .before .before .before .before .before in
+    let c11 = c5 .before .before .before .before .before .before in
+    let c12 = c11 .before in
+    let the-conclude = c5 .conclude in
+    let j = c12 .queue .inv .0 in
+    let h = c11 .queue-test .taken in
     let k = the-conclude .ensures .0 in
     (laws.queue-on j h (laws.attended-seen _ k) (c .if1 .left), the-conclude .ensures .1)
 

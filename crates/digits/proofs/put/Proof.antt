@@ -23,7 +23,10 @@ same-length : tie.Need-same-length
 same-length c = search needs
 
 returns : tie.Need-returns
-returns c = let a = c .before .before .before .before .before .before in put-copied (a .args .bytes .now) (a .args .text .now) (a .args .at) (a .pre) (c .before .before .copy .ensures .1)
+returns c =
+    let c2 = c .before .before in
+    let c6 = c2 .before .before .before .before in
+    let a = c6 in put-copied (a .args .bytes .now) (a .args .text .now) (a .args .at) (a .pre) (c2 .copy .ensures .1)
 
 pub put-spec : {M : Type 1} → statement M
 put-spec =

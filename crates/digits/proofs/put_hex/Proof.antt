@@ -57,8 +57,11 @@ bytes-less c = search needs
 
 bytes-again : tie.Need-bytes-again Inv-bytes μ-bytes
 bytes-again c =
-    let the-digit = c .before .digit in
-    hex-on _ _ _ _ (c .before .before .before .before .bytes .inv) (the-digit .result) (c .digit2 .result) (c .before .before .before .bytes-test .taken) (the-digit .ensures) (c .digit2 .ensures)
+    let c1 = c .before in
+    let c3 = c1 .before .before in
+    let c4 = c3 .before in
+    let the-digit = c1 .digit in
+    hex-on _ _ _ _ (c4 .bytes .inv) (the-digit .result) (c .digit2 .result) (c3 .bytes-test .taken) (the-digit .ensures) (c .digit2 .ensures)
 
 same-length : tie.Need-same-length Inv-bytes μ-bytes
 same-length c = hexed-length _ _ _ _ (c .before .bytes .inv)

@@ -22,24 +22,34 @@ slice-aggregate-put c = search needs
 
 few : (c : tie.After-put-arg2) → c .before .before .decimal .result ≤ 20
 few c =
-    let the-decimal = c .before .before .decimal in
-    let a = c .before .before .before .before .before .before .before .before .before .before in few-digits (a .args .number) (the-decimal .result) (a .fits .number .fits) (the-decimal .ensures .1 .0)
+    let c2 = c .before .before in
+    let c10 = c2 .before .before .before .before .before .before .before .before in
+    let the-decimal = c2 .decimal in
+    let a = c10 in few-digits (a .args .number) (the-decimal .result) (a .fits .number .fits) (the-decimal .ensures .1 .0)
 
 put-requires-2 : tie.Need-put-requires-2
 put-requires-2 c κs =
-    let the-put = c .before .before .before .before .before .before .put in
-    let a = c .before .before .before .before .before .before .before .before .before .before in omega (arith, a .pre, the-put .ensures .place, the-put .ensures .long, few c, c .before .before .decimal .ensures .0 .1)
+    let c2 = c .before .before in
+    let c6 = c2 .before .before .before .before in
+    let c10 = c6 .before .before .before .before in
+    let the-put = c6 .put in
+    let a = c10 in omega (arith, a .pre, the-put .ensures .place, the-put .ensures .long, few c, c2 .decimal .ensures .0 .1)
 
 same-length : tie.Need-same-length
 same-length c = search needs
 
 returns : tie.Need-returns
 returns c =
-    let the-before = c .before .before .before in
-    let the-decimal = c .before .before .before .before .before .decimal in
-    let a = c .before .before .before .before .before .before .before .before .before .before .before .before .before in
-    let p = c .before .before .before .before .before .before .before .before .before .put .ensures in
-    let q = c .before .before .put2 .ensures in
+    let c2 = c .before .before in
+    let c3 = c2 .before in
+    let c5 = c3 .before .before in
+    let c9 = c5 .before .before .before .before in
+    let c13 = c9 .before .before .before .before in
+    let the-before = c3 in
+    let the-decimal = c5 .decimal in
+    let a = c13 in
+    let p = c9 .put .ensures in
+    let q = c2 .put2 .ensures in
     let d = the-decimal .ensures in
     (put-on p (put-same (d .1 .1 ∙ decimal-text (a .args .number) (the-decimal .result) (few (the-before)) (d .1 .0)) q), omega (arith, p .place, q .place, few (the-before), d .0 .1))
 

@@ -21,8 +21,13 @@ slice-aggregate-solve-sifted-2 c = search needs
 
 solve-sifted-requires : tie.Need-solve-sifted-requires
 solve-sifted-requires c κs =
-    let the-pre = c .before .before .before .before .before .before .before .before .before .before .before .pre in
-    ((the-pre, c .before .before .before .before .before .if1 .taken, c .before .before .before .before .before .before .places .ensures), (c .before .before .before .before .before .before .before .before .pair-table .ensures, laws.first-rows (the-pre) (c .before .before .before .before .before .before .before .before .before .before .before .args .budget) (c .before .before .before .before .before .before .before .own-rows .ensures)))
+    let c5 = c .before .before .before .before .before in
+    let c6 = c5 .before in
+    let c7 = c6 .before in
+    let c8 = c7 .before in
+    let c11 = c8 .before .before .before in
+    let the-pre = c11 .pre in
+    ((the-pre, c5 .if1 .taken, c6 .places .ensures), (c8 .pair-table .ensures, laws.first-rows (the-pre) (c11 .args .budget) (c7 .own-rows .ensures)))
 
 same-length : tie.Need-same-length
 same-length c = search needs
@@ -38,9 +43,13 @@ slice-aggregate-finish-2 c = search needs
 
 finish-requires : tie.Need-finish-requires
 finish-requires c κs =
-    let the-pre = c .before .before .before .before .before .before .before .before .before .before .before .pre in
-    let the-args = c .before .before .before .before .before .before .before .before .before .before .before .args in
-    (laws.begins (the-pre) (the-args .budget) (c .before .before .before .before .before .before .places .ensures), (c .before .before .before .before .before .before .before .before .pair-table .ensures, laws.first-rows (the-pre) (the-args .budget) (c .before .before .before .before .before .before .before .own-rows .ensures)))
+    let c6 = c .before .before .before .before .before .before in
+    let c7 = c6 .before in
+    let c8 = c7 .before in
+    let c11 = c8 .before .before .before in
+    let the-pre = c11 .pre in
+    let the-args = c11 .args in
+    (laws.begins (the-pre) (the-args .budget) (c6 .places .ensures), (c8 .pair-table .ensures, laws.first-rows (the-pre) (the-args .budget) (c7 .own-rows .ensures)))
 
 same-length-2 : tie.Need-same-length-2
 same-length-2 c = search needs

@@ -10,7 +10,9 @@ slice-aggregate-sift : tie.Need-slice-aggregate-sift
 slice-aggregate-sift c = search needs
 
 sift-requires : tie.Need-sift-requires
-sift-requires c κs = ((c .before .before .before .before .before .before .before .before .before .pre .0 .0 .all-there, c .before .before .before .before .before .before .before .before .before .pre .0 .1), (laws.list-ready (c .before .before .before .before .before .before .before .before .before .pre .0 .0) (c .before .before .before .before .before .before .before .before .before .args .budget) (c .before .before .before .before .before .before .before .before .before .pre .0 .2), c .before .before .before .before .before .before .before .before .before .pre .1))
+sift-requires c κs =
+    let c9 = c .before .before .before .before .before .before .before .before .before in
+    ((c9 .pre .0 .0 .all-there, c9 .pre .0 .1), (laws.list-ready (c9 .pre .0 .0) (c9 .args .budget) (c9 .pre .0 .2), c9 .pre .1))
 
 same-length : tie.Need-same-length
 same-length c = search needs
@@ -19,7 +21,10 @@ same-length-2 : tie.Need-same-length-2
 same-length-2 c = search needs
 
 returns : tie.Need-returns
-returns c = laws.sifted-absent (c .before .before .before .before .before .before .before .before .before .before .before .before .before .before .before .before .pre .0 .0) (c .before .before .before .before .before .before .before .before .before .before .before .before .before .before .before .before .args .budget) (c .before .before .before .before .before .before .before .before .before .before .before .before .before .before .before .before .pre .0 .2) (c .before .before .before .before .before .before .sift .ensures .0) (c .if1 .taken) 0
+returns c =
+    let c6 = c .before .before .before .before .before .before in
+    let c16 = c6 .before .before .before .before .before .before .before .before .before .before in
+    laws.sifted-absent (c16 .pre .0 .0) (c16 .args .budget) (c16 .pre .0 .2) (c6 .sift .ensures .0) (c .if1 .taken) 0
 
 array-share-prefix-left : tie.Need-array-share-prefix-left
 array-share-prefix-left c = search needs
@@ -31,13 +36,20 @@ slice-reshare-prefix-lighten : tie.Need-slice-reshare-prefix-lighten
 slice-reshare-prefix-lighten c = search needs
 
 slice-aggregate-lighten-2 : tie.Need-slice-aggregate-lighten-2
-slice-aggregate-lighten-2 c = laws.prefix-long {n = 780} _ (omega (arith, laws.sifted-count (c .before .before .before .before .before .before .before .before .before .before .before .before .before .before .before .before .before .before .before .before .before .pre .0 .0) (c .before .before .before .before .before .before .before .before .before .before .before .before .before .before .before .before .before .before .before .before .before .args .budget) (c .before .before .before .before .before .before .before .before .before .before .before .before .before .before .before .before .before .before .before .before .before .pre .0 .2) (c .before .before .before .before .before .before .before .before .before .before .before .sift .ensures .0), laws.sifted-size (c .before .before .before .before .before .before .before .before .before .before .before .before .before .before .before .before .before .before .before .before .before .pre .0 .0) (c .before .before .before .before .before .before .before .before .before .before .before .before .before .before .before .before .before .before .before .before .before .args .budget) (c .before .before .before .before .before .before .before .before .before .before .before .before .before .before .before .before .before .before .before .before .before .pre .0 .2) (c .before .before .before .before .before .before .before .before .before .before .before .sift .ensures .0), c .before .before .before .before .before .before .before .before .before .before .before .before .before .before .before .before .before .before .before .before .before .pre .0 .0 .most)) (sym (laws.sifted-long (c .before .before .before .before .before .before .before .before .before .before .before .before .before .before .before .before .before .before .before .before .before .pre .0 .0) (c .before .before .before .before .before .before .before .before .before .before .before .before .before .before .before .before .before .before .before .before .before .args .budget) (c .before .before .before .before .before .before .before .before .before .before .before .before .before .before .before .before .before .before .before .before .before .pre .0 .2) (c .before .before .before .before .before .before .before .before .before .before .before .sift .ensures .0)))
+slice-aggregate-lighten-2 c =
+    let c11 = c .before .before .before .before .before .before .before .before .before .before .before in
+    let c21 = c11 .before .before .before .before .before .before .before .before .before .before in
+    laws.prefix-long {n = 780} _ (omega (arith, laws.sifted-count (c21 .pre .0 .0) (c21 .args .budget) (c21 .pre .0 .2) (c11 .sift .ensures .0), laws.sifted-size (c21 .pre .0 .0) (c21 .args .budget) (c21 .pre .0 .2) (c11 .sift .ensures .0), c21 .pre .0 .0 .most)) (sym (laws.sifted-long (c21 .pre .0 .0) (c21 .args .budget) (c21 .pre .0 .2) (c11 .sift .ensures .0)))
 
 slice-aggregate-lighten-3 : tie.Need-slice-aggregate-lighten-3
 slice-aggregate-lighten-3 c = search needs
 
 lighten-requires : tie.Need-lighten-requires
-lighten-requires c κs = laws.lightens (c .before .before .before .before .before .before .before .before .before .before .before .before .before .before .before .before .before .before .before .before .before .before .pre .0 .0) (c .before .before .before .before .before .before .before .before .before .before .before .before .before .before .before .before .before .before .before .before .before .before .args .budget) (c .before .before .before .before .before .before .before .before .before .before .before .before .before .before .before .before .before .before .before .before .before .before .pre .0 .2) (c .before .before .before .before .before .before .before .before .before .before .before .before .sift .ensures .0) (c .before .before .before .before .before .before .if1 .left) (search needs)
+lighten-requires c κs =
+    let c6 = c .before .before .before .before .before .before in
+    let c12 = c6 .before .before .before .before .before .before in
+    let c22 = c12 .before .before .before .before .before .before .before .before .before .before in
+    laws.lightens (c22 .pre .0 .0) (c22 .args .budget) (c22 .pre .0 .2) (c12 .sift .ensures .0) (c6 .if1 .left) (search needs)
 
 array-share-prefix-rest : tie.Need-array-share-prefix-rest
 array-share-prefix-rest c = search needs
@@ -46,7 +58,12 @@ slice-aggregate-finish : tie.Need-slice-aggregate-finish
 slice-aggregate-finish c = laws.prefix-long _ (c .before .if3 .taken) (search needs)
 
 finish-requires : tie.Need-finish-requires
-finish-requires c κs = (laws.left-begins (c .before .before .before .before .before .before .before .before .before .before .before .before .before .before .before .before .before .before .before .before .before .before .before .before .before .before .before .before .before .before .pre .0 .0) (c .before .before .before .before .before .before .before .before .before .before .before .before .before .before .before .before .before .before .before .before .before .before .before .before .before .before .before .before .before .before .args .budget) (c .before .before .before .before .before .before .before .before .before .before .before .before .before .before .before .before .before .before .before .before .before .before .before .before .before .before .before .before .before .before .pre .0 .2) (c .before .before .before .before .before .before .before .before .before .before .before .before .before .before .before .before .before .before .before .before .sift .ensures .0) (c .before .before .before .before .before .before .before .before .before .before .before .before .before .before .if1 .left) (search needs) (c .before .before .before .before .before .before .before .lighten .ensures (search needs)), (c .before .before .before .before .before .before .before .before .before .before .before .before .before .before .before .before .before .before .before .before .before .before .before .before .before .before .before .before .before .before .pre .1 .0, c .before .before .before .before .before .before .before .before .before .before .before .before .before .before .before .before .before .before .before .before .sift .ensures .1))
+finish-requires c κs =
+    let c7 = c .before .before .before .before .before .before .before in
+    let c14 = c7 .before .before .before .before .before .before .before in
+    let c20 = c14 .before .before .before .before .before .before in
+    let c30 = c20 .before .before .before .before .before .before .before .before .before .before in
+    (laws.left-begins (c30 .pre .0 .0) (c30 .args .budget) (c30 .pre .0 .2) (c20 .sift .ensures .0) (c14 .if1 .left) (search needs) (c7 .lighten .ensures (search needs)), (c30 .pre .1 .0, c20 .sift .ensures .1))
 
 same-length-3 : tie.Need-same-length-3
 same-length-3 c = search needs
@@ -55,10 +72,19 @@ same-length-4 : tie.Need-same-length-4
 same-length-4 c = search needs
 
 returns-2 : tie.Need-returns-2
-returns-2 c = laws.left-outcome (c .before .before .before .before .before .before .before .before .before .before .before .before .before .before .before .before .before .before .before .before .before .before .before .before .before .before .before .before .before .before .before .before .before .before .before .pre .0 .0) (c .before .before .before .before .before .before .before .before .before .before .before .before .before .before .before .before .before .before .before .before .before .before .before .before .before .before .before .before .before .before .before .before .before .before .before .args .budget) (c .before .before .before .before .before .before .before .before .before .before .before .before .before .before .before .before .before .before .before .before .before .before .before .before .before .before .before .before .before .before .before .before .before .before .before .pre .0 .2) (c .before .before .before .before .before .before .before .before .before .before .before .before .before .before .before .before .before .before .before .before .before .before .before .before .before .sift .ensures .0) (c .before .before .before .before .before .before .before .before .before .before .before .before .before .before .before .before .before .before .before .if1 .left) (search needs) (c .before .before .before .before .before .before .before .before .before .before .before .before .lighten .ensures (search needs)) (c .before .before .before .before .finish .result .ending) _ (c .before .before .before .before .finish .result .ceiling) (c .before .before .before .before .finish .ensures)
+returns-2 c =
+    let c4 = c .before .before .before .before in
+    let c12 = c4 .before .before .before .before .before .before .before .before in
+    let c19 = c12 .before .before .before .before .before .before .before in
+    let c25 = c19 .before .before .before .before .before .before in
+    let c35 = c25 .before .before .before .before .before .before .before .before .before .before in
+    laws.left-outcome (c35 .pre .0 .0) (c35 .args .budget) (c35 .pre .0 .2) (c25 .sift .ensures .0) (c19 .if1 .left) (search needs) (c12 .lighten .ensures (search needs)) (c4 .finish .result .ending) _ (c4 .finish .result .ceiling) (c4 .finish .ensures)
 
 finish-requires-2 : tie.Need-finish-requires-2
-finish-requires-2 c κs = (laws.sifted-begins (c .before .before .before .before .before .before .before .before .before .before .before .before .before .before .before .before .before .before .before .before .before .before .pre .0 .0) (c .before .before .before .before .before .before .before .before .before .before .before .before .before .before .before .before .before .before .before .before .before .before .args .budget) (c .before .before .before .before .before .before .before .before .before .before .before .before .before .before .before .before .before .before .before .before .before .before .pre .0 .2) (c .before .before .before .before .before .before .before .before .before .before .before .before .sift .ensures .0), (c .before .before .before .before .before .before .before .before .before .before .before .before .before .before .before .before .before .before .before .before .before .before .pre .1 .0, c .before .before .before .before .before .before .before .before .before .before .before .before .sift .ensures .1))
+finish-requires-2 c κs =
+    let c12 = c .before .before .before .before .before .before .before .before .before .before .before .before in
+    let c22 = c12 .before .before .before .before .before .before .before .before .before .before in
+    (laws.sifted-begins (c22 .pre .0 .0) (c22 .args .budget) (c22 .pre .0 .2) (c12 .sift .ensures .0), (c22 .pre .1 .0, c12 .sift .ensures .1))
 
 same-length-5 : tie.Need-same-length-5
 same-length-5 c = search needs
@@ -67,7 +93,11 @@ same-length-6 : tie.Need-same-length-6
 same-length-6 c = search needs
 
 returns-3 : tie.Need-returns-3
-returns-3 c = rw (laws.sifted-size (c .before .before .before .before .before .before .before .before .before .before .before .before .before .before .before .before .before .before .before .before .before .before .before .before .before .before .before .pre .0 .0) (c .before .before .before .before .before .before .before .before .before .before .before .before .before .before .before .before .before .before .before .before .before .before .before .before .before .before .before .args .budget) (c .before .before .before .before .before .before .before .before .before .before .before .before .before .before .before .before .before .before .before .before .before .before .before .before .before .before .before .pre .0 .2) (c .before .before .before .before .before .before .before .before .before .before .before .before .before .before .before .before .before .sift .ensures .0)) at (c .before .before .before .before .finish2 .ensures)
+returns-3 c =
+    let c4 = c .before .before .before .before in
+    let c17 = c4 .before .before .before .before .before .before .before .before .before .before .before .before .before in
+    let c27 = c17 .before .before .before .before .before .before .before .before .before .before in
+    rw (laws.sifted-size (c27 .pre .0 .0) (c27 .args .budget) (c27 .pre .0 .2) (c17 .sift .ensures .0)) at (c4 .finish2 .ensures)
 
 pub solve-sifted-spec : {M : Type 1} → statement M
 solve-sifted-spec =

@@ -8,8 +8,10 @@ use Rattle.engine.proofs.turns_any.Tie as tie
 
 turns-short-requires : tie.Need-turns-short-requires
 turns-short-requires c κs =
-    let the-pre = c .before .before .before .before .before .before .before .before .before .pre in
-    ((the-pre .0, c .before .before .before .before .if1 .taken), the-pre .1)
+    let c4 = c .before .before .before .before in
+    let c9 = c4 .before .before .before .before .before in
+    let the-pre = c9 .pre in
+    ((the-pre .0, c4 .if1 .taken), the-pre .1)
 
 same-length : tie.Need-same-length
 same-length c = search needs
@@ -22,8 +24,10 @@ returns c = search needs
 
 turns-long-requires : tie.Need-turns-long-requires
 turns-long-requires c κs =
-    let the-pre = c .before .before .before .before .before .before .before .before .before .before .pre in
-    ((the-pre .0, c .before .before .before .before .if2 .taken), the-pre .1)
+    let c4 = c .before .before .before .before in
+    let c10 = c4 .before .before .before .before .before .before in
+    let the-pre = c10 .pre in
+    ((the-pre .0, c4 .if2 .taken), the-pre .1)
 
 same-length-3 : tie.Need-same-length-3
 same-length-3 c = search needs
@@ -51,8 +55,10 @@ slice-aggregate-turns-4 c = search needs
 
 turns-requires : tie.Need-turns-requires
 turns-requires c κs =
-    let the-pre = c .before .before .before .before .before .before .before .before .before .before .before .before .before .before .before .before .pre in
-    let the-if2 = c .before .before .before .before .before .before .before .before .before .before .if2 in
+    let c10 = c .before .before .before .before .before .before .before .before .before .before in
+    let c16 = c10 .before .before .before .before .before .before in
+    let the-pre = c16 .pre in
+    let the-if2 = c10 .if2 in
     (unprepared (the-pre .0) (omega (arith, the-if2 .left)) (omega arith) (omega arith) (omega arith), (((λ h. absurd (omega (arith, h, the-if2 .left))), refl), the-pre .1))
 
 same-length-5 : tie.Need-same-length-5

@@ -17,14 +17,17 @@ no-firsts-requires c κs = search needs
 
 index-requires : tie.Need-index-requires
 index-requires c κs =
-    let the-pre = c .before .before .before .before .before .before .before .before .before .before .before .pre in
-    let the-args = c .before .before .before .before .before .before .before .before .before .before .before .args in
-    (laws.listed (the-pre .0 .0) (laws.short-list (the-pre .0 .1)) (formed-part (clausesIn (the-args .list .now)) _ (to-cs _ (triangles (the-args .n))) (the-pre .1 .0 .formed)) (the-pre .1 .0 .most), laws.index-room (the-pre .0 .1), c .before .before .no-firsts .ensures)
+    let c2 = c .before .before in
+    let c11 = c2 .before .before .before .before .before .before .before .before .before in
+    let the-pre = c11 .pre in
+    let the-args = c11 .args in
+    (laws.listed (the-pre .0 .0) (laws.short-list (the-pre .0 .1)) (formed-part (clausesIn (the-args .list .now)) _ (to-cs _ (triangles (the-args .n))) (the-pre .1 .0 .formed)) (the-pre .1 .0 .most), laws.index-room (the-pre .0 .1), c2 .no-firsts .ensures)
 
 tally-requires : tie.Need-tally-requires
 tally-requires c κs =
-    let the-args = c .before .before .before .before .before .before .before .before .before .before .before .before .before .before .before .before .args in
-    let the-pre = c .before .before .before .before .before .before .before .before .before .before .before .before .before .before .before .before .pre in
+    let c16 = c .before .before .before .before .before .before .before .before .before .before .before .before .before .before .before .before in
+    let the-args = c16 .args in
+    let the-pre = c16 .pre in
     let half = laws.few-clauses (the-args .list .now) (the-args .n) (the-pre .0 .0) (the-pre .1 .0) in
     ((the-pre .0 .0, formed-part (clausesIn (the-args .list .now)) _ (to-cs _ (triangles (the-args .n))) (rw (the-pre .1 .0 .size) (the-pre .1 .0 .formed)), omega (arith, the-pre .1 .0 .size, the-pre .1 .0 .most)), (laws.short-list (the-pre .0 .1), omega (arith, half, the-pre .0 .1 .words-room), the-pre .0 .1 .small))
 
@@ -41,17 +44,22 @@ slice-relend-prefix-turns-tallied-2 c = search needs
 
 slice-aggregate-turns-tallied-2 : tie.Need-slice-aggregate-turns-tallied-2
 slice-aggregate-turns-tallied-2 c =
-    let the-args = c .before .before .before .before .before .before .before .before .before .before .before .before .before .before .before .before .before .before .before .before .before .before .before .args in
-    let the-pre = c .before .before .before .before .before .before .before .before .before .before .before .before .before .before .before .before .before .before .before .before .before .before .before .pre in
+    let c6 = c .before .before .before .before .before .before in
+    let c23 = c6 .before .before .before .before .before .before .before .before .before .before .before .before .before .before .before .before .before in
+    let the-args = c23 .args in
+    let the-pre = c23 .pre in
     let half = laws.few-clauses (the-args .list .now) (the-args .n) (the-pre .0 .0) (the-pre .1 .0) in
-    sym (length-take-le _ _ (omega (arith, c .before .before .before .before .before .before .tally .ensures .1, half, the-pre .0 .1 .words-room, the-pre .0 .1 .same)))
+    sym (length-take-le _ _ (omega (arith, c6 .tally .ensures .1, half, the-pre .0 .1 .words-room, the-pre .0 .1 .same)))
 
 turns-tallied-requires : tie.Need-turns-tallied-requires
 turns-tallied-requires c κs =
-    let the-args = c .before .before .before .before .before .before .before .before .before .before .before .before .before .before .before .before .before .before .before .before .before .before .before .before .before .before .before .before .args in
-    let the-pre = c .before .before .before .before .before .before .before .before .before .before .before .before .before .before .before .before .before .before .before .before .before .before .before .before .before .before .before .before .pre in
-    let the-tally = c .before .before .before .before .before .before .before .before .before .before .before .tally in
-    let the-index = c .before .before .before .before .before .before .before .before .before .before .before .before .before .before .before .before .index in
+    let c11 = c .before .before .before .before .before .before .before .before .before .before .before in
+    let c16 = c11 .before .before .before .before .before in
+    let c28 = c16 .before .before .before .before .before .before .before .before .before .before .before .before in
+    let the-args = c28 .args in
+    let the-pre = c28 .pre in
+    let the-tally = c11 .tally in
+    let the-index = c16 .index in
     let half = laws.few-clauses (the-args .list .now) (the-args .n) (the-pre .0 .0) (the-pre .1 .0) in
     let kept = length-take-le (the-tally .result) (the-args .saved .now) (omega (arith, the-tally .ensures .1, half, the-pre .0 .1 .words-room, the-pre .0 .1 .same)) in
     (laws.prepared (the-pre .0 .1) (the-pre .0 .0) (the-index .kept .1 .1 .0) (the-tally .result) (length-take-le _ _ (omega (arith, the-tally .ensures .1, the-tally .ensures .0 .room))) (omega (arith, the-tally .ensures .1, half, the-pre .0 .1 .words-room)) refl (the-index .ensures), ((laws.tallied-part (the-tally .ensures .0) (the-tally .ensures .1), kept ∙ sym (length-take-le _ _ (omega (arith, the-tally .ensures .1, the-tally .ensures .0 .room)))), the-pre .1))

@@ -12,8 +12,10 @@ copy-requires c κs =
 
 turns-requires : tie.Need-turns-requires
 turns-requires c κs =
-    let the-pre = c .before .before .before .before .before .before .before .before .before .before .before .before .before .before .before .before .before .before .before .before .pre in
-    (the-pre .0, (((λ _. the-pre .1 .0 .0), c .before .before .before .before .before .before .before .before .before .copy .ensures), the-pre .1 .1))
+    let c9 = c .before .before .before .before .before .before .before .before .before in
+    let c20 = c9 .before .before .before .before .before .before .before .before .before .before .before in
+    let the-pre = c20 .pre in
+    (the-pre .0, (((λ _. the-pre .1 .0 .0), c9 .copy .ensures), the-pre .1 .1))
 
 same-length : tie.Need-same-length
 same-length c = search needs

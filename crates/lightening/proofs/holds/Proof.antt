@@ -38,7 +38,11 @@ literals-less : tie.Need-literals-less Inv-literals μ-literals
 literals-less c = search needs
 
 literals-again : tie.Need-literals-again Inv-literals μ-literals
-literals-again c = laws.unheld-on (c .before .before .before .before .literals .inv) (c .before .before .before .literals-test .taken) (sym (c .before .is-right .ensures) ∙ c .if1 .left)
+literals-again c =
+    let c1 = c .before in
+    let c3 = c1 .before .before in
+    let c4 = c3 .before in
+    laws.unheld-on (c4 .literals .inv) (c3 .literals-test .taken) (sym (c1 .is-right .ensures) ∙ c .if1 .left)
 
 returns-2 : tie.Need-returns-2 Inv-literals μ-literals
 returns-2 c = sym (laws.unheld-all (c .before .literals .inv) (omega (arith, c .literals-test .left)))

@@ -37,8 +37,11 @@ slice-aggregate-put-words c = search needs
 
 put-words-requires : tie.Need-put-words-requires Inv-variables μ-variables
 put-words-requires c κs =
-    let the-variables = c .before .before .before .before .before .variables in
-    omega (arith, c .before .before .before .before .before .before .before .before .before .pre .0 .1, the-variables .inv .0 .place, the-variables .inv .1, c .before .before .before .before .variables-test .taken)
+    let c4 = c .before .before .before .before in
+    let c5 = c4 .before in
+    let c9 = c5 .before .before .before .before in
+    let the-variables = c5 .variables in
+    omega (arith, c9 .pre .0 .1, the-variables .inv .0 .place, the-variables .inv .1, c4 .variables-test .taken)
 
 variables-less : tie.Need-variables-less Inv-variables μ-variables
 variables-less c = search needs

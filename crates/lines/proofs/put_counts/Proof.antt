@@ -44,42 +44,74 @@ put-number-requires-6 c κs = search needs
 
 put-spent-requires : tie.Need-put-spent-requires
 put-spent-requires c κs =
-    let the-put-number6 = c .before .before .before .put-number6 in
-    let the-put-number5 = c .before .before .before .before .before .before .before .before .put-number5 in
-    let the-put-number4 = c .before .before .before .before .before .before .before .before .before .before .before .before .before .put-number4 in
-    let the-put-number3 = c .before .before .before .before .before .before .before .before .before .before .before .before .before .before .before .before .before .before .put-number3 in
-    let the-put-number2 = c .before .before .before .before .before .before .before .before .before .before .before .before .before .before .before .before .before .before .before .before .before .before .before .put-number2 in
-    let the-put-number = c .before .before .before .before .before .before .before .before .before .before .before .before .before .before .before .before .before .before .before .before .before .before .before .before .before .before .before .before .put-number in
-    omega (arith, c .before .before .before .before .before .before .before .before .before .before .before .before .before .before .before .before .before .before .before .before .before .before .before .before .before .before .before .before .before .before .before .before .pre, the-put-number .ensures .1, the-put-number .ensures .0 .long, the-put-number2 .ensures .1, the-put-number2 .ensures .0 .long, the-put-number3 .ensures .1, the-put-number3 .ensures .0 .long, the-put-number4 .ensures .1, the-put-number4 .ensures .0 .long, the-put-number5 .ensures .1, the-put-number5 .ensures .0 .long, the-put-number6 .ensures .1, the-put-number6 .ensures .0 .long)
+    let c3 = c .before .before .before in
+    let c8 = c3 .before .before .before .before .before in
+    let c13 = c8 .before .before .before .before .before in
+    let c18 = c13 .before .before .before .before .before in
+    let c23 = c18 .before .before .before .before .before in
+    let c28 = c23 .before .before .before .before .before in
+    let c32 = c28 .before .before .before .before in
+    let the-put-number6 = c3 .put-number6 in
+    let the-put-number5 = c8 .put-number5 in
+    let the-put-number4 = c13 .put-number4 in
+    let the-put-number3 = c18 .put-number3 in
+    let the-put-number2 = c23 .put-number2 in
+    let the-put-number = c28 .put-number in
+    omega (arith, c32 .pre, the-put-number .ensures .1, the-put-number .ensures .0 .long, the-put-number2 .ensures .1, the-put-number2 .ensures .0 .long, the-put-number3 .ensures .1, the-put-number3 .ensures .0 .long, the-put-number4 .ensures .1, the-put-number4 .ensures .0 .long, the-put-number5 .ensures .1, the-put-number5 .ensures .0 .long, the-put-number6 .ensures .1, the-put-number6 .ensures .0 .long)
 
 slice-aggregate-put : tie.Need-slice-aggregate-put
 slice-aggregate-put c = search needs
 
 put-requires : tie.Need-put-requires
 put-requires c κs =
-    let the-put-spent = c .before .before .before .before .put-spent in
-    let the-put-number6 = c .before .before .before .before .before .before .before .before .put-number6 in
-    let the-put-number5 = c .before .before .before .before .before .before .before .before .before .before .before .before .before .put-number5 in
-    let the-put-number4 = c .before .before .before .before .before .before .before .before .before .before .before .before .before .before .before .before .before .before .put-number4 in
-    let the-put-number3 = c .before .before .before .before .before .before .before .before .before .before .before .before .before .before .before .before .before .before .before .before .before .before .before .put-number3 in
-    let the-put-number2 = c .before .before .before .before .before .before .before .before .before .before .before .before .before .before .before .before .before .before .before .before .before .before .before .before .before .before .before .before .put-number2 in
-    let the-put-number = c .before .before .before .before .before .before .before .before .before .before .before .before .before .before .before .before .before .before .before .before .before .before .before .before .before .before .before .before .before .before .before .before .before .put-number in
-    omega (arith, c .before .before .before .before .before .before .before .before .before .before .before .before .before .before .before .before .before .before .before .before .before .before .before .before .before .before .before .before .before .before .before .before .before .before .before .before .before .pre, the-put-number .ensures .1, the-put-number .ensures .0 .long, the-put-number2 .ensures .1, the-put-number2 .ensures .0 .long, the-put-number3 .ensures .1, the-put-number3 .ensures .0 .long, the-put-number4 .ensures .1, the-put-number4 .ensures .0 .long, the-put-number5 .ensures .1, the-put-number5 .ensures .0 .long, the-put-number6 .ensures .1, the-put-number6 .ensures .0 .long, the-put-spent .ensures .1, the-put-spent .ensures .0 .long)
+    let c4 = c .before .before .before .before in
+    let c8 = c4 .before .before .before .before in
+    let c13 = c8 .before .before .before .before .before in
+    let c18 = c13 .before .before .before .before .before in
+    let c23 = c18 .before .before .before .before .before in
+    let c28 = c23 .before .before .before .before .before in
+    let c33 = c28 .before .before .before .before .before in
+    let c37 = c33 .before .before .before .before in
+    let the-put-spent = c4 .put-spent in
+    let the-put-number6 = c8 .put-number6 in
+    let the-put-number5 = c13 .put-number5 in
+    let the-put-number4 = c18 .put-number4 in
+    let the-put-number3 = c23 .put-number3 in
+    let the-put-number2 = c28 .put-number2 in
+    let the-put-number = c33 .put-number in
+    omega (arith, c37 .pre, the-put-number .ensures .1, the-put-number .ensures .0 .long, the-put-number2 .ensures .1, the-put-number2 .ensures .0 .long, the-put-number3 .ensures .1, the-put-number3 .ensures .0 .long, the-put-number4 .ensures .1, the-put-number4 .ensures .0 .long, the-put-number5 .ensures .1, the-put-number5 .ensures .0 .long, the-put-number6 .ensures .1, the-put-number6 .ensures .0 .long, the-put-spent .ensures .1, the-put-spent .ensures .0 .long)
 
 same-length : tie.Need-same-length
-same-length c = let p = put-on (put-on (put-on (put-on (put-on (put-on (put-on (c .before .before .before .before .before .before .before .before .before .before .before .before .before .before .before .before .before .before .before .before .before .before .before .before .before .before .before .before .before .before .before .before .before .before .before .before .put-number .ensures .0) (c .before .before .before .before .before .before .before .before .before .before .before .before .before .before .before .before .before .before .before .before .before .before .before .before .before .before .before .before .before .before .before .put-number2 .ensures .0)) (c .before .before .before .before .before .before .before .before .before .before .before .before .before .before .before .before .before .before .before .before .before .before .before .before .before .before .put-number3 .ensures .0)) (c .before .before .before .before .before .before .before .before .before .before .before .before .before .before .before .before .before .before .before .before .before .put-number4 .ensures .0)) (c .before .before .before .before .before .before .before .before .before .before .before .before .before .before .before .before .put-number5 .ensures .0)) (c .before .before .before .before .before .before .before .before .before .before .before .put-number6 .ensures .0)) (c .before .before .before .before .before .before .before .put-spent .ensures .0)) (c .before .before .put .ensures) in p .long
+same-length c =
+    let c2 = c .before .before in
+    let c7 = c2 .before .before .before .before .before in
+    let c11 = c7 .before .before .before .before in
+    let c16 = c11 .before .before .before .before .before in
+    let c21 = c16 .before .before .before .before .before in
+    let c26 = c21 .before .before .before .before .before in
+    let c31 = c26 .before .before .before .before .before in
+    let c36 = c31 .before .before .before .before .before in
+    let p = put-on (put-on (put-on (put-on (put-on (put-on (put-on (c36 .put-number .ensures .0) (c31 .put-number2 .ensures .0)) (c26 .put-number3 .ensures .0)) (c21 .put-number4 .ensures .0)) (c16 .put-number5 .ensures .0)) (c11 .put-number6 .ensures .0)) (c7 .put-spent .ensures .0)) (c2 .put .ensures) in p .long
 
 returns : tie.Need-returns
 unfolding countsText
 returns c =
-    let the-put = c .before .before .put in
-    let the-put-spent = c .before .before .before .before .before .before .before .put-spent in
-    let the-put-number6 = c .before .before .before .before .before .before .before .before .before .before .before .put-number6 in
-    let the-put-number5 = c .before .before .before .before .before .before .before .before .before .before .before .before .before .before .before .before .put-number5 in
-    let the-put-number4 = c .before .before .before .before .before .before .before .before .before .before .before .before .before .before .before .before .before .before .before .before .before .put-number4 in
-    let the-put-number3 = c .before .before .before .before .before .before .before .before .before .before .before .before .before .before .before .before .before .before .before .before .before .before .before .before .before .before .put-number3 in
-    let the-put-number2 = c .before .before .before .before .before .before .before .before .before .before .before .before .before .before .before .before .before .before .before .before .before .before .before .before .before .before .before .before .before .before .before .put-number2 in
-    let the-put-number = c .before .before .before .before .before .before .before .before .before .before .before .before .before .before .before .before .before .before .before .before .before .before .before .before .before .before .before .before .before .before .before .before .before .before .before .before .put-number in
+    let c2 = c .before .before in
+    let c7 = c2 .before .before .before .before .before in
+    let c11 = c7 .before .before .before .before in
+    let c16 = c11 .before .before .before .before .before in
+    let c21 = c16 .before .before .before .before .before in
+    let c26 = c21 .before .before .before .before .before in
+    let c31 = c26 .before .before .before .before .before in
+    let c36 = c31 .before .before .before .before .before in
+    let the-put = c2 .put in
+    let the-put-spent = c7 .put-spent in
+    let the-put-number6 = c11 .put-number6 in
+    let the-put-number5 = c16 .put-number5 in
+    let the-put-number4 = c21 .put-number4 in
+    let the-put-number3 = c26 .put-number3 in
+    let the-put-number2 = c31 .put-number2 in
+    let the-put-number = c36 .put-number in
     (put-on (put-on (put-on (put-on (put-on (put-on (put-on (the-put-number .ensures .0) (the-put-number2 .ensures .0)) (the-put-number3 .ensures .0)) (the-put-number4 .ensures .0)) (the-put-number5 .ensures .0)) (the-put-number6 .ensures .0)) (the-put-spent .ensures .0)) (the-put .ensures), omega (arith, the-put-number .ensures .1, the-put-number .ensures .0 .long, the-put-number2 .ensures .1, the-put-number2 .ensures .0 .long, the-put-number3 .ensures .1, the-put-number3 .ensures .0 .long, the-put-number4 .ensures .1, the-put-number4 .ensures .0 .long, the-put-number5 .ensures .1, the-put-number5 .ensures .0 .long, the-put-number6 .ensures .1, the-put-number6 .ensures .0 .long, the-put-spent .ensures .1, the-put .ensures .place))
 
 pub put-counts-spec : {M : Type 1} → statement M

@@ -33,7 +33,12 @@ long-requires : tie.Need-long-requires Inv-states μ-states
 long-requires c κs = search needs
 
 put-number-requires : tie.Need-put-number-requires Inv-states μ-states
-put-number-requires c κs = let a = c .before .before .before .before .before .before .before .before .before .before .before .before .before in let i = c .before .before .before .before .before .states .inv in let p = c .before .before .before .before .before .before .before .before .put .ensures in omega (arith, a .pre, i .few, i .told .long, c .before .before .before .before .states-test .taken, p .place, p .long)
+put-number-requires c κs =
+    let c4 = c .before .before .before .before in
+    let c5 = c4 .before in
+    let c8 = c5 .before .before .before in
+    let c13 = c8 .before .before .before .before .before in
+    let a = c13 in let i = c5 .states .inv in let p = c8 .put .ensures in omega (arith, a .pre, i .few, i .told .long, c4 .states-test .taken, p .place, p .long)
 
 add-q : tie.Need-add-q Inv-states μ-states
 add-q c = search needs
@@ -43,24 +48,40 @@ states-less c = search needs
 
 states-again : tie.Need-states-again Inv-states μ-states
 states-again c =
-    let the-put-number = c .before .before .put-number in
-    map-on (c .before .before .before .before .before .before .before .before .states .inv) (c .before .before .before .before .before .before .before .states-test .taken) (c .before .before .before .before .long .ensures .0) (the-put-number .ensures .0) (the-put-number .ensures .1)
+    let c2 = c .before .before in
+    let c4 = c2 .before .before in
+    let c7 = c4 .before .before .before in
+    let c8 = c7 .before in
+    let the-put-number = c2 .put-number in
+    map-on (c8 .states .inv) (c7 .states-test .taken) (c4 .long .ensures .0) (the-put-number .ensures .0) (the-put-number .ensures .1)
 
 slice-aggregate-put-2 : tie.Need-slice-aggregate-put-2 Inv-states μ-states
 slice-aggregate-put-2 c = search needs
 
 put-requires-2 : tie.Need-put-requires-2 Inv-states μ-states
-put-requires-2 c κs = let a = c .before .before .before .before .before .before .before .before .before .before .before in let i = c .before .before .before .states .inv in let p = c .before .before .before .before .before .before .put .ensures in omega (arith, a .pre, i .few, i .inside, i .told .long, p .place, p .long)
+put-requires-2 c κs =
+    let c3 = c .before .before .before in
+    let c6 = c3 .before .before .before in
+    let c11 = c6 .before .before .before .before .before in
+    let a = c11 in let i = c3 .states .inv in let p = c6 .put .ensures in omega (arith, a .pre, i .few, i .inside, i .told .long, p .place, p .long)
 
 same-length : tie.Need-same-length Inv-states μ-states
-same-length c = c .before .before .put2 .ensures .long ∙ c .before .before .before .before .before .before .states .inv .told .long ∙ c .before .before .before .before .before .before .before .before .before .put .ensures .long
+same-length c =
+    let c2 = c .before .before in
+    let c6 = c2 .before .before .before .before in
+    let c9 = c6 .before .before .before in
+    c2 .put2 .ensures .long ∙ c6 .states .inv .told .long ∙ c9 .put .ensures .long
 
 returns : tie.Need-returns Inv-states μ-states
 returns c =
-    let i = c .before .before .before .before .before .before .states .inv in
-    let p = c .before .before .before .before .before .before .before .before .before .put .ensures in
-    let q = c .before .before .put2 .ensures in
-    (mapped i (c .before .before .before .before .before .states-test .left) p q, omega (arith, i .few, i .inside, p .place, q .place))
+    let c2 = c .before .before in
+    let c5 = c2 .before .before .before in
+    let c6 = c5 .before in
+    let c9 = c6 .before .before .before in
+    let i = c6 .states .inv in
+    let p = c9 .put .ensures in
+    let q = c2 .put2 .ensures in
+    (mapped i (c5 .states-test .left) p q, omega (arith, i .few, i .inside, p .place, q .place))
 
 pub put-map-spec : {M : Type 1} → statement M
 put-map-spec =

@@ -42,11 +42,15 @@ same-length c = search needs
 returns : tie.Need-returns
 unfolding tableText
 returns c =
-    let the-put = c .before .before .before .before .before .before .before .before .before .before .before .put in
-    let a = c .before .before .before .before .before .before .before .before .before .before .before .before .before .before .before .before in
+    let c2 = c .before .before in
+    let c7 = c2 .before .before .before .before .before in
+    let c11 = c7 .before .before .before .before in
+    let c16 = c11 .before .before .before .before .before in
+    let the-put = c11 .put in
+    let a = c16 in
     let p = the-put .ensures in
-    let q = c .before .before .put2 .ensures in
-    (put-on (put-on p (put-hexed (a .args .bytes .now) _ (the-put .result) (omega (arith, a .pre, p .place, p .long)) (c .before .before .before .before .before .before .before .put-hex .ensures))) q, omega (arith, p .place, q .place))
+    let q = c2 .put2 .ensures in
+    (put-on (put-on p (put-hexed (a .args .bytes .now) _ (the-put .result) (omega (arith, a .pre, p .place, p .long)) (c7 .put-hex .ensures))) q, omega (arith, p .place, q .place))
 
 pub put-table-spec : {M : Type 1} → statement M
 put-table-spec =

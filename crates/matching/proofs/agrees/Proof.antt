@@ -35,7 +35,12 @@ shared-slice-read-if2-2 c = search needs
 
 returns : tie.Need-returns Inv-states μ-states
 unfolding agreedOn
-returns c = all-failed _ (c .before .before .before .before .before .before .states .inv) (c .before .before .before .before .before .states-test .taken) (broken (sym (c .before .before .before .before .joined .ensures) ∙ c .before .before .before .if1 .taken) (ne-eqb _ _ (c .if2 .taken)))
+returns c =
+    let c3 = c .before .before .before in
+    let c4 = c3 .before in
+    let c5 = c4 .before in
+    let c6 = c5 .before in
+    all-failed _ (c6 .states .inv) (c5 .states-test .taken) (broken (sym (c4 .joined .ensures) ∙ c3 .if1 .taken) (ne-eqb _ _ (c .if2 .taken)))
 
 add-q : tie.Need-add-q Inv-states μ-states
 add-q c = search needs

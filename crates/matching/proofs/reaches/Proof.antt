@@ -44,25 +44,42 @@ joined-requires c κs = search needs
 
 returns : tie.Need-returns Inv-records μ-records
 returns c =
-    let the-starting = c .before .before .before .before .before .before .starting in
-    let the-args = c .before .before .before .before .before .before .before .before .before .args in
-    let the-pre = c .before .before .before .before .before .before .before .before .before .pre in
-    λ k d. over-targets (the-args .width) (the-args .section .now) k (the-starting .result .now) (the-args .map .now) (the-args .target) (d .long) (the-starting .ensures k d (the-pre .1)) (met (the-args .map .now) (the-args .target) (the-args .width - 1) (omega (arith, the-pre .0)) (c .before .before .before .before .before .records .inv) (c .before .before .before .before .records-test .taken) (sym (ap (joins (the-args .map .now) (the-args .target)) (c .before .before .wide .ensures)) ∙ sym (c .before .joined .ensures) ∙ c .if1 .taken))
+    let c1 = c .before in
+    let c2 = c1 .before in
+    let c4 = c2 .before .before in
+    let c5 = c4 .before in
+    let c6 = c5 .before in
+    let c9 = c6 .before .before .before in
+    let the-starting = c6 .starting in
+    let the-args = c9 .args in
+    let the-pre = c9 .pre in
+    λ k d. over-targets (the-args .width) (the-args .section .now) k (the-starting .result .now) (the-args .map .now) (the-args .target) (d .long) (the-starting .ensures k d (the-pre .1)) (met (the-args .map .now) (the-args .target) (the-args .width - 1) (omega (arith, the-pre .0)) (c5 .records .inv) (c4 .records-test .taken) (sym (ap (joins (the-args .map .now) (the-args .target)) (c2 .wide .ensures)) ∙ sym (c1 .joined .ensures) ∙ c .if1 .taken))
 
 records-less : tie.Need-records-less Inv-records μ-records
-records-less c = omega (arith, c .before .before .before .before .before .before .before .before .before .pre .0, c .before .before .before .before .records-test .taken)
+records-less c =
+    let c4 = c .before .before .before .before in
+    let c9 = c4 .before .before .before .before .before in
+    omega (arith, c9 .pre .0, c4 .records-test .taken)
 
 records-again : tie.Need-records-again Inv-records μ-records
 records-again c =
-    let the-args = c .before .before .before .before .before .before .before .before .before .args in
-    missed (the-args .map .now) (the-args .target) (the-args .width - 1) (omega (arith, c .before .before .before .before .before .before .before .before .before .pre .0)) (c .before .before .before .before .before .records .inv) (c .before .before .before .before .records-test .taken) (sym (ap (joins (the-args .map .now) (the-args .target)) (c .before .before .wide .ensures)) ∙ sym (c .before .joined .ensures) ∙ c .if1 .left)
+    let c1 = c .before in
+    let c2 = c1 .before in
+    let c4 = c2 .before .before in
+    let c5 = c4 .before in
+    let c9 = c5 .before .before .before .before in
+    let the-args = c9 .args in
+    missed (the-args .map .now) (the-args .target) (the-args .width - 1) (omega (arith, c9 .pre .0)) (c5 .records .inv) (c4 .records-test .taken) (sym (ap (joins (the-args .map .now) (the-args .target)) (c2 .wide .ensures)) ∙ sym (c1 .joined .ensures) ∙ c .if1 .left)
 
 returns-2 : tie.Need-returns-2 Inv-records μ-records
 returns-2 c =
-    let the-starting = c .before .before .starting in
-    let the-args = c .before .before .before .before .before .args in
-    let the-pre = c .before .before .before .before .before .pre in
-    λ k d. over-targets (the-args .width) (the-args .section .now) k (the-starting .result .now) (the-args .map .now) (the-args .target) (d .long) (the-starting .ensures k d (the-pre .1)) (none-met (the-args .map .now) (the-args .target) (the-args .width - 1) (omega (arith, the-pre .0)) (c .before .records .inv) (c .records-test .left))
+    let c1 = c .before in
+    let c2 = c1 .before in
+    let c5 = c2 .before .before .before in
+    let the-starting = c2 .starting in
+    let the-args = c5 .args in
+    let the-pre = c5 .pre in
+    λ k d. over-targets (the-args .width) (the-args .section .now) k (the-starting .result .now) (the-args .map .now) (the-args .target) (d .long) (the-starting .ensures k d (the-pre .1)) (none-met (the-args .map .now) (the-args .target) (the-args .width - 1) (omega (arith, the-pre .0)) (c1 .records .inv) (c .records-test .left))
 
 pub reaches-spec : {M : Type 1} → statement M
 reaches-spec =

@@ -35,16 +35,21 @@ reaches-requires c κs =
 
 returns : tie.Need-returns
 returns c =
-    let the-move-key = c .before .before .before .move-key in
-    let the-if1 = c .before .before .before .before .before .if1 in
-    let the-args = c .before .before .before .before .before .before .before .before .before .before .args in
+    let c1 = c .before in
+    let c3 = c1 .before .before in
+    let c5 = c3 .before .before in
+    let c10 = c5 .before .before .before .before .before in
+    let the-move-key = c3 .move-key in
+    let the-if1 = c5 .if1 in
+    let the-args = c10 .args in
     let k = subst (λ w. Keyed w (the-args .q ∷ getD (the-args .fields .now) 1 0 ∷ []) (the-move-key .result)) (sym (the-if1 .taken)) (the-move-key .ensures) in
-    c .reaches .ensures (the-args .q ∷ getD (the-args .fields .now) 1 0 ∷ []) k ∙ record-move _ _ _ _ _ _ _ (the-if1 .taken) (c .before .before .before .before .before .before .before .before .before .before .pre .1 .0) (c .before .wide .ensures)
+    c .reaches .ensures (the-args .q ∷ getD (the-args .fields .now) 1 0 ∷ []) k ∙ record-move _ _ _ _ _ _ _ (the-if1 .taken) (c10 .pre .1 .0) (c1 .wide .ensures)
 
 return-met-requires : tie.Need-return-met-requires
 return-met-requires c κs =
-    let the-pre = c .before .before .before .before .before .pre in
-    let the-args = c .before .before .before .before .before .args in
+    let c5 = c .before .before .before .before .before in
+    let the-pre = c5 .pre in
+    let the-args = c5 .args in
     let l = the-pre .0 .0 in
     let x = c .if1 .left in
     let e = the-pre .0 .1 in

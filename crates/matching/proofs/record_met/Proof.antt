@@ -45,13 +45,24 @@ is-in-requires c κs = search needs
 -- the class that is sought is that of the record's first state
 record-matched-requires : tie.Need-record-matched-requires Inv-states μ-states
 record-matched-requires c κs =
-    let a = c .before .before .before .before .before .before .before .before .before .before .before .before .before in
-    let k = sym (c .before .before .before .before .before .before .before .before .keeps .ensures) ∙ not-false _ (c .before .before .before .before .before .before .before .if1 .left) in
-    let e = c .before .before .before .before .class-of .ensures ∙ ap (classOf (a .args .map .now)) (c .before .before .before .before .before .wide .ensures) in
-    ((a .pre .0, a .pre .1, k), (by-class _ _ _ e (c .before .is-in .ensures) (c .if2 .taken), omega (arith, a .pre .0 .few, c .before .before .states-test .taken)))
+    let c1 = c .before in
+    let c2 = c1 .before in
+    let c4 = c2 .before .before in
+    let c5 = c4 .before in
+    let c7 = c5 .before .before in
+    let c8 = c7 .before in
+    let c13 = c8 .before .before .before .before .before in
+    let a = c13 in
+    let k = sym (c8 .keeps .ensures) ∙ not-false _ (c7 .if1 .left) in
+    let e = c4 .class-of .ensures ∙ ap (classOf (a .args .map .now)) (c5 .wide .ensures) in
+    ((a .pre .0, a .pre .1, k), (by-class _ _ _ e (c1 .is-in .ensures) (c .if2 .taken), omega (arith, a .pre .0 .few, c2 .states-test .taken)))
 
 returns-2 : tie.Need-returns-2 Inv-states μ-states
-returns-2 c = all-failed _ (c .before .before .before .before .before .states .inv) (c .before .before .before .before .states-test .taken) (sym (c .before .record-matched .ensures) ∙ not-true _ (c .if3 .taken))
+returns-2 c =
+    let c1 = c .before in
+    let c4 = c1 .before .before .before in
+    let c5 = c4 .before in
+    all-failed _ (c5 .states .inv) (c4 .states-test .taken) (sym (c1 .record-matched .ensures) ∙ not-true _ (c .if3 .taken))
 
 add-q : tie.Need-add-q Inv-states μ-states
 add-q c = search needs
@@ -61,10 +72,16 @@ states-less c = search needs
 
 states-again : tie.Need-states-again Inv-states μ-states
 states-again c =
-    let i = c .before .before .before .states .inv in
-    let t = c .before .before .states-test .taken in
-    let e = c .before .before .before .before .class-of .ensures ∙ ap (classOf (c .before .before .before .before .before .before .before .before .before .before .before .before .before .args .map .now)) (c .before .before .before .before .before .wide .ensures) in
-    ⊎-elim (λ w. all-passed _ i t (sym (w .1 .ensures) ∙ not-false _ (w .2 .left))) (λ w. all-passed _ i t (record-apart _ _ _ _ _ _ _ (by-class _ _ _ e (c .before .is-in .ensures) (w .left)))) (c .if2 .came)
+    let c1 = c .before in
+    let c2 = c1 .before in
+    let c3 = c2 .before in
+    let c4 = c3 .before in
+    let c5 = c4 .before in
+    let c13 = c5 .before .before .before .before .before .before .before .before in
+    let i = c3 .states .inv in
+    let t = c2 .states-test .taken in
+    let e = c4 .class-of .ensures ∙ ap (classOf (c13 .args .map .now)) (c5 .wide .ensures) in
+    ⊎-elim (λ w. all-passed _ i t (sym (w .1 .ensures) ∙ not-false _ (w .2 .left))) (λ w. all-passed _ i t (record-apart _ _ _ _ _ _ _ (by-class _ _ _ e (c1 .is-in .ensures) (w .left)))) (c .if2 .came)
 
 returns-3 : tie.Need-returns-3 Inv-states μ-states
 returns-3 c = all-done _ (c .before .states .inv) (c .states-test .left)

@@ -40,13 +40,26 @@ record-met-requires : tie.Need-record-met-requires Inv-records μ-records
 record-met-requires c κs = let a = c .before .before .before .before .before .before in (a .pre, omega (arith, c .record-met-arg .given))
 
 returns : tie.Need-returns Inv-records μ-records
-returns c = records-failed _ _ (c .before .before .before .before .records .inv) (omega (arith, c .before .before .before .before .before .before .before .before .pre .moves)) (c .before .before .before .records-test .taken) (sym (c .before .record-met .ensures) ∙ not-true _ (c .if1 .taken))
+returns c =
+    let c1 = c .before in
+    let c3 = c1 .before .before in
+    let c4 = c3 .before in
+    let c8 = c4 .before .before .before .before in
+    records-failed _ _ (c4 .records .inv) (omega (arith, c8 .pre .moves)) (c3 .records-test .taken) (sym (c1 .record-met .ensures) ∙ not-true _ (c .if1 .taken))
 
 records-less : tie.Need-records-less Inv-records μ-records
-records-less c = omega (arith, c .before .before .before .before .before .before .before .before .pre .moves, c .before .before .before .records-test .taken)
+records-less c =
+    let c3 = c .before .before .before in
+    let c8 = c3 .before .before .before .before .before in
+    omega (arith, c8 .pre .moves, c3 .records-test .taken)
 
 records-again : tie.Need-records-again Inv-records μ-records
-records-again c = records-passed _ _ (c .before .before .before .before .records .inv) (omega (arith, c .before .before .before .before .before .before .before .before .pre .moves)) (c .before .before .before .records-test .taken) (sym (c .before .record-met .ensures) ∙ not-false _ (c .if1 .left))
+records-again c =
+    let c1 = c .before in
+    let c3 = c1 .before .before in
+    let c4 = c3 .before in
+    let c8 = c4 .before .before .before .before in
+    records-passed _ _ (c4 .records .inv) (omega (arith, c8 .pre .moves)) (c3 .records-test .taken) (sym (c1 .record-met .ensures) ∙ not-false _ (c .if1 .left))
 
 returns-2 : tie.Need-returns-2 Inv-records μ-records
 returns-2 c = records-done _ _ (c .before .records .inv) (c .records-test .left)

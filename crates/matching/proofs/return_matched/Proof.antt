@@ -22,8 +22,12 @@ has-top-requires c κs = search needs
 
 returns-2 : tie.Need-returns-2
 returns-2 c =
-    let the-pre = c .before .before .before .before .before .before .before .before .pre in
-    not-under _ _ _ _ _ _ _ _ _ (the-pre .1 .0) (the-pre .1 .1) (by-class _ _ _ (the-pre .0 .4) (c .before .before .before .is-in .ensures) (not-false _ (c .before .before .if1 .left))) (sym (c .before .has-top .ensures) ∙ not-true _ (c .if2 .taken))
+    let c1 = c .before in
+    let c2 = c1 .before in
+    let c3 = c2 .before in
+    let c8 = c3 .before .before .before .before .before in
+    let the-pre = c8 .pre in
+    not-under _ _ _ _ _ _ _ _ _ (the-pre .1 .0) (the-pre .1 .1) (by-class _ _ _ (the-pre .0 .4) (c3 .is-in .ensures) (not-false _ (c2 .if1 .left))) (sym (c1 .has-top .ensures) ∙ not-true _ (c .if2 .taken))
 
 cast-return-key : tie.Need-cast-return-key
 cast-return-key c = search needs
@@ -48,9 +52,16 @@ reaches-requires c κs = (omega arith, c .before .before .before .before .before
 
 returns-3 : tie.Need-returns-3
 returns-3 c =
-    let the-args = c .before .before .before .before .before .before .before .before .before .before .before .before .before .args in
-    let the-pre = c .before .before .before .before .before .before .before .before .before .before .before .before .before .pre in
-    c .reaches .ensures (the-args .q ∷ getD (the-args .fields .now) 1 0 ∷ the-args .u ∷ []) (c .before .before .before .return-key .ensures) ∙ return-by _ _ _ _ _ _ _ _ _ (the-pre .1 .0) (the-pre .1 .1) (by-class _ _ _ (the-pre .0 .4) (c .before .before .before .before .before .before .before .before .is-in .ensures) (not-false _ (c .before .before .before .before .before .before .before .if1 .left))) (sym (c .before .before .before .before .before .before .has-top .ensures) ∙ not-false _ (c .before .before .before .before .before .if2 .left)) (c .before .wide .ensures)
+    let c1 = c .before in
+    let c3 = c1 .before .before in
+    let c5 = c3 .before .before in
+    let c6 = c5 .before in
+    let c7 = c6 .before in
+    let c8 = c7 .before in
+    let c13 = c8 .before .before .before .before .before in
+    let the-args = c13 .args in
+    let the-pre = c13 .pre in
+    c .reaches .ensures (the-args .q ∷ getD (the-args .fields .now) 1 0 ∷ the-args .u ∷ []) (c3 .return-key .ensures) ∙ return-by _ _ _ _ _ _ _ _ _ (the-pre .1 .0) (the-pre .1 .1) (by-class _ _ _ (the-pre .0 .4) (c8 .is-in .ensures) (not-false _ (c7 .if1 .left))) (sym (c6 .has-top .ensures) ∙ not-false _ (c5 .if2 .left)) (c1 .wide .ensures)
 
 pub return-matched-spec : {M : Type 1} → statement M
 return-matched-spec =

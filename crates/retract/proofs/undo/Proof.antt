@@ -15,8 +15,10 @@ shared-slice-read-x c = search needs
 
 assign-requires : tie.Need-assign-requires
 assign-requires c κs =
-    let the-pre = c .before .before .before .before .before .before .before .before .before .before .before .before .before .pre in
-    (the-pre .0, laws.flippable (the-pre .1) (c .before .before .before .before .before .before .unwind .ensures))
+    let c6 = c .before .before .before .before .before .before in
+    let c13 = c6 .before .before .before .before .before .before .before in
+    let the-pre = c13 .pre in
+    (the-pre .0, laws.flippable (the-pre .1) (c6 .unwind .ensures))
 
 wide-requires : tie.Need-wide-requires
 wide-requires c κs = search needs
@@ -25,7 +27,11 @@ same-length : tie.Need-same-length
 same-length c = search needs
 
 returns : tie.Need-returns
-returns c = laws.flipped (c .before .before .before .before .before .before .before .before .before .before .before .before .before .before .before .before .before .pre .1) (c .before .before .before .before .before .before .before .before .before .before .unwind .ensures) (c .before .before .before .assign .ensures) (c .wide .ensures)
+returns c =
+    let c3 = c .before .before .before in
+    let c10 = c3 .before .before .before .before .before .before .before in
+    let c17 = c10 .before .before .before .before .before .before .before in
+    laws.flipped (c17 .pre .1) (c10 .unwind .ensures) (c3 .assign .ensures) (c .wide .ensures)
 
 pub undo-spec : {M : Type 1} → statement M
 undo-spec =

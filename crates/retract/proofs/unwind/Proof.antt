@@ -24,19 +24,31 @@ mul-unset : tie.Need-mul-unset Inv-trail μ-trail
 mul-unset c = search needs
 
 shared-slice-read-unset : tie.Need-shared-slice-read-unset Inv-trail μ-trail
-shared-slice-read-unset c = laws.unwind-inside (c .before .before .before .before .before .before .pre .1) (c .before .before .trail .inv) (c .before .trail-test .taken)
+shared-slice-read-unset c =
+    let c1 = c .before in
+    let c2 = c1 .before in
+    let c6 = c2 .before .before .before .before in
+    laws.unwind-inside (c6 .pre .1) (c2 .trail .inv) (c1 .trail-test .taken)
 
 unset-requires : tie.Need-unset-requires Inv-trail μ-trail
 unset-requires c κs =
-    let the-trail = c .before .before .before .before .before .trail in
-    let the-pre = c .before .before .before .before .before .before .before .before .before .pre in
-    (the-pre .0, the-trail .inv .rows, laws.unwind-below (the-pre .1) (the-trail .inv) (c .before .before .before .before .trail-test .taken) refl)
+    let c4 = c .before .before .before .before in
+    let c5 = c4 .before in
+    let c9 = c5 .before .before .before .before in
+    let the-trail = c5 .trail in
+    let the-pre = c9 .pre in
+    (the-pre .0, the-trail .inv .rows, laws.unwind-below (the-pre .1) (the-trail .inv) (c4 .trail-test .taken) refl)
 
 trail-less : tie.Need-trail-less Inv-trail μ-trail
 trail-less c = search needs
 
 trail-again : tie.Need-trail-again Inv-trail μ-trail
-trail-again c = laws.unwind-on (c .before .before .before .before .before .before .before .before .before .before .before .before .pre .1) (c .before .before .before .before .before .before .before .before .trail .inv) (c .before .before .before .before .before .before .before .trail-test .taken) refl (c .before .before .unset .ensures)
+trail-again c =
+    let c2 = c .before .before in
+    let c7 = c2 .before .before .before .before .before in
+    let c8 = c7 .before in
+    let c12 = c8 .before .before .before .before in
+    laws.unwind-on (c12 .pre .1) (c8 .trail .inv) (c7 .trail-test .taken) refl (c2 .unset .ensures)
 
 same-length : tie.Need-same-length Inv-trail μ-trail
 same-length c = undone-length (c .before .before .before .before .before .pre .1) (c .before .trail .inv .undone)

@@ -14,9 +14,17 @@ Inv-tables limits tables lengths share list₀ maps₀ out₀ values₀ saved₀
 abbrev μ-tables : tie.MeasureT-tables
 μ-tables limits tables lengths share list₀ maps₀ out₀ values₀ saved₀ at₀ map-at₀ out-at₀ i₀ list maps out values saved at map-at out-at i = length lengths - i
 
+-- ---- places of the code, from the end of a table's turn: the head of the loop, and the entry
+
+abbrev head : tie.After-take-turn Inv-tables μ-tables → tie.At-tables Inv-tables μ-tables
+head c = c .before .before .before .before .before .before .before
+
+abbrev entry : tie.After-take-turn Inv-tables μ-tables → tie.Start Inv-tables μ-tables
+entry c = head c .before .before .before .before .before .before
+
 -- its turn, over its bytes and what is left of the buffers
 turn-of : (c : tie.After-take-turn Inv-tables μ-tables)
-    → Turned (c .before .before .before .before .before .before .before .before .before .before .before .before .before .args .limits) (take (getD (c .before .before .before .before .before .before .before .before .before .before .before .before .before .args .lengths .now) (c .before .before .before .before .before .before .before .tables .i) 0) (drop (c .before .before .before .before .before .before .before .tables .at) (c .before .before .before .before .before .before .before .before .before .before .before .before .before .args .tables .now))) (c .before .before .before .before .before .before .before .before .before .before .before .before .before .args .share + c .before .before .before .before .before .before .before .tables .saved) (c .before .before .before .before .before .before .before .tables .list) (drop (c .before .before .before .before .before .before .before .tables .map-at) (c .before .before .before .before .before .before .before .tables .maps)) (drop (c .before .before .before .before .before .before .before .tables .out-at) (c .before .before .before .before .before .before .before .tables .out)) (c .take-turn .result) (c .take-turn .last .1 .1 .1 .0) (c .take-turn .last .1 .1 .1 .1 .0) (c .take-turn .last .1 .1 .1 .1 .1 .0)
+    → Turned (entry c .args .limits) (take (getD (entry c .args .lengths .now) (head c .tables .i) 0) (drop (head c .tables .at) (entry c .args .tables .now))) (entry c .args .share + head c .tables .saved) (head c .tables .list) (drop (head c .tables .map-at) (head c .tables .maps)) (drop (head c .tables .out-at) (head c .tables .out)) (c .take-turn .result) (c .take-turn .last .1 .1 .1 .0) (c .take-turn .last .1 .1 .1 .1 .0) (c .take-turn .last .1 .1 .1 .1 .1 .0)
 turn-of c =
     let c6 = c .before .before .before .before .before .before in
     let c7 = c6 .before in

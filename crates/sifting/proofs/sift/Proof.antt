@@ -65,16 +65,24 @@ clauses-less c = omega (arith, c .before .before .before .before .before .before
 
 clauses-again : tie.Need-clauses-again Inv-clauses μ-clauses
 clauses-again c =
-    let the-wide = c .before .before .before .before .before .wide in
-    let the-clauses = c .before .before .before .before .before .before .before .before .clauses in
-    let held = lent-told (c .before .before .before .before .before .before .before .before .before .before .before .before .before .before .args .list .now) (the-clauses .at) (the-wide .ensures) _ (c .before .before .ask .ensures .1) (c .enum-told .given .1) in
-    (rw (the-wide .ensures) (laws.sift-holding (c .before .before .before .before .before .before .before .before .before .before .before .before .before .before .pre .1 .0) (the-clauses .inv .0) (c .before .before .before .before .before .before .before .clauses-test .taken) held), the-clauses .inv .1, the-clauses .inv .2)
+    let c2 = c .before .before in
+    let c5 = c2 .before .before .before in
+    let c7 = c5 .before .before in
+    let c8 = c7 .before in
+    let c14 = c8 .before .before .before .before .before .before in
+    let the-wide = c5 .wide in
+    let the-clauses = c8 .clauses in
+    let held = lent-told (c14 .args .list .now) (the-clauses .at) (the-wide .ensures) _ (c2 .ask .ensures .1) (c .enum-told .given .1) in
+    (rw (the-wide .ensures) (laws.sift-holding (c14 .pre .1 .0) (the-clauses .inv .0) (c7 .clauses-test .taken) held), the-clauses .inv .1, the-clauses .inv .2)
 
 enum-told-2 : tie.Need-enum-told-2 Inv-clauses μ-clauses
 enum-told-2 c = search needs
 
 same-length : tie.Need-same-length Inv-clauses μ-clauses
-same-length c = worked-length (c .before .before .before .before .before .before .before .before .before .before .before .before .before .before .pre .1 .0) (c .before .before .before .before .before .before .before .before .clauses .inv .0 .worked)
+same-length c =
+    let c8 = c .before .before .before .before .before .before .before .before in
+    let c14 = c8 .before .before .before .before .before .before in
+    worked-length (c14 .pre .1 .0) (c8 .clauses .inv .0 .worked)
 
 same-length-2 : tie.Need-same-length-2 Inv-clauses μ-clauses
 same-length-2 c = c .before .before .before .before .before .before .before .before .clauses .inv .0 .worked .grown .long
@@ -84,9 +92,14 @@ same-length-3 c = c .before .before .before .before .before .before .before .bef
 
 returns : tie.Need-returns Inv-clauses μ-clauses
 returns c =
-    let the-clauses = c .before .before .before .before .before .before .before .before .clauses in
-    let said = lent-seen _ _ (c .before .before .before .before .before .wide .ensures) _ (c .before .before .ask .ensures .0) (c .enum-told2 .given .1) in
-    (laws.sift-broken (c .before .before .before .before .before .before .before .before .before .before .before .before .before .before .pre .1 .0) (the-clauses .inv .0) (c .before .before .before .before .before .before .before .clauses-test .taken) said, the-clauses .inv .1)
+    let c2 = c .before .before in
+    let c5 = c2 .before .before .before in
+    let c7 = c5 .before .before in
+    let c8 = c7 .before in
+    let c14 = c8 .before .before .before .before .before .before in
+    let the-clauses = c8 .clauses in
+    let said = lent-seen _ _ (c5 .wide .ensures) _ (c2 .ask .ensures .0) (c .enum-told2 .given .1) in
+    (laws.sift-broken (c14 .pre .1 .0) (the-clauses .inv .0) (c7 .clauses-test .taken) said, the-clauses .inv .1)
 
 enum-known-said : tie.Need-enum-known-said Inv-clauses μ-clauses
 enum-known-said c = search needs
@@ -108,20 +121,30 @@ clauses-less-2 c = omega (arith, c .before .before .before .before .before .befo
 
 clauses-again-2 : tie.Need-clauses-again-2 Inv-clauses μ-clauses
 clauses-again-2 c =
-    let the-said = c .before .before .before .before .before .before .before .before .before .before .said in
-    let the-ask = c .before .before .before .before .before .before .before .before .before .before .before .before .ask in
-    let the-wide = c .before .before .before .before .before .before .before .before .before .before .before .before .before .before .before .wide in
-    let the-clauses-test = c .before .before .before .before .before .before .before .before .before .before .before .before .before .before .before .before .before .clauses-test in
-    let the-clauses = c .before .before .before .before .before .before .before .before .before .before .before .before .before .before .before .before .before .before .clauses in
+    let c4 = c .before .before .before .before in
+    let c10 = c4 .before .before .before .before .before .before in
+    let c12 = c10 .before .before in
+    let c15 = c12 .before .before .before in
+    let c17 = c15 .before .before in
+    let c18 = c17 .before in
+    let c24 = c18 .before .before .before .before .before .before in
+    let the-said = c10 .said in
+    let the-ask = c12 .ask in
+    let the-wide = c15 .wide in
+    let the-clauses-test = c17 .clauses-test in
+    let the-clauses = c18 .clauses in
     let said = lent-seen _ _ (the-wide .ensures) _ (the-ask .ensures .0) (the-said .given .1) in
-    let f = c .before .before .before .before .force .ensures in
-    (rw (the-wide .ensures) (laws.sift-forced (c .before .before .before .before .before .before .before .before .before .before .before .before .before .before .before .before .before .before .before .before .before .before .before .before .pre .1 .0) (the-clauses .inv .0) (the-clauses-test .taken) said f), f .assigned .rows, the-clauses .inv .2)
+    let f = c4 .force .ensures in
+    (rw (the-wide .ensures) (laws.sift-forced (c24 .pre .1 .0) (the-clauses .inv .0) (the-clauses-test .taken) said f), f .assigned .rows, the-clauses .inv .2)
 
 enum-told-3 : tie.Need-enum-told-3 Inv-clauses μ-clauses
 enum-told-3 c = search needs
 
 cast-places : tie.Need-cast-places Inv-clauses μ-clauses
-cast-places c = omega (arith, c .before .before .before .before .before .before .before .before .before .before .before .before .before .before .before .pre .0 .1, c .before .before .before .before .before .before .before .before .clauses-test .taken)
+cast-places c =
+    let c8 = c .before .before .before .before .before .before .before .before in
+    let c15 = c8 .before .before .before .before .before .before .before in
+    omega (arith, c15 .pre .0 .1, c8 .clauses-test .taken)
 
 mul-places : tie.Need-mul-places Inv-clauses μ-clauses
 mul-places c = search needs
@@ -130,24 +153,35 @@ slice-write-places : tie.Need-slice-write-places Inv-clauses μ-clauses
 slice-write-places c = search needs
 
 add-kept : tie.Need-add-kept Inv-clauses μ-clauses
-add-kept c = omega (arith, c .before .before .before .before .before .before .before .before .before .clauses .inv .0 .few, c .before .before .before .before .before .before .before .before .clauses-test .taken, c .before .before .before .before .before .before .before .before .before .before .before .before .before .before .before .good .0)
+add-kept c =
+    let c8 = c .before .before .before .before .before .before .before .before in
+    let c9 = c8 .before in
+    let c15 = c9 .before .before .before .before .before .before in
+    omega (arith, c9 .clauses .inv .0 .few, c8 .clauses-test .taken, c15 .good .0)
 
 clauses-less-3 : tie.Need-clauses-less-3 Inv-clauses μ-clauses
 clauses-less-3 c = omega (arith, c .before .before .before .before .before .before .before .before .clauses-test .taken)
 
 clauses-again-3 : tie.Need-clauses-again-3 Inv-clauses μ-clauses
 clauses-again-3 c =
-    let the-wide = c .before .before .before .before .before .before .wide in
-    let the-clauses-test = c .before .before .before .before .before .before .before .before .clauses-test in
-    let the-pre = c .before .before .before .before .before .before .before .before .before .before .before .before .before .before .before .pre in
-    let i = c .before .before .before .before .before .before .before .before .before .clauses .inv in
+    let c6 = c .before .before .before .before .before .before in
+    let c8 = c6 .before .before in
+    let c9 = c8 .before in
+    let c15 = c9 .before .before .before .before .before .before in
+    let the-wide = c6 .wide in
+    let the-clauses-test = c8 .clauses-test in
+    let the-pre = c15 .pre in
+    let i = c9 .clauses .inv in
     laws.by-way
     (c .if1 .came)
     (λ a. let p = laws.sift-put (the-pre .1 .0) (i .0) (the-clauses-test .taken) (a .1) in (rw (the-wide .ensures) (p .0), i .1, p .1 ∙ i .2))
     (λ a. (rw (the-wide .ensures) (laws.sift-kept (the-pre .1 .0) (i .0) (the-clauses-test .taken) (ap length (a .1)) (λ h. absurd (omega (arith, a .0 .left, h)))), i .1, ap length (a .1) ∙ i .2))
 
 same-length-4 : tie.Need-same-length-4 Inv-clauses μ-clauses
-same-length-4 c = worked-length (c .before .before .before .before .before .before .before .pre .1 .0) (c .before .clauses .inv .0 .worked)
+same-length-4 c =
+    let c1 = c .before in
+    let c7 = c1 .before .before .before .before .before .before in
+    worked-length (c7 .pre .1 .0) (c1 .clauses .inv .0 .worked)
 
 same-length-5 : tie.Need-same-length-5 Inv-clauses μ-clauses
 same-length-5 c = c .before .clauses .inv .0 .worked .grown .long
@@ -157,8 +191,10 @@ same-length-6 c = c .before .clauses .inv .2
 
 returns-2 : tie.Need-returns-2 Inv-clauses μ-clauses
 returns-2 c =
-    let the-clauses = c .before .clauses in
-    (laws.sift-end (c .before .before .before .before .before .before .before .pre .1 .0) (the-clauses .inv .0) (c .clauses-test .left), the-clauses .inv .1)
+    let c1 = c .before in
+    let c7 = c1 .before .before .before .before .before .before in
+    let the-clauses = c1 .clauses in
+    (laws.sift-end (c7 .pre .1 .0) (the-clauses .inv .0) (c .clauses-test .left), the-clauses .inv .1)
 
 pub sift-spec : {M : Type 1} → statement M
 sift-spec = tie.close (tie.spec Inv-clauses μ-clauses clauses-holds add-first mul-wide shared-slice-read-wide wide-requires add-at mul-ask sub-ask part-ask-start part-ask-end ask-requires enum-told clauses-less clauses-again enum-told-2 same-length same-length-2 same-length-3 returns enum-known-said force-requires clauses-less-2 clauses-again-2 enum-told-3 cast-places mul-places slice-write-places add-kept clauses-less-3 clauses-again-3 same-length-4 same-length-5 same-length-6 returns-2)

@@ -26,8 +26,11 @@ next-state-requires c κs = search needs
 
 cast-s : tie.Need-cast-s Inv-states μ-states
 cast-s c =
-    let the-states = c .before .before .states in
-    record { fits = omega (arith, laws.low-state (c .before .before .before .before .before .pre .1) (the-states .inv) (c .before .states-test .taken) (c .next-state .ensures), the-states .inv .rows .few) }
+    let c1 = c .before in
+    let c2 = c1 .before in
+    let c5 = c2 .before .before .before in
+    let the-states = c2 .states in
+    record { fits = omega (arith, laws.low-state (c5 .pre .1) (the-states .inv) (c1 .states-test .taken) (c .next-state .ensures), the-states .inv .rows .few) }
 
 later-states-requires : tie.Need-later-states-requires Inv-states μ-states
 later-states-requires c κs = search needs
@@ -40,59 +43,115 @@ wide-requires c κs = search needs
 
 slice-read-y : tie.Need-slice-read-y Inv-states μ-states
 slice-read-y c =
-    let the-pre = c .before .before .before .before .before .before .before .before .before .pre in
-    let place = c .before .wide .ensures ∙ c .before .before .variable-of .ensures in
-    let met = laws.meet (the-pre .0 .0) (the-pre .1) (c .before .before .before .before .before .before .states .inv) (c .before .before .before .before .before .states-test .taken) (c .before .before .before .before .next-state .ensures) (c .before .before .before .later-states .ensures) place in
+    let c1 = c .before in
+    let c2 = c1 .before in
+    let c3 = c2 .before in
+    let c4 = c3 .before in
+    let c5 = c4 .before in
+    let c6 = c5 .before in
+    let c9 = c6 .before .before .before in
+    let the-pre = c9 .pre in
+    let place = c1 .wide .ensures ∙ c2 .variable-of .ensures in
+    let met = laws.meet (the-pre .0 .0) (the-pre .1) (c6 .states .inv) (c5 .states-test .taken) (c4 .next-state .ensures) (c3 .later-states .ensures) place in
     laws.place-inside met
 
 put-requires : tie.Need-put-requires Inv-states μ-states
 put-requires c κs =
-    let the-variable-of = c .before .before .before .before .before .before .before .variable-of in
-    let the-pre = c .before .before .before .before .before .before .before .before .before .before .before .before .before .before .pre in
-    let place = c .before .before .before .before .before .before .wide .ensures ∙ the-variable-of .ensures in
-    let met = laws.meet (the-pre .0 .0) (the-pre .1) (c .before .before .before .before .before .before .before .before .before .before .before .states .inv) (c .before .before .before .before .before .before .before .before .before .before .states-test .taken) (c .before .before .before .before .before .before .before .before .before .next-state .ensures) (c .before .before .before .before .before .before .before .before .later-states .ensures) place in
-    (laws.bounds met .0, laws.bounds met .1, rw (the-variable-of .ensures) (laws.inside met), laws.can-put met refl (c .before .before .before .before .if1 .taken))
+    let c4 = c .before .before .before .before in
+    let c6 = c4 .before .before in
+    let c7 = c6 .before in
+    let c8 = c7 .before in
+    let c9 = c8 .before in
+    let c10 = c9 .before in
+    let c11 = c10 .before in
+    let c14 = c11 .before .before .before in
+    let the-variable-of = c7 .variable-of in
+    let the-pre = c14 .pre in
+    let place = c6 .wide .ensures ∙ the-variable-of .ensures in
+    let met = laws.meet (the-pre .0 .0) (the-pre .1) (c11 .states .inv) (c10 .states-test .taken) (c9 .next-state .ensures) (c8 .later-states .ensures) place in
+    (laws.bounds met .0, laws.bounds met .1, rw (the-variable-of .ensures) (laws.inside met), laws.can-put met refl (c4 .if1 .taken))
 
 states-less : tie.Need-states-less Inv-states μ-states
 states-less c =
-    let the-pre = c .before .before .before .before .before .before .before .before .before .before .before .before .before .before .before .before .before .before .before .pre in
-    let place = c .before .before .before .before .before .before .before .before .before .before .before .wide .ensures ∙ c .before .before .before .before .before .before .before .before .before .before .before .before .variable-of .ensures in
-    let met = laws.meet (the-pre .0 .0) (the-pre .1) (c .before .before .before .before .before .before .before .before .before .before .before .before .before .before .before .before .states .inv) (c .before .before .before .before .before .before .before .before .before .before .before .before .before .before .before .states-test .taken) (c .before .before .before .before .before .before .before .before .before .before .before .before .before .before .next-state .ensures) (c .before .before .before .before .before .before .before .before .before .before .before .before .before .later-states .ensures) place in
+    let c11 = c .before .before .before .before .before .before .before .before .before .before .before in
+    let c12 = c11 .before in
+    let c13 = c12 .before in
+    let c14 = c13 .before in
+    let c15 = c14 .before in
+    let c16 = c15 .before in
+    let c19 = c16 .before .before .before in
+    let the-pre = c19 .pre in
+    let place = c11 .wide .ensures ∙ c12 .variable-of .ensures in
+    let met = laws.meet (the-pre .0 .0) (the-pre .1) (c16 .states .inv) (c15 .states-test .taken) (c14 .next-state .ensures) (c13 .later-states .ensures) place in
     laws.rest-less met
 
 states-again : tie.Need-states-again Inv-states μ-states
 states-again c =
-    let the-variable-of = c .before .before .before .before .before .before .before .before .before .before .before .before .variable-of in
-    let the-pre = c .before .before .before .before .before .before .before .before .before .before .before .before .before .before .before .before .before .before .before .pre in
-    let place = c .before .before .before .before .before .before .before .before .before .before .before .wide .ensures ∙ the-variable-of .ensures in
-    let met = laws.meet (the-pre .0 .0) (the-pre .1) (c .before .before .before .before .before .before .before .before .before .before .before .before .before .before .before .before .states .inv) (c .before .before .before .before .before .before .before .before .before .before .before .before .before .before .before .states-test .taken) (c .before .before .before .before .before .before .before .before .before .before .before .before .before .before .next-state .ensures) (c .before .before .before .before .before .before .before .before .before .before .before .before .before .later-states .ensures) place in
-    laws.spread-put met refl (c .before .before .before .before .before .before .before .before .before .if1 .taken) (the-variable-of .ensures) (c .before .before .before .before .put .ensures)
+    let c4 = c .before .before .before .before in
+    let c9 = c4 .before .before .before .before .before in
+    let c11 = c9 .before .before in
+    let c12 = c11 .before in
+    let c13 = c12 .before in
+    let c14 = c13 .before in
+    let c15 = c14 .before in
+    let c16 = c15 .before in
+    let c19 = c16 .before .before .before in
+    let the-variable-of = c12 .variable-of in
+    let the-pre = c19 .pre in
+    let place = c11 .wide .ensures ∙ the-variable-of .ensures in
+    let met = laws.meet (the-pre .0 .0) (the-pre .1) (c16 .states .inv) (c15 .states-test .taken) (c14 .next-state .ensures) (c13 .later-states .ensures) place in
+    laws.spread-put met refl (c9 .if1 .taken) (the-variable-of .ensures) (c4 .put .ensures)
 
 same-length : tie.Need-same-length Inv-states μ-states
-same-length c = worked-length (c .before .before .before .before .before .before .before .before .before .before .before .pre .0 .0) (c .before .before .before .before .before .before .before .before .states .inv .worked)
+same-length c =
+    let c8 = c .before .before .before .before .before .before .before .before in
+    let c11 = c8 .before .before .before in
+    worked-length (c11 .pre .0 .0) (c8 .states .inv .worked)
 
 same-length-2 : tie.Need-same-length-2 Inv-states μ-states
 same-length-2 c = c .before .before .before .before .before .before .before .before .states .inv .worked .grown .long
 
 returns : tie.Need-returns Inv-states μ-states
 returns c =
-    let the-pre = c .before .before .before .before .before .before .before .before .before .before .before .pre in
-    let place = c .before .before .before .wide .ensures ∙ c .before .before .before .before .variable-of .ensures in
-    let met = laws.meet (the-pre .0 .0) (the-pre .1) (c .before .before .before .before .before .before .before .before .states .inv) (c .before .before .before .before .before .before .before .states-test .taken) (c .before .before .before .before .before .before .next-state .ensures) (c .before .before .before .before .before .later-states .ensures) place in
-    laws.spread-broken met refl (c .before .if1 .left) (c .if2 .taken)
+    let c1 = c .before in
+    let c3 = c1 .before .before in
+    let c4 = c3 .before in
+    let c5 = c4 .before in
+    let c6 = c5 .before in
+    let c7 = c6 .before in
+    let c8 = c7 .before in
+    let c11 = c8 .before .before .before in
+    let the-pre = c11 .pre in
+    let place = c3 .wide .ensures ∙ c4 .variable-of .ensures in
+    let met = laws.meet (the-pre .0 .0) (the-pre .1) (c8 .states .inv) (c7 .states-test .taken) (c6 .next-state .ensures) (c5 .later-states .ensures) place in
+    laws.spread-broken met refl (c1 .if1 .left) (c .if2 .taken)
 
 states-less-2 : tie.Need-states-less-2 Inv-states μ-states
 states-less-2 c =
-    let the-pre = c .before .before .before .before .before .before .before .before .before .before .before .pre in
-    let place = c .before .before .before .wide .ensures ∙ c .before .before .before .before .variable-of .ensures in
-    let met = laws.meet (the-pre .0 .0) (the-pre .1) (c .before .before .before .before .before .before .before .before .states .inv) (c .before .before .before .before .before .before .before .states-test .taken) (c .before .before .before .before .before .before .next-state .ensures) (c .before .before .before .before .before .later-states .ensures) place in
+    let c3 = c .before .before .before in
+    let c4 = c3 .before in
+    let c5 = c4 .before in
+    let c6 = c5 .before in
+    let c7 = c6 .before in
+    let c8 = c7 .before in
+    let c11 = c8 .before .before .before in
+    let the-pre = c11 .pre in
+    let place = c3 .wide .ensures ∙ c4 .variable-of .ensures in
+    let met = laws.meet (the-pre .0 .0) (the-pre .1) (c8 .states .inv) (c7 .states-test .taken) (c6 .next-state .ensures) (c5 .later-states .ensures) place in
     laws.rest-less met
 
 states-again-2 : tie.Need-states-again-2 Inv-states μ-states
 states-again-2 c =
-    let the-pre = c .before .before .before .before .before .before .before .before .before .before .before .pre in
-    let place = c .before .before .before .wide .ensures ∙ c .before .before .before .before .variable-of .ensures in
-    let met = laws.meet (the-pre .0 .0) (the-pre .1) (c .before .before .before .before .before .before .before .before .states .inv) (c .before .before .before .before .before .before .before .states-test .taken) (c .before .before .before .before .before .before .next-state .ensures) (c .before .before .before .before .before .later-states .ensures) place in
+    let c3 = c .before .before .before in
+    let c4 = c3 .before in
+    let c5 = c4 .before in
+    let c6 = c5 .before in
+    let c7 = c6 .before in
+    let c8 = c7 .before in
+    let c11 = c8 .before .before .before in
+    let the-pre = c11 .pre in
+    let place = c3 .wide .ensures ∙ c4 .variable-of .ensures in
+    let met = laws.meet (the-pre .0 .0) (the-pre .1) (c8 .states .inv) (c7 .states-test .taken) (c6 .next-state .ensures) (c5 .later-states .ensures) place in
     laws.spread-skip met refl (c .if2 .left)
 
 same-length-3 : tie.Need-same-length-3 Inv-states μ-states

@@ -10,8 +10,10 @@ spread-requires c κs = search needs
 
 same-length : tie.Need-same-length
 same-length c =
-    let w = c .before .before .before .before .before .before .before .before .before .before .before .before .pre .0 .0 in
-    let k = c .before .before .before .before .before .spread .ensures .0 in
+    let c5 = c .before .before .before .before .before in
+    let c12 = c5 .before .before .before .before .before .before .before in
+    let w = c12 .pre .0 .0 in
+    let k = c5 .spread .ensures .0 in
     worked-length w (k .worked)
 
 same-length-2 : tie.Need-same-length-2
@@ -19,15 +21,19 @@ same-length-2 c = c .before .before .before .before .before .spread .ensures .0 
 
 returns : tie.Need-returns
 returns c =
-    let the-spread = c .before .before .before .before .before .spread in
-    let w = c .before .before .before .before .before .before .before .before .before .before .before .before .pre .0 .0 in
+    let c5 = c .before .before .before .before .before in
+    let c12 = c5 .before .before .before .before .before .before .before in
+    let the-spread = c5 .spread in
+    let w = c12 .pre .0 .0 in
     let k = the-spread .ensures .0 in
     (laws.both-broken w k (c .if1 .taken), the-spread .ensures .1)
 
 spread-requires-2 : tie.Need-spread-requires-2
 spread-requires-2 c κs =
-    let the-spread = c .before .before .before .before .before .before .before .before .before .spread in
-    let the-pre = c .before .before .before .before .before .before .before .before .before .before .before .before .before .before .before .before .pre in
+    let c9 = c .before .before .before .before .before .before .before .before .before in
+    let c16 = c9 .before .before .before .before .before .before .before in
+    let the-spread = c9 .spread in
+    let the-pre = c16 .pre in
     let w = the-pre .0 .0 in
     let o = the-pre .1 in
     let k = the-spread .ensures .0 in
@@ -35,26 +41,35 @@ spread-requires-2 c κs =
 
 same-length-3 : tie.Need-same-length-3
 same-length-3 c =
-    let w = c .before .before .before .before .before .before .before .before .before .before .before .before .before .before .before .before .before .before .before .before .before .pre .0 .0 in
-    let k = c .before .before .before .before .before .before .before .before .before .before .before .before .before .before .spread .ensures .0 in
-    let l = c .before .before .before .before .spread2 .ensures .0 in
+    let c4 = c .before .before .before .before in
+    let c14 = c4 .before .before .before .before .before .before .before .before .before .before in
+    let c21 = c14 .before .before .before .before .before .before .before in
+    let w = c21 .pre .0 .0 in
+    let k = c14 .spread .ensures .0 in
+    let l = c4 .spread2 .ensures .0 in
     worked-length w (worked-trans (k .worked) (l .worked))
 
 same-length-4 : tie.Need-same-length-4
 same-length-4 c =
-    let k = c .before .before .before .before .before .before .before .before .before .before .before .before .before .before .spread .ensures .0 in
-    let l = c .before .before .before .before .spread2 .ensures .0 in
+    let c4 = c .before .before .before .before in
+    let c14 = c4 .before .before .before .before .before .before .before .before .before .before in
+    let k = c14 .spread .ensures .0 in
+    let l = c4 .spread2 .ensures .0 in
     worked-trans (k .worked) (l .worked) .grown .long
 
 returns-2 : tie.Need-returns-2
 returns-2 c =
-    let the-spread2 = c .before .before .before .before .spread2 in
-    let the-pre = c .before .before .before .before .before .before .before .before .before .before .before .before .before .before .before .before .before .before .before .before .before .pre in
+    let c4 = c .before .before .before .before in
+    let c9 = c4 .before .before .before .before .before in
+    let c14 = c9 .before .before .before .before .before in
+    let c21 = c14 .before .before .before .before .before .before .before in
+    let the-spread2 = c4 .spread2 in
+    let the-pre = c21 .pre in
     let w = the-pre .0 .0 in
     let o = the-pre .1 in
-    let k = c .before .before .before .before .before .before .before .before .before .before .before .before .before .before .spread .ensures .0 in
+    let k = c14 .spread .ensures .0 in
     let l = the-spread2 .ensures .0 in
-    (laws.both-done w k (o .0 .small) (c .before .before .before .before .before .before .before .before .before .if1 .left) l, the-spread2 .ensures .1)
+    (laws.both-done w k (o .0 .small) (c9 .if1 .left) l, the-spread2 .ensures .1)
 
 pub spread-both-spec : {M : Type 1} → statement M
 spread-both-spec =

@@ -40,7 +40,13 @@ same-length c = search needs
 
 returns : tie.Need-returns
 unfolding recordsText
-returns c = put-on (put-on (put-on (put-on (c .before .before .before .before .before .before .before .before .before .before .before .before .before .before .before .before .before .before .before .before .before .before .put-number .ensures .0) (c .before .before .before .before .before .before .before .before .before .before .before .before .before .before .before .before .before .put-number2 .ensures .0)) (c .before .before .before .before .before .before .before .before .before .before .before .before .put-number3 .ensures .0)) (c .before .before .before .before .before .before .before .put-number4 .ensures .0)) (c .before .before .put .ensures)
+returns c =
+    let c2 = c .before .before in
+    let c7 = c2 .before .before .before .before .before in
+    let c12 = c7 .before .before .before .before .before in
+    let c17 = c12 .before .before .before .before .before in
+    let c22 = c17 .before .before .before .before .before in
+    put-on (put-on (put-on (put-on (c22 .put-number .ensures .0) (c17 .put-number2 .ensures .0)) (c12 .put-number3 .ensures .0)) (c7 .put-number4 .ensures .0)) (c2 .put .ensures)
 
 pub put-records-spec : {M : Type 1} → statement M
 put-records-spec =

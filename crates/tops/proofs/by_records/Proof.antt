@@ -52,15 +52,30 @@ wide-requires-3 c κs = search needs
 
 step-requires : tie.Need-step-requires Inv-records μ-records
 step-requires c κs =
-    let p = c .before .before .before .before .before .before .before .before .records .inv in
-    let r = states-read p (c .before .before .before .before .before .before .before .records-test .taken) (c .before .before .before .before .before .before .before .before .before .width-of .ensures) (c .before .before .before .before .before .wide .ensures) (c .before .before .before .wide2 .ensures) (c .before .wide3 .ensures) in
-    (r .0, r .1, r .2, p .long ∙ c .before .before .before .before .before .before .before .before .before .before .before .before .pre .1)
+    let c1 = c .before in
+    let c3 = c1 .before .before in
+    let c5 = c3 .before .before in
+    let c7 = c5 .before .before in
+    let c8 = c7 .before in
+    let c9 = c8 .before in
+    let c12 = c9 .before .before .before in
+    let p = c8 .records .inv in
+    let r = states-read p (c7 .records-test .taken) (c9 .width-of .ensures) (c5 .wide .ensures) (c3 .wide2 .ensures) (c1 .wide3 .ensures) in
+    (r .0, r .1, r .2, p .long ∙ c12 .pre .1)
 
 records-less : tie.Need-records-less Inv-records μ-records
 records-less c = let h = entered (c .before .before .before .before .before .before .before .before .before .before) in search needs
 
 records-again : tie.Need-records-again Inv-records μ-records
-records-again c = walk-on (c .before .before .before .before .before .before .before .before .before .before .before .records .inv) (c .before .before .before .before .before .before .before .before .before .before .records-test .taken) (c .before .before .before .before .before .before .before .before .before .before .before .before .width-of .ensures) (c .before .before .before .before .before .before .before .before .wide .ensures) (c .before .before .before .before .before .before .wide2 .ensures) (c .before .before .before .before .wide3 .ensures) (c .before .before .step .ensures)
+records-again c =
+    let c2 = c .before .before in
+    let c4 = c2 .before .before in
+    let c6 = c4 .before .before in
+    let c8 = c6 .before .before in
+    let c10 = c8 .before .before in
+    let c11 = c10 .before in
+    let c12 = c11 .before in
+    walk-on (c11 .records .inv) (c10 .records-test .taken) (c12 .width-of .ensures) (c8 .wide .ensures) (c6 .wide2 .ensures) (c4 .wide3 .ensures) (c2 .step .ensures)
 
 same-length : tie.Need-same-length Inv-records μ-records
 same-length c = c .before .records .inv .long

@@ -28,7 +28,11 @@ tops-in-requires : tie.Need-tops-in-requires Inv-words μ-words
 tops-in-requires c κs = search needs
 
 add-found : tie.Need-add-found Inv-words μ-words
-add-found c = record { fits = let h = sum-fits (c .before .before .before .words .inv) (c .before .before .before .before .before .pre .0) (c .before .before .words-test .taken) (c .tops-in .ensures) (ones-le 64 _) in omega arith }
+add-found c =
+    let c2 = c .before .before in
+    let c3 = c2 .before in
+    let c5 = c3 .before .before in
+    record { fits = let h = sum-fits (c3 .words .inv) (c5 .pre .0) (c2 .words-test .taken) (c .tops-in .ensures) (ones-le 64 _) in omega arith }
 
 add-q : tie.Need-add-q Inv-words μ-words
 add-q c = search needs

@@ -35,13 +35,25 @@ rounds-holds : tie.Need-rounds-holds Inv-rounds μ-rounds
 rounds-holds c = record { rest = resting _ _ _; small = c .before .before .before .before .before .before .before .pre .1; summed = c .sum-of .ensures }
 
 by-records-requires : tie.Need-by-records-requires Inv-rounds μ-rounds
-by-records-requires c κs = let s = c .before .before .before .before .before .before .before .before .before .before .pre .0 in (section-within (s .few) (s .internals-whole), c .before .before .rounds .inv .small .long)
+by-records-requires c κs =
+    let c2 = c .before .before in
+    let c10 = c2 .before .before .before .before .before .before .before .before in
+    let s = c10 .pre .0 in (section-within (s .few) (s .internals-whole), c2 .rounds .inv .small .long)
 
 by-records-requires-2 : tie.Need-by-records-requires-2 Inv-rounds μ-rounds
-by-records-requires-2 c κs = let s = c .before .before .before .before .before .before .before .before .before .before .before .before .before .before .pre .0 in (section-within (s .few) (s .calls-whole), c .before .before .words .given ∙ c .before .before .before .before .before .before .rounds .inv .small .long)
+by-records-requires-2 c κs =
+    let c2 = c .before .before in
+    let c6 = c2 .before .before .before .before in
+    let c14 = c6 .before .before .before .before .before .before .before .before in
+    let s = c14 .pre .0 in (section-within (s .few) (s .calls-whole), c2 .words .given ∙ c6 .rounds .inv .small .long)
 
 by-records-requires-3 : tie.Need-by-records-requires-3 Inv-rounds μ-rounds
-by-records-requires-3 c κs = let s = c .before .before .before .before .before .before .before .before .before .before .before .before .before .before .before .before .before .before .pre .0 in (section-within (s .few) (s .returns-whole), c .before .before .words2 .given ∙ c .before .before .before .before .before .before .words .given ∙ c .before .before .before .before .before .before .before .before .before .before .rounds .inv .small .long)
+by-records-requires-3 c κs =
+    let c2 = c .before .before in
+    let c6 = c2 .before .before .before .before in
+    let c10 = c6 .before .before .before .before in
+    let c18 = c10 .before .before .before .before .before .before .before .before in
+    let s = c18 .pre .0 in (section-within (s .few) (s .returns-whole), c2 .words2 .given ∙ c6 .words .given ∙ c10 .rounds .inv .small .long)
 
 sum-of-requires-2 : tie.Need-sum-of-requires-2 Inv-rounds μ-rounds
 unfolding sectioned

@@ -59,7 +59,12 @@ same-length-2 c = search needs
 
 returns-2 : tie.Need-returns-2
 unfolding stepBy
-returns-2 c = rw (c .before .before .before .before .before .before .before .enum-told2 .given .1, stepBy, ne-eqb _ _ (c .before .before .before .before .before .if1 .taken), ← c .before .before .before .bit .ensures) (c .before .before .add2 .ensures)
+returns-2 c =
+    let c2 = c .before .before in
+    let c3 = c2 .before in
+    let c5 = c3 .before .before in
+    let c7 = c5 .before .before in
+    rw (c7 .enum-told2 .given .1, stepBy, ne-eqb _ _ (c5 .if1 .taken), ← c3 .bit .ensures) (c2 .add2 .ensures)
 
 returns-3 : tie.Need-returns-3
 unfolding stepBy
@@ -70,7 +75,12 @@ same-length-3 c = search needs
 
 returns-4 : tie.Need-returns-4
 unfolding stepBy
-returns-4 c = rw (c .before .before .before .before .before .before .before .before .enum-told3 .given .1, stepBy, ← c .before .before .before .before .before .before .has-top .ensures, c .before .before .before .before .before .if2 .taken) (c .before .before .add3 .ensures)
+returns-4 c =
+    let c2 = c .before .before in
+    let c5 = c2 .before .before .before in
+    let c6 = c5 .before in
+    let c8 = c6 .before .before in
+    rw (c8 .enum-told3 .given .1, stepBy, ← c6 .has-top .ensures, c5 .if2 .taken) (c2 .add3 .ensures)
 
 same-length-4 : tie.Need-same-length-4
 same-length-4 c = search needs

@@ -21,7 +21,11 @@ enum-known-reading-2 : tie.Need-enum-known-reading-2
 enum-known-reading-2 c = search needs
 
 returns : tie.Need-returns
-returns c = tops-answer _ _ (sym (c .before .before .before .before .reading .given .1) ∙ c .before .before .before .before .before .before .read-within .ensures .0) (c .before .tops-read .ensures)
+returns c =
+    let c1 = c .before in
+    let c4 = c1 .before .before .before in
+    let c6 = c4 .before .before in
+    tops-answer _ _ (sym (c4 .reading .given .1) ∙ c6 .read-within .ensures .0) (c1 .tops-read .ensures)
 
 returns-2 : tie.Need-returns-2
 returns-2 c = tops-refused _ _ (sym (c .before .reading2 .given .1) ∙ c .before .before .before .read-within .ensures .0)

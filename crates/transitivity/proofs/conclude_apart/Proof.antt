@@ -13,18 +13,23 @@ lacking-requires-2 c κs = search needs
 
 spread-both-requires : tie.Need-spread-both-requires
 spread-both-requires c κs =
-    let the-pre = c .before .before .before .before .before .before .before .before .before .before .before .before .pre in
+    let c4 = c .before .before .before .before in
+    let c7 = c4 .before .before .before in
+    let c12 = c7 .before .before .before .before .before in
+    let the-pre = c12 .pre in
     let w = the-pre .0 .0 in
     let rows = the-pre .0 .1 in
     let o = the-pre .1 in
-    let f = c .before .before .before .before .before .before .before .lacking .ensures in
-    let g = c .before .before .before .before .lacking2 .ensures in
+    let f = c7 .lacking .ensures in
+    let g = c4 .lacking2 .ensures in
     ((w, rows), (laws.parts-q w rows _ _ (o .0) (o .1) (o .2) f g, laws.parts-p w rows _ _ (o .0) (o .1) (o .2) f g))
 
 same-length : tie.Need-same-length
 same-length c =
-    let w = c .before .before .before .before .before .before .before .before .before .before .before .before .before .before .before .before .before .pre .0 .0 in
-    let k = c .before .before .before .before .spread-both .ensures .0 in
+    let c4 = c .before .before .before .before in
+    let c17 = c4 .before .before .before .before .before .before .before .before .before .before .before .before .before in
+    let w = c17 .pre .0 .0 in
+    let k = c4 .spread-both .ensures .0 in
     worked-length w (k .worked)
 
 same-length-2 : tie.Need-same-length-2
@@ -32,13 +37,17 @@ same-length-2 c = c .before .before .before .before .spread-both .ensures .0 .wo
 
 returns : tie.Need-returns
 returns c =
-    let the-spread-both = c .before .before .before .before .spread-both in
-    let the-pre = c .before .before .before .before .before .before .before .before .before .before .before .before .before .before .before .before .before .pre in
+    let c4 = c .before .before .before .before in
+    let c9 = c4 .before .before .before .before .before in
+    let c12 = c9 .before .before .before in
+    let c17 = c12 .before .before .before .before .before in
+    let the-spread-both = c4 .spread-both in
+    let the-pre = c17 .pre in
     let w = the-pre .0 .0 in
     let rows = the-pre .0 .1 in
     let o = the-pre .1 in
-    let f = c .before .before .before .before .before .before .before .before .before .before .before .before .lacking .ensures in
-    let g = c .before .before .before .before .before .before .before .before .before .lacking2 .ensures in
+    let f = c12 .lacking .ensures in
+    let g = c9 .lacking2 .ensures in
     let k = the-spread-both .ensures .0 in
     (laws.parts-done w rows _ _ (o .0) (o .1) (o .2) f g k, the-spread-both .ensures .1)
 

@@ -113,9 +113,10 @@ places-requires c κs = search needs
 
 turns-holds : tie.Need-turns-holds Inv-turns μ-turns
 turns-holds c =
-    let p = c .before .before .before .before .before .before .before .before .before .pre .1 in
+    let c9 = c .before .before .before .before .before .before .before .before .before in
+    let p = c9 .pre .1 in
     let r = p .1 .0 in
-    (laws.turning _ _ r (c .places .ensures), p .1 .1 .1, wording.lags-first (c .before .before .before .before .before .before .before .before .before .args .clauses .now) (p .0 .0) (r .counted) (omega (arith, r .counted, r .size, r .most, r .long)), wording.marked-none, (λ _. p .0 .1), refl, ap length (p .0 .1), refl)
+    (laws.turning _ _ r (c .places .ensures), p .1 .1 .1, wording.lags-first (c9 .args .clauses .now) (p .0 .0) (r .counted) (omega (arith, r .counted, r .size, r .most, r .long)), wording.marked-none, (λ _. p .0 .1), refl, ap length (p .0 .1), refl)
 
 close-requires : tie.Need-close-requires Inv-turns μ-turns
 close-requires c κs =

@@ -42,13 +42,21 @@ state-in-requires : tie.Need-state-in-requires Inv-lines μ-lines
 state-in-requires c κs = search needs
 
 returns : tie.Need-returns Inv-lines μ-lines
-returns c = records-failed _ 5 (c .before .before .before .before .lines .inv) (omega arith) (c .before .before .before .lines-test .taken) (le-ltb _ _ (rw (c .before .state-in .ensures) at (c .if1 .taken))) ∙ sym (states-tests _ _)
+returns c =
+    let c1 = c .before in
+    let c3 = c1 .before .before in
+    let c4 = c3 .before in
+    records-failed _ 5 (c4 .lines .inv) (omega arith) (c3 .lines-test .taken) (le-ltb _ _ (rw (c1 .state-in .ensures) at (c .if1 .taken))) ∙ sym (states-tests _ _)
 
 lines-less : tie.Need-lines-less Inv-lines μ-lines
 lines-less c = search needs
 
 lines-again : tie.Need-lines-again Inv-lines μ-lines
-lines-again c = records-passed _ 5 (c .before .before .before .before .lines .inv) (omega arith) (c .before .before .before .lines-test .taken) (lt-ltb _ _ (rw (c .before .state-in .ensures) at (c .if1 .left)))
+lines-again c =
+    let c1 = c .before in
+    let c3 = c1 .before .before in
+    let c4 = c3 .before in
+    records-passed _ 5 (c4 .lines .inv) (omega arith) (c3 .lines-test .taken) (lt-ltb _ _ (rw (c1 .state-in .ensures) at (c .if1 .left)))
 
 returns-2 : tie.Need-returns-2 Inv-lines μ-lines
 returns-2 c = records-done _ 5 (c .before .lines .inv) (c .lines-test .left) ∙ sym (states-tests _ _)

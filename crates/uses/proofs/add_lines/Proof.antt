@@ -17,7 +17,11 @@ abbrev μ-lines : tie.MeasureT-lines
 
 -- the class of a line
 small : (c : tie.After-wide Inv-lines μ-lines) → c .wide .result < 40
-small c = omega (arith, c .wide .ensures, c .before .class-of .ensures, c .before .before .before .before .before .before .before .before .before .before .pre .1 (c .before .before .state-in .result))
+small c =
+    let c1 = c .before in
+    let c2 = c1 .before in
+    let c10 = c2 .before .before .before .before .before .before .before .before in
+    omega (arith, c .wide .ensures, c1 .class-of .ensures, c10 .pre .1 (c2 .state-in .result))
 
 lines-holds : tie.Need-lines-holds Inv-lines μ-lines
 lines-holds c = adding _ _ (c .before .before .pre .0)
@@ -78,9 +82,15 @@ lines-less c = search needs
 
 lines-again : tie.Need-lines-again Inv-lines μ-lines
 lines-again c =
-    let the-uses-in = c .before .before .before .before .uses-in in
-    added (c .before .before .before .before .before .before .before .lines .inv) (c .before .before .before .before .before .before .lines-test .taken) (small c) (the-uses-in .ensures .1) (the-uses-in .ensures .0)
-    (c .wide .ensures ∙ c .before .class-of .ensures ∙ ap (classOf (c .before .before .before .before .before .before .before .before .before .before .args .map .now)) (c .before .before .state-in .ensures))
+    let c1 = c .before in
+    let c2 = c1 .before in
+    let c4 = c2 .before .before in
+    let c6 = c4 .before .before in
+    let c7 = c6 .before in
+    let c10 = c7 .before .before .before in
+    let the-uses-in = c4 .uses-in in
+    added (c7 .lines .inv) (c6 .lines-test .taken) (small c) (the-uses-in .ensures .1) (the-uses-in .ensures .0)
+    (c .wide .ensures ∙ c1 .class-of .ensures ∙ ap (classOf (c10 .args .map .now)) (c2 .state-in .ensures))
 
 returns : tie.Need-returns Inv-lines μ-lines
 returns c =

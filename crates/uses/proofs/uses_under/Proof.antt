@@ -15,19 +15,25 @@ refused-requires c κs = search needs
 
 returns : tie.Need-returns
 returns c =
-    let the-args = c .before .before .before .before .before .args in
-    let n = c .before .before .lines-number .ensures in
+    let c1 = c .before in
+    let c2 = c1 .before in
+    let c5 = c2 .before .before .before in
+    let the-args = c5 .args in
+    let n = c2 .lines-number .ensures in
     let e = c .refused .ensures in
-    (e ∙ answer-refused _ _ (c .before .if1 .taken) ∙ ap (λ k. answerBy k (the-args .map .now) (the-args .lines .now)) n, subst Fits (sym e) (refused-fits _))
+    (e ∙ answer-refused _ _ (c1 .if1 .taken) ∙ ap (λ k. answerBy k (the-args .map .now) (the-args .lines .now)) n, subst Fits (sym e) (refused-fits _))
 
 add-lines-requires : tie.Need-add-lines-requires
 add-lines-requires c κs = (lines-few _ _ (sym (c .before .lines-number .ensures) ∙ c .if1 .left), c .before .before .before .before .pre)
 
 returns-2 : tie.Need-returns-2
 returns-2 c =
-    let the-args = c .before .before .before .before .before .args in
-    let n = c .before .before .lines-number .ensures in
-    (c .add-lines .ensures .0 ∙ answer-counted _ _ (c .before .if1 .left) ∙ ap (λ k. answerBy k (the-args .map .now) (the-args .lines .now)) n, c .add-lines .ensures .1)
+    let c1 = c .before in
+    let c2 = c1 .before in
+    let c5 = c2 .before .before .before in
+    let the-args = c5 .args in
+    let n = c2 .lines-number .ensures in
+    (c .add-lines .ensures .0 ∙ answer-counted _ _ (c1 .if1 .left) ∙ ap (λ k. answerBy k (the-args .map .now) (the-args .lines .now)) n, c .add-lines .ensures .1)
 
 pub uses-under-spec : {M : Type 1} → statement M
 uses-under-spec =

@@ -21,16 +21,24 @@ pair-of-requires c κs = search needs
 
 mark-pair-requires : tie.Need-mark-pair-requires
 mark-pair-requires c κs =
-    let the-pre = c .before .before .before .before .before .before .before .pre in
-    laws.pair-states (the-pre .1 .rows) (c .before .before .before .before .wide .ensures) (laws.pair-of (the-pre .1 .rows) (the-pre .1 .inside) (c .before .before .before .if1 .left) (the-pre .0) (c .before .before .pair-of .ensures))
+    let c2 = c .before .before in
+    let c3 = c2 .before in
+    let c4 = c3 .before in
+    let c7 = c4 .before .before .before in
+    let the-pre = c7 .pre in
+    laws.pair-states (the-pre .1 .rows) (c4 .wide .ensures) (laws.pair-of (the-pre .1 .rows) (the-pre .1 .inside) (c3 .if1 .left) (the-pre .0) (c2 .pair-of .ensures))
 
 same-length-2 : tie.Need-same-length-2
 same-length-2 c = search needs
 
 returns-2 : tie.Need-returns-2
 returns-2 c =
-    let the-pre = c .before .before .before .before .before .before .before .before .pre in
-    laws.assigned-marked (the-pre .1 .rows) (c .before .before .before .before .before .wide .ensures) (laws.pair-of (the-pre .1 .rows) (the-pre .1 .inside) (c .before .before .before .before .if1 .left) (the-pre .0) (c .before .before .before .pair-of .ensures)) (the-pre .1 .unset) (the-pre .1 .small) (c .mark-pair .ensures)
+    let c3 = c .before .before .before in
+    let c4 = c3 .before in
+    let c5 = c4 .before in
+    let c8 = c5 .before .before .before in
+    let the-pre = c8 .pre in
+    laws.assigned-marked (the-pre .1 .rows) (c5 .wide .ensures) (laws.pair-of (the-pre .1 .rows) (the-pre .1 .inside) (c4 .if1 .left) (the-pre .0) (c3 .pair-of .ensures)) (the-pre .1 .unset) (the-pre .1 .small) (c .mark-pair .ensures)
 
 pub assign-spec : {M : Type 1} → statement M
 assign-spec =

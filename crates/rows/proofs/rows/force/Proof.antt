@@ -9,8 +9,10 @@ wanted-requires c κs = search needs
 
 assign-requires : tie.Need-assign-requires
 assign-requires c κs =
-    let the-pre = c .before .before .before .before .before .before .before .pre in
-    (the-pre .0, rw (c .before .before .before .wanted .ensures) (the-pre .1 .0))
+    let c3 = c .before .before .before in
+    let c7 = c3 .before .before .before .before in
+    let the-pre = c7 .pre in
+    (the-pre .0, rw (c3 .wanted .ensures) (the-pre .1 .0))
 
 mul-trail : tie.Need-mul-trail
 mul-trail c = search needs
@@ -28,7 +30,10 @@ same-length-2 : tie.Need-same-length-2
 same-length-2 c = search needs
 
 returns : tie.Need-returns
-returns c = record { assigned = rw (← (c .before .before .before .before .before .before .wanted .ensures)) (c .before .before .assign .ensures); trail = refl; count-more = refl }
+returns c =
+    let c2 = c .before .before in
+    let c6 = c2 .before .before .before .before in
+    record { assigned = rw (← (c6 .wanted .ensures)) (c2 .assign .ensures); trail = refl; count-more = refl }
 
 pub force-spec : {M : Type 1} → statement M
 force-spec =
