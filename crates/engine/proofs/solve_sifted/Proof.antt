@@ -59,11 +59,13 @@ slice-aggregate-finish c = laws.prefix-long _ (c .before .if3 .taken) (search ne
 
 finish-requires : tie.Need-finish-requires
 finish-requires c κs =
-    let c7 = c .before .before .before .before .before .before .before in
-    let c14 = c7 .before .before .before .before .before .before .before in
+    let c5 = c .before .before .before .before .before in
+    let c7 = c5 .before .before in
+    let c12 = c7 .before .before .before .before .before in
+    let c14 = c12 .before .before in
     let c20 = c14 .before .before .before .before .before .before in
     let c30 = c20 .before .before .before .before .before .before .before .before .before .before in
-    (laws.left-begins (c30 .pre .0 .0) (c30 .args .budget) (c30 .pre .0 .2) (c20 .sift .ensures .0) (c14 .if1 .left) (search needs) (c7 .lighten .ensures (search needs)), (c30 .pre .1 .0, c20 .sift .ensures .1))
+    (laws.left-begins (c30 .pre .0 .0) (c30 .args .budget) (c30 .pre .0 .2) (c20 .sift .ensures .0) (c14 .if1 .left) (omega (arith, c12 .if2 .taken)) (c7 .lighten .ensures (omega (arith, c5 .if3 .taken))), (c30 .pre .1 .0, c20 .sift .ensures .1))
 
 same-length-3 : tie.Need-same-length-3
 same-length-3 c = search needs
@@ -74,11 +76,13 @@ same-length-4 c = search needs
 returns-2 : tie.Need-returns-2
 returns-2 c =
     let c4 = c .before .before .before .before in
-    let c12 = c4 .before .before .before .before .before .before .before .before in
-    let c19 = c12 .before .before .before .before .before .before .before in
+    let c10 = c4 .before .before .before .before .before .before in
+    let c12 = c10 .before .before in
+    let c17 = c12 .before .before .before .before .before in
+    let c19 = c17 .before .before in
     let c25 = c19 .before .before .before .before .before .before in
     let c35 = c25 .before .before .before .before .before .before .before .before .before .before in
-    laws.left-outcome (c35 .pre .0 .0) (c35 .args .budget) (c35 .pre .0 .2) (c25 .sift .ensures .0) (c19 .if1 .left) (search needs) (c12 .lighten .ensures (search needs)) (c4 .finish .result .ending) _ (c4 .finish .result .ceiling) (c4 .finish .ensures)
+    laws.left-outcome (c35 .pre .0 .0) (c35 .args .budget) (c35 .pre .0 .2) (c25 .sift .ensures .0) (c19 .if1 .left) (omega (arith, c17 .if2 .taken)) (c12 .lighten .ensures (omega (arith, c10 .if3 .taken))) (c4 .finish .result .ending) _ (c4 .finish .result .ceiling) (c4 .finish .ensures)
 
 finish-requires-2 : tie.Need-finish-requires-2
 finish-requires-2 c κs =
