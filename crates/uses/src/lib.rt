@@ -1,12 +1,12 @@
 // Use counts by class.
 ghost use mathlib.Core.Path.{_≡_};
-ghost use Prim.Native.Nat.{ℕ, _*_, _<_, _≤_};
+ghost use Prim.Native.Nat.{_*_, _≤_};
 ghost use lib.ListN.{length};
 ghost use Rattle.lists.specs.Lists.{firstFailed};
 ghost use Rattle.limits.specs.Limits.{standard};
-ghost use Rattle.format.specs.Maps.{classOf};
 ghost use Rattle.usage.specs.Uses.{linesTests, counted, refusedBy, answerBy, usesOf};
 ghost use Rattle.usage.specs.Demands.{Fits, Promises};
+ghost use Rattle.uses.specs.Classes.{FewClasses};
 use limits::Limits;
 use relations::Checked;
 use usage::Counted;
@@ -19,7 +19,7 @@ const LINE: usize = 5;
 
 // The sums and the total, in one pass over the lines.
 fn add_lines(lines: &[u8], map: &[u8]) -> Counted
-    requires { ⌜ (length (now lines) ≤ 5 * 65536) × ((q : ℕ) → classOf (now map) q < 40) ⌝ }
+    requires { ⌜ (length (now lines) ≤ 5 * 65536) × FewClasses (now map) ⌝ }
     ensures { λ r. ⌜ r ≡ counted (now (map .entry)) (now (lines .entry)) ⌝ }
     ensures fits { λ r. ⌜ Fits r ⌝ }
 {
@@ -54,7 +54,7 @@ fn refused(number: u8) -> Counted
 
 // The lines under a map that has one byte for each state of the table.
 fn uses_under(map: &[u8], lines: &[u8]) -> Counted
-    requires { ⌜ ((q : ℕ) → classOf (now map) q < 40) ⌝ }
+    requires { ⌜ FewClasses (now map) ⌝ }
     ensures { λ r. ⌜ r ≡ answerBy (firstFailed (linesTests (length (now (map .entry))) (now (lines .entry)))) (now (map .entry)) (now (lines .entry)) ⌝ }
     ensures fits { λ r. ⌜ Fits r ⌝ }
 {
