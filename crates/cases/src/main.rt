@@ -1,55 +1,218 @@
 // Runs the operations on the cases of its standard input, and prints each answer and every buffer.
 //
-// A case is the operation's number, the state limit and the symbol limit, a byte each; the length of the rest, and the rest. Lengths, budgets and
-// words are 16-bit little-endian numbers.
+// A case is ten numbers and four parts; a number is 16 bits, little-endian, where nothing else is said. The numbers: the length of all that follows;
+// the operation, the state limit, the symbol limit; the lengths of the list, of the map buffer and of the output, at most 4096 each; the lengths of
+// the first three parts. The parts: the operation's name, and then, by the operation,
 //
-//   1 read      the table
-//   2 tops      the table
-//   3 clauses   the list's length; the table
-//   4 search    the variables, the budget, the answer's length; the clause words
-//   5 check     the map's length; the map; the table
-//   6 quotient  the map's length, the output's length; the map; the table
-//   7 reduce    the budget, the lengths of the list, of the map buffer and of the output; the table
-//   9 records   the map's length, the output's length; the map; the table
-//   13 fit      the length of the first table; the first; the second
-//   8 script    the script's length; the script; the table
-//   10 uses     the map's length, the number of line bytes; the map; the lines; the table
-//   11 season   the guesses, the number of tables; the tables' lengths, 64 bits each; the lengths of the list, of the maps and of the output; the
-//               tables
-//   12 generate the seed, a word for its lower and one for its higher half; states, internals, calls, returns; the density, as the seed; the output's
-//               length
-//   14 choose   the lengths of the first and of the second map; the first; the second; the table
+//   1 read      nothing; nothing; the table
+//   2 tops      nothing; nothing; the table
+//   3 clauses   nothing; nothing; the table
+//   4 search    the variables, the budget; nothing; the words of the list
+//   5 check     the map; nothing; the table
+//   6 quotient  the map; nothing; the table
+//   7 reduce    the budget; nothing; the table
+//   8 script    the script; nothing; the table
+//   9 records   the map; nothing; the table
+//   10 uses     the map; the lines; the table
+//   11 season   the guesses; the tables' lengths, 64 bits each; the tables
+//   12 generate the seed of 32 bits, states, internals, calls, returns, the density of 32 bits; nothing; nothing
+//   13 fit      the first table; nothing; the second
+//   14 choose   the first map; the second; the table
 //
-// A line is the operation's name, the refusal's number or 0, the answer's values and, each behind a bar, the buffers at exit, which are filled
-// with 7 beforehand. Choose prints which map it is, 1 or 2, or 0 with a refusal, and behind the bar the map that is handed back.
+// A line is the name, the refusal's number or 0, the answer's values and, each behind a bar, the buffers at exit, which are filled with 7
+// beforehand. Choose prints which map it is, 1 or 2, or 0 with a refusal, and behind the bar the map that is handed back.
 ghost use Prim.Native.Nat.{_<_};
 use choices::Which;
+use libc::STDIN_FILENO;
+use libc::STDOUT_FILENO;
 use limits::Limits;
-use shown::number;
-use shown::say;
-use shown::say_answer;
-use shown::say_bytes;
-use shown::say_check;
-use shown::say_clauses;
-use shown::say_cut;
-use shown::say_quotient;
-use shown::say_read;
-use shown::say_search;
-use shown::say_tops;
-use shown::say_words;
-use shown::say_written;
-use shown::wide;
-use shown::word_at;
 
-// Reduces a table with buffers that exist, and prints the clause list, the map buffer and the output.
-fn say_reduction(
-    limits: Limits,
-    table: &[u8],
-    budget: u64,
-    list: &mut [u16],
-    map: &mut [u8],
-    out: &mut [u8],
-) -> bool {
+// Writes text to standard output.
+fn say(text: &[u8]) -> bool {
+    io::write_all(STDOUT_FILENO, text)
+}
+
+// A space and a number.
+fn number(n: u64) -> bool {
+    say(b" ");
+    io::print_decimal(STDOUT_FILENO, n)
+}
+
+// Numbers, each behind a space.
+fn say_values(values: &[u64]) {
+    let mut i: usize = 0;
+    'values: while i < values.len() {
+        number(values[i]);
+        i += 1;
+    }
+}
+
+// The refusal's number; or 0, and the answer's values.
+fn say_answer(refused: u32, values: &[u64]) {
+    number(refused as u64);
+    if refused == 0 {
+        say_values(values);
+    }
+}
+
+// A byte as an index.
+fn wide(x: u8) -> usize
+    ensures { λ r. ⌜ r < 256 ⌝ }
+{
+    x as usize
+}
+
+// A word as a number that can be printed.
+fn long(x: u16) -> u64 {
+    x as u64
+}
+
+// A buffer of bytes, behind a bar.
+fn say_bytes(bytes: &[u8]) {
+    say(b" |");
+    let mut i: usize = 0;
+    'bytes: while i < bytes.len() {
+        number(wide(bytes[i]) as u64);
+        i += 1;
+    }
+}
+
+// A buffer of words, behind a bar.
+fn say_words(words: &[u16]) {
+    say(b" |");
+    let mut i: usize = 0;
+    'words: while i < words.len() {
+        number(long(words[i]));
+        i += 1;
+    }
+}
+
+// The 16-bit number at a place, 0 past the end.
+fn word_at(bytes: &[u8], at: usize) -> usize
+    ensures { λ r. ⌜ r < 65536 ⌝ }
+{
+    if bytes.len() < 2 {
+        return 0;
+    }
+    if bytes.len() - 2 < at {
+        return 0;
+    }
+    wide(bytes[at]) + 256 * wide(bytes[at + 1])
+}
+
+// The 32-bit number at a place.
+fn double_at(bytes: &[u8], at: usize) -> u32
+    requires { ⌜ at < 256 ⌝ }
+{
+    word_at(bytes, at) as u32 + 65536 * word_at(bytes, at + 2) as u32
+}
+
+// The 64-bit number at a place.
+fn long_at(bytes: &[u8], at: usize) -> u64
+    requires { ⌜ at < 128 ⌝ }
+{
+    double_at(bytes, at) as u64 + 4294967296 * double_at(bytes, at + 4) as u64
+}
+
+// As many bytes of a space as the number at a place says, or all.
+fn bytes_of<'a>(space: &'a mut [u8], numbers: &[u8], at: usize) -> &'a mut [u8] {
+    let n = word_at(numbers, at);
+    if space.len() < n {
+        return space;
+    }
+    &mut space[..n]
+}
+
+// As many words of a space as the number at a place says, or all.
+fn words_of<'a>(space: &'a mut [u16], numbers: &[u8], at: usize) -> &'a mut [u16] {
+    let n = word_at(numbers, at);
+    if space.len() < n {
+        return space;
+    }
+    &mut space[..n]
+}
+
+// The five starts.
+fn say_read(limits: Limits, table: &[u8]) {
+    let mut values = [0u64; 5];
+    let refused = answers::say_reading(table::read_within(limits, table), &mut values);
+    say_answer(refused, &values);
+}
+
+// The number of tops found, and the word of each state.
+fn say_tops(limits: Limits, table: &[u8]) {
+    let found = tops::tops_within(limits, table);
+    number(found.number as u64);
+    number(found.found as u64);
+    let words = found.words;
+    say_values(&words);
+}
+
+// Clauses and words, and the list.
+fn say_clauses(limits: Limits, table: &[u8], case: &[u8]) {
+    let mut space = [7u16; 4096];
+    let list = words_of(&mut space, case, 6);
+    let mut values = [0u64; 2];
+    let refused = answers::say_listed(clauses::clauses_within(limits, table, list), &mut values);
+    say_answer(refused, &values);
+    say_words(list);
+}
+
+// Fills a list with words from their bytes.
+fn fill(list: &mut [u16], bytes: &[u8]) {
+    let mut i: usize = 0;
+    'words: while i < list.len() {
+        if bytes.len() / 2 <= i {
+            return;
+        }
+        list[i] = word_at(bytes, 2 * i) as u16;
+        i += 1;
+    }
+}
+
+// The guesses made, and the assignment.
+fn say_search(limits: Limits, numbers: &[u8], words: &[u8], case: &[u8]) {
+    let variables = word_at(numbers, 0);
+    let budget = word_at(numbers, 2) as u64;
+    let mut held = [0u16; 4096];
+    let list = words_of(&mut held, case, 6);
+    fill(list, words);
+    let mut space = [7u8; 4096];
+    let out = bytes_of(&mut space, case, 10);
+    let mut values = [0u64; 1];
+    let solution = search::search_within(limits, list, variables, budget, out);
+    let refused = answers::say_solution(solution, &mut values);
+    say_answer(refused, &values);
+    say_bytes(out);
+}
+
+// The class count.
+fn say_check(limits: Limits, map: &[u8], table: &[u8]) {
+    let mut values = [0u64; 1];
+    let refused = answers::say_checked(maps::check_within(limits, table, map), &mut values);
+    say_answer(refused, &values);
+}
+
+// The length of the quotient, and the output.
+fn say_quotient(limits: Limits, map: &[u8], table: &[u8], case: &[u8]) {
+    let mut space = [7u8; 4096];
+    let out = bytes_of(&mut space, case, 10);
+    let mut values = [0u64; 1];
+    let written = quotient::quotient_within(limits, table, map, out);
+    let refused = answers::say_written(written, &mut values);
+    say_answer(refused, &values);
+    say_bytes(out);
+}
+
+// The seven values of a reduction, and the list, the map buffer and the output.
+fn say_reduce(limits: Limits, numbers: &[u8], table: &[u8], case: &[u8]) {
+    let budget = word_at(numbers, 0) as u64;
+    let mut words = [7u16; 4096];
+    let mut states = [7u8; 4096];
+    let mut space = [7u8; 4096];
+    let list = words_of(&mut words, case, 6);
+    let map = bytes_of(&mut states, case, 8);
+    let out = bytes_of(&mut space, case, 10);
     let mut values = [0u64; 7];
     let reduction = reduce::reduce_within(limits, table, budget, list, map, out);
     let refused = answers::say_reduction(reduction, &mut values);
@@ -57,347 +220,168 @@ fn say_reduction(
     say_words(list);
     say_bytes(map);
     say_bytes(out);
-    say(b"\n")
 }
 
-// Reduces the table behind the budget and three lengths, with the first parts of the buffers, of these lengths.
-fn say_reduced(
-    limits: Limits,
-    rest: &[u8],
-    list: &mut [u16],
-    map: &mut [u8],
-    out: &mut [u8],
-) -> bool {
-    let budget = word_at(rest, 0) as u64;
-    let words = word_at(rest, 2);
-    let states = word_at(rest, 4);
-    let length = word_at(rest, 6);
-    if rest.len() < 8 {
-        return say_cut();
-    }
-    if list.len() < words {
-        return say_cut();
-    }
-    if map.len() < states {
-        return say_cut();
-    }
-    if out.len() < length {
-        return say_cut();
-    }
-    say_reduction(
-        limits,
-        &rest[8..],
-        budget,
-        &mut list[..words],
-        &mut map[..states],
-        &mut out[..length],
-    )
-}
-
-// A reduction, with buffers for it.
-fn say_reduce(limits: Limits, rest: &[u8]) -> bool {
-    say(b"reduce");
-    let mut list = [7u16; 4096];
-    let mut map = [7u8; 64];
-    let mut out = [7u8; 1024];
-    say_reduced(limits, rest, &mut list, &mut map, &mut out)
-}
-
-// The sums by class, and the total.
-fn say_counted(limits: Limits, table: &[u8], map: &[u8], lines: &[u8]) -> bool {
-    let counted = uses::uses_within(limits, table, map, lines);
-    number(counted.number as u64);
-    let mut c: usize = 0;
-    'sums: while c < 40 {
-        number(counted.sums[c]);
-        c += 1;
-    }
-    number(counted.total);
-    say(b"\n")
-}
-
-// The use counts of the lines behind the map, by the classes of the map, of the table behind both.
-fn say_uses(limits: Limits, rest: &[u8]) -> bool {
-    say(b"uses");
-    let middle = 4 + word_at(rest, 0);
-    let end = middle + word_at(rest, 2);
-    if rest.len() < end {
-        return say_cut();
-    }
-    say_counted(limits, &rest[end..], &rest[4..middle], &rest[middle..end])
-}
-
-// The 64-bit number at a place.
-fn long_at(bytes: &[u8], at: usize) -> u64
-    requires { ⌜ at < 256 ⌝ }
-{
-    let low = word_at(bytes, at) as u64 + 65536 * word_at(bytes, at + 2) as u64;
-    let high = word_at(bytes, at + 4) as u64 + 65536 * word_at(bytes, at + 6) as u64;
-    low + 4294967296 * high
-}
-
-// The lengths of 16 tables, behind two words.
-fn lengths_from(bytes: &[u8]) -> [u64; 16] {
-    let mut lengths = [0u64; 16];
-    let mut i: usize = 0;
-    'lengths: while i < 16 {
-        lengths[i] = long_at(bytes, 4 + 8 * i);
-        i += 1;
-    }
-    lengths
-}
-
-// Reduces the tables of a season with buffers that exist, and prints the clause list, the maps and the output.
-fn say_seasoned(
-    limits: Limits,
-    tables: &[u8],
-    lengths: &[u64],
-    guesses: u64,
-    list: &mut [u16],
-    maps: &mut [u8],
-    out: &mut [u8],
-) -> bool {
-    let mut values = [0u64; 64];
-    let answer = season::season_within(limits, tables, lengths, guesses, list, maps, out);
-    let refused = answers::say_season(answer, &mut values);
-    say_answer(refused, &values);
-    say_words(list);
-    say_bytes(maps);
-    say_bytes(out);
-    say(b"\n")
-}
-
-// Reduces the tables behind three lengths at a place, with the first parts of the buffers, of these lengths.
-fn say_parts(
-    limits: Limits,
-    rest: &[u8],
-    at: usize,
-    lengths: &[u64],
-    list: &mut [u16],
-    maps: &mut [u8],
-    out: &mut [u8],
-) -> bool
-    requires { ⌜ at < 256 ⌝ }
-{
-    let words = word_at(rest, at);
-    let states = word_at(rest, at + 2);
-    let length = word_at(rest, at + 4);
-    let end = at + 6;
-    if rest.len() < end {
-        return say_cut();
-    }
-    if list.len() < words {
-        return say_cut();
-    }
-    if maps.len() < states {
-        return say_cut();
-    }
-    if out.len() < length {
-        return say_cut();
-    }
-    say_seasoned(
-        limits,
-        &rest[end..],
-        lengths,
-        word_at(rest, 0) as u64,
-        &mut list[..words],
-        &mut maps[..states],
-        &mut out[..length],
-    )
-}
-
-// A season, with buffers for it.
-fn say_season(limits: Limits, rest: &[u8]) -> bool {
-    say(b"season");
-    let count = word_at(rest, 2);
-    if 16 < count {
-        return say_cut();
-    }
-    let lengths = lengths_from(rest);
-    let mut list = [7u16; 4096];
-    let mut maps = [7u8; 256];
-    let mut out = [7u8; 4096];
-    say_parts(
-        limits,
-        rest,
-        4 + 8 * count,
-        &lengths[..count],
-        &mut list,
-        &mut maps,
-        &mut out,
-    )
-}
-
-// Writes the table of a load; its numbers stand behind each other, 16 bits each.
-fn say_load(limits: Limits, rest: &[u8], out: &mut [u8]) -> bool {
-    let seed = word_at(rest, 0) as u32 + 65536 * word_at(rest, 2) as u32;
-    let density = word_at(rest, 12) as u32 + 65536 * word_at(rest, 14) as u32;
-    let written = generate::generate_within(
-        limits,
-        seed,
-        word_at(rest, 4),
-        word_at(rest, 6),
-        word_at(rest, 8),
-        word_at(rest, 10),
-        density,
-        out,
-    );
-    say_written(written, out)
-}
-
-// A random table from a seed, with a buffer for it.
-fn say_generate(limits: Limits, rest: &[u8]) -> bool {
-    say(b"generate");
-    let length = word_at(rest, 16);
-    if 4096 < length {
-        return say_cut();
-    }
-    let mut out = [7u8; 4096];
-    say_load(limits, rest, &mut out[..length])
-}
-
-// The number, which map, and the map that is handed back.
-fn say_chosen<'a>(limits: Limits, table: &[u8], first: &'a [u8], second: &'a [u8]) -> bool {
-    number(choose::choose_number_within(limits, table, first, second) as u64);
-    let choice = choose::decide_within(limits, table, first, second);
-    let which = choice.which;
-    match which {
-        Which::Neither => {
-            number(0);
-        }
-        Which::First => {
-            number(1);
-        }
-        Which::Second => {
-            number(2);
-        }
-    }
-    say_bytes(choose::choose_within(limits, table, first, second));
-    say(b"\n")
-}
-
-// Chooses between the two maps at the beginning, for the table behind them.
-fn say_choose(limits: Limits, rest: &[u8]) -> bool {
-    say(b"choose");
-    let middle = 4 + word_at(rest, 0);
-    let end = middle + word_at(rest, 2);
-    if rest.len() < end {
-        return say_cut();
-    }
-    say_chosen(limits, &rest[end..], &rest[4..middle], &rest[middle..end])
-}
-
-// The script at the beginning on the table behind it: 1 yes, 0 no.
-fn say_script(limits: Limits, rest: &[u8]) -> bool {
-    say(b"script");
-    let end = 2 + word_at(rest, 0);
-    if rest.len() < end {
-        return say_cut();
-    }
+// 1 yes, 0 no.
+fn say_script(limits: Limits, script: &[u8], table: &[u8]) {
     let mut values = [0u64; 1];
-    let read = script::script_within(limits, &rest[end..], &rest[2..end]);
-    let refused = answers::say_read(read, &mut values);
+    let refused = answers::say_read(script::script_within(limits, table, script), &mut values);
     say_answer(refused, &values);
-    say(b"\n")
 }
 
-// Tells where the records went.
-fn say_recorded(limits: Limits, table: &[u8], map: &[u8], out: &mut [u8]) -> bool {
+// Records, and those of them that are kept, folded and dead; and the output.
+fn say_records(limits: Limits, map: &[u8], table: &[u8], case: &[u8]) {
+    let mut space = [7u8; 4096];
+    let out = bytes_of(&mut space, case, 10);
     let mut values = [0u64; 4];
     let recorded = records::records_within(limits, table, map, out);
     let refused = answers::say_recorded(recorded, &mut values);
     say_answer(refused, &values);
     say_bytes(out);
-    say(b"\n")
 }
 
-// Where the records went under the map at the beginning, of the table behind it.
-fn say_records(limits: Limits, rest: &[u8]) -> bool {
-    say(b"records");
-    let end = 4 + word_at(rest, 0);
-    if rest.len() < end {
-        return say_cut();
-    }
-    let length = word_at(rest, 2);
-    if 4096 < length {
-        return say_cut();
-    }
-    let mut out = [7u8; 4096];
-    say_recorded(limits, &rest[end..], &rest[4..end], &mut out[..length])
+// The sums by class, and the total.
+fn say_uses(limits: Limits, map: &[u8], lines: &[u8], table: &[u8]) {
+    let counted = uses::uses_within(limits, table, map, lines);
+    number(counted.number as u64);
+    let sums = counted.sums;
+    say_values(&sums);
+    number(counted.total);
 }
 
-// Whether the second table accepts every word of the first.
-fn say_fitting(first: &[u8], second: &[u8]) -> bool {
+// The lengths of 16 tables, from their bytes.
+fn lengths_from(bytes: &[u8]) -> [u64; 16] {
+    let mut lengths = [0u64; 16];
+    let mut i: usize = 0;
+    'lengths: while i < 16 {
+        lengths[i] = long_at(bytes, 8 * i);
+        i += 1;
+    }
+    lengths
+}
+
+// The rows of a season's tables, and the list, the maps and the output.
+fn say_season(limits: Limits, numbers: &[u8], sizes: &[u8], tables: &[u8], case: &[u8]) {
+    let guesses = word_at(numbers, 0) as u64;
+    let lengths = lengths_from(sizes);
+    let k = sizes.len() / 8 % 17;
+    let mut words = [7u16; 4096];
+    let mut states = [7u8; 4096];
+    let mut space = [7u8; 4096];
+    let list = words_of(&mut words, case, 6);
+    let maps = bytes_of(&mut states, case, 8);
+    let out = bytes_of(&mut space, case, 10);
+    let mut values = [0u64; 64];
+    let season = season::season_within(limits, tables, &lengths[..k], guesses, list, maps, out);
+    let refused = answers::say_season(season, &mut values);
+    say_answer(refused, &values);
+    say_words(list);
+    say_bytes(maps);
+    say_bytes(out);
+}
+
+// The length of a random table, and the output.
+fn say_generate(limits: Limits, numbers: &[u8], case: &[u8]) {
+    let mut space = [7u8; 4096];
+    let out = bytes_of(&mut space, case, 10);
+    let mut values = [0u64; 1];
+    let written = generate::generate_within(
+        limits,
+        double_at(numbers, 0),
+        word_at(numbers, 4),
+        word_at(numbers, 6),
+        word_at(numbers, 8),
+        word_at(numbers, 10),
+        double_at(numbers, 12),
+        out,
+    );
+    let refused = answers::say_written(written, &mut values);
+    say_answer(refused, &values);
+    say_bytes(out);
+}
+
+// 1 yes, 0 no.
+fn say_fit(first: &[u8], second: &[u8]) {
     let mut values = [0u64; 1];
     let refused = answers::say_fitting(fit::fit(first, second), &mut values);
     say_answer(refused, &values);
-    say(b"\n")
 }
 
-// Compares the table at the beginning with the one behind it.
-fn say_fit(rest: &[u8]) -> bool {
-    say(b"fit");
-    let middle = 2 + word_at(rest, 0);
-    if rest.len() < middle {
-        return say_cut();
-    }
-    say_fitting(&rest[2..middle], &rest[middle..])
+// Which map it is, 1 or 2, or 0 with a refusal, and the map that is handed back.
+fn say_choose<'a>(limits: Limits, first: &'a [u8], second: &'a [u8], table: &[u8]) {
+    number(choose::choose_number_within(limits, table, first, second) as u64);
+    let choice = choose::decide_within(limits, table, first, second);
+    let which = choice.which;
+    let chosen = match which {
+        Which::Neither => 0,
+        Which::First => 1,
+        Which::Second => 2,
+    };
+    number(chosen);
+    say_bytes(choose::choose_within(limits, table, first, second));
 }
 
-// One case by its operation's number.
-fn say_case(operation: u8, limits: Limits, rest: &[u8]) -> bool {
-    match operation {
-        1 => say_read(limits, rest),
-        2 => say_tops(limits, rest),
-        3 => say_clauses(limits, rest),
-        4 => say_search(limits, rest),
-        5 => say_check(limits, rest),
-        6 => say_quotient(limits, rest),
-        7 => say_reduce(limits, rest),
-        9 => say_records(limits, rest),
-        13 => say_fit(rest),
-        8 => say_script(limits, rest),
-        10 => say_uses(limits, rest),
-        11 => say_season(limits, rest),
-        12 => say_generate(limits, rest),
-        14 => say_choose(limits, rest),
-        _ => say(b"?\n"),
+// The answer and the buffers of a case, by its operation.
+fn say_operation<'a>(case: &'a [u8], first: &'a [u8], second: &'a [u8], third: &'a [u8]) {
+    let limits = Limits {
+        states: word_at(case, 2),
+        symbols: word_at(case, 4),
+    };
+    match word_at(case, 0) {
+        1 => say_read(limits, third),
+        2 => say_tops(limits, third),
+        3 => say_clauses(limits, third, case),
+        4 => say_search(limits, first, third, case),
+        5 => say_check(limits, first, third),
+        6 => say_quotient(limits, first, third, case),
+        7 => say_reduce(limits, first, third, case),
+        8 => say_script(limits, first, third),
+        9 => say_records(limits, first, third, case),
+        10 => say_uses(limits, first, second, third),
+        11 => say_season(limits, first, second, third, case),
+        12 => say_generate(limits, first, case),
+        13 => say_fit(first, third),
+        14 => say_choose(limits, first, second, third),
+        _ => {}
     }
 }
 
-// A case of a known length: false where the input ends before it does.
-fn read_case(operation: u8, limits: Limits, rest: &mut [u8]) -> bool {
-    let length = io::read_full(0, rest);
-    if length < rest.len() {
-        return false;
+// The line of a case.
+fn say_case(case: &[u8]) {
+    let first = 18 + word_at(case, 12);
+    let second = first + word_at(case, 14);
+    let third = second + word_at(case, 16);
+    if case.len() < third {
+        return;
     }
-    say_case(operation, limits, rest)
+    say(&case[18..first]);
+    say_operation(
+        case,
+        &case[first..second],
+        &case[second..third],
+        &case[third..],
+    );
+    say(b"\n");
 }
 
 // One case; false at the end of the input.
-fn next_case(space: &mut [u8]) -> bool {
-    let mut head = [0u8; 5];
-    let got = io::read_full(0, &mut head);
-    if got < 5 {
+fn next_case() -> bool {
+    let mut length = [0u8; 2];
+    if io::read_full(STDIN_FILENO, &mut length) < 2 {
         return false;
     }
-    let limits = Limits {
-        states: wide(head[1]),
-        symbols: wide(head[2]),
-    };
-    let n = wide(head[3]) + 256 * wide(head[4]);
-    if space.len() < n {
-        return false;
-    }
-    read_case(head[0], limits, &mut space[..n])
+    let mut space = io::large_buffer();
+    let case = bytes_of(&mut space, &length, 0);
+    io::read_full(STDIN_FILENO, case);
+    say_case(case);
+    true
 }
 
 // Every case of the input, one after the other.
 fn main() {
-    let mut space = [0u8; 32768];
     let mut turns: usize = 1000000;
     'cases: while 0 < turns {
-        if !next_case(&mut space) {
+        if !next_case() {
             return;
         }
         turns -= 1;

@@ -1,5 +1,5 @@
 -- `cases::lengths_from` is safe and ends. Assumes nothing.
-use Prim.Native.Nat.{_-_, _≤_}
+use Prim.Native.Nat.{_≤_, _-_}
 use borrow.Author.Needs.{needs}
 use Rattle.cases.proofs.lengths_from.Statement.{statement}
 use Rattle.cases.proofs.lengths_from.Tie as tie
@@ -15,9 +15,6 @@ lengths-holds c = search needs
 
 mul-long-at : tie.Need-mul-long-at Inv-lengths μ-lengths
 mul-long-at c = search needs
-
-add-long-at : tie.Need-add-long-at Inv-lengths μ-lengths
-add-long-at c = search needs
 
 long-at-requires : tie.Need-long-at-requires Inv-lengths μ-lengths
 long-at-requires c κs = search needs
@@ -48,7 +45,6 @@ lengths-from-spec =
     μ-lengths
     lengths-holds
     mul-long-at
-    add-long-at
     long-at-requires
     mul-lengths
     array-write-lengths

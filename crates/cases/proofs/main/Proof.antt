@@ -1,21 +1,17 @@
 -- `cases::main` is safe and ends. Assumes nothing.
-use mathlib.Core.Path.{_≡_}
-use lib.ListN.{length}
+use Prim.Native.Nat.{_≤_}
 use borrow.Author.Needs.{needs}
 use Rattle.cases.proofs.main.Statement.{statement}
 use Rattle.cases.proofs.main.Tie as tie
 
 abbrev Inv-cases : tie.InvT-cases
-Inv-cases space₀ turns₀ space turns = 32768 ≡ length space
+Inv-cases turns₀ turns = 0 ≤ turns
 
 abbrev μ-cases : tie.MeasureT-cases
-μ-cases space₀ turns₀ space turns = turns
+μ-cases turns₀ turns = turns
 
 cases-holds : tie.Need-cases-holds Inv-cases μ-cases
 cases-holds c = search needs
-
-slice-aggregate-next-case : tie.Need-slice-aggregate-next-case Inv-cases μ-cases
-slice-aggregate-next-case c = search needs
 
 next-case-requires : tie.Need-next-case-requires Inv-cases μ-cases
 next-case-requires c κs = search needs
@@ -42,7 +38,6 @@ main-spec =
     Inv-cases
     μ-cases
     cases-holds
-    slice-aggregate-next-case
     next-case-requires
     returns
     sub-turns

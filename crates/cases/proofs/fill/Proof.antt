@@ -1,17 +1,17 @@
--- `shown::words_from` meets its contract: it takes no more words than there is room for. Assumes nothing.
-use Prim.Native.Nat.{_≤_, _-_}
+-- `cases::fill` is safe and ends. Assumes nothing.
 use native.Mathlib.Omega.{arith}
-use mathlib.Core.Path.{_≡_}
 use lib.ListN.{length, length-set}
+use Prim.Native.Nat.{_≤_, _-_}
+use mathlib.Core.Path.{_≡_}
 use borrow.Author.Needs.{needs}
-use Rattle.shown.proofs.words_from.Statement.{statement}
-use Rattle.shown.proofs.words_from.Tie as tie
+use Rattle.cases.proofs.fill.Statement.{statement}
+use Rattle.cases.proofs.fill.Tie as tie
 
 abbrev Inv-words : tie.InvT-words
-Inv-words bytes list₀ n₀ list n = (n ≤ length list) × (length list ≡ length list₀)
+Inv-words list₀ bytes i₀ list i = (i ≤ length list) × (length list ≡ length list₀)
 
 abbrev μ-words : tie.MeasureT-words
-μ-words bytes list₀ n₀ list n = length list - n
+μ-words list₀ bytes i₀ list i = length list - i
 
 words-holds : tie.Need-words-holds Inv-words μ-words
 words-holds c = search needs
@@ -37,8 +37,8 @@ mul-list c = search needs
 slice-write-list : tie.Need-slice-write-list Inv-words μ-words
 slice-write-list c = search needs
 
-add-n : tie.Need-add-n Inv-words μ-words
-add-n c = search needs
+add-i : tie.Need-add-i Inv-words μ-words
+add-i c = search needs
 
 words-less : tie.Need-words-less Inv-words μ-words
 words-less c = simp length-set (omega arith)
@@ -52,8 +52,8 @@ same-length-2 c = search needs
 returns-2 : tie.Need-returns-2 Inv-words μ-words
 returns-2 c = search needs
 
-pub words-from-spec : {M : Type 1} → statement M
-words-from-spec =
+pub fill-spec : {M : Type 1} → statement M
+fill-spec =
     tie.close
     (tie.spec
     Inv-words
@@ -66,7 +66,7 @@ words-from-spec =
     cast-list
     mul-list
     slice-write-list
-    add-n
+    add-i
     words-less
     words-again
     same-length-2

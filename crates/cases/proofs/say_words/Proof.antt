@@ -1,9 +1,9 @@
--- `shown::say_words` is safe and ends. Assumes nothing.
+-- `cases::say_words` is safe and ends. Assumes nothing.
 use Prim.Native.Nat.{_≤_, _-_}
 use lib.ListN.{length}
 use borrow.Author.Needs.{needs}
-use Rattle.shown.proofs.say_words.Statement.{statement}
-use Rattle.shown.proofs.say_words.Tie as tie
+use Rattle.cases.proofs.say_words.Statement.{statement}
+use Rattle.cases.proofs.say_words.Tie as tie
 
 abbrev Inv-words : tie.InvT-words
 Inv-words words i₀ i = i ≤ length words

@@ -1,9 +1,9 @@
--- `shown::say_bytes` is safe and ends. Assumes nothing.
+-- `cases::say_bytes` is safe and ends. Assumes nothing.
 use Prim.Native.Nat.{_≤_, _-_}
 use lib.ListN.{length}
 use borrow.Author.Needs.{needs}
-use Rattle.shown.proofs.say_bytes.Statement.{statement}
-use Rattle.shown.proofs.say_bytes.Tie as tie
+use Rattle.cases.proofs.say_bytes.Statement.{statement}
+use Rattle.cases.proofs.say_bytes.Tie as tie
 
 abbrev Inv-bytes : tie.InvT-bytes
 Inv-bytes bytes i₀ i = i ≤ length bytes
