@@ -18,6 +18,9 @@ pub struct Room {
     pub out: usize,
 }
 
+/// No buffers.
+const NONE: Room = Room { list: 0, map: 0, out: 0 };
+
 /// The limits of the next cases; the frames of the cases, the lines that they must give, and the number of cases of each operation.
 pub struct Cases {
     pub limits: Limits,
@@ -42,14 +45,15 @@ impl Cases {
         Cases { limits: reference::STANDARD, input: vec![], output: String::new(), counts: [0; 15] }
     }
 
-    /// An operation's number, the limits, the length of the rest, and the rest.
-    fn frame(&mut self, operation: u8, parts: &[&[u8]]) {
-        let rest = parts.concat();
+    /// A case in the form that crates/cases/src/main.rt tells: its length, its numbers, the operation's name and three parts.
+    fn frame(&mut self, operation: u8, name: &str, room: Room, parts: [&[u8]; 3]) {
+        assert!([room.list, room.map, room.out].iter().all(|&x| x <= 4096), "buffers that the program has");
+        let (states, symbols) = (self.limits.states, self.limits.symbols);
+        let numbers = words(&[operation as usize, states, symbols, room.list, room.map, room.out, name.len(), parts[0].len(), parts[1].len()]);
+        let case = [&numbers, name.as_bytes(), parts[0], parts[1], parts[2]].concat();
         self.counts[operation as usize] += 1;
-        self.input.push(operation);
-        self.input.extend([self.limits.states, self.limits.symbols].map(|x| u8::try_from(x).unwrap()));
-        self.input.extend(words(&[rest.len()]));
-        self.input.extend(rest);
+        self.input.extend(words(&[case.len()]));
+        self.input.extend(case);
     }
 
     /// The name, and 0 with the answer's values or the refusal's number.
@@ -74,7 +78,7 @@ impl Cases {
 
     /// The five starts.
     pub fn read(&mut self, b: &[u8]) -> Result<[usize; 5], u8> {
-        self.frame(1, &[b]);
+        self.frame(1, "read", NONE, [&[], &[], b]);
         let answer = reference::read(self.limits, b);
         self.line("read", answer.map(|starts| starts.map(|x| x as u64).to_vec()));
         self.end();
@@ -83,7 +87,7 @@ impl Cases {
 
     /// The words of the tops and their number; with a refusal, 0 in all of them.
     pub fn tops(&mut self, b: &[u8]) -> Result<([u64; 40], u32), u8> {
-        self.frame(2, &[b]);
+        self.frame(2, "tops", NONE, [&[], &[], b]);
         let answer = reference::tops(self.limits, b);
         let (number, top_words, found) = match answer {
             Ok((w, f)) => (0, w, f),
@@ -97,7 +101,7 @@ impl Cases {
 
     /// The clause count and the word count.
     pub fn clauses(&mut self, b: &[u8], room: usize) -> Result<(usize, usize), u8> {
-        self.frame(3, &[&words(&[room]), b]);
+        self.frame(3, "clauses", Room { list: room, ..NONE }, [&[], &[], b]);
         let mut list = vec![FILL as u16; room];
         let answer = reference::clauses(self.limits, b, &mut list);
         assert!(answer.is_ok() || list.iter().all(|&x| x == FILL as u16), "outputs keep their bytes");
@@ -110,7 +114,7 @@ impl Cases {
     /// The guesses made, and the answer buffer.
     pub fn search(&mut self, list: &[u16], variables: usize, budget: u16, room: usize) -> Result<(u64, Vec<u8>), u8> {
         let bytes: Vec<u8> = list.iter().flat_map(|w| w.to_le_bytes()).collect();
-        self.frame(4, &[&words(&[variables, budget as usize, room]), &bytes]);
+        self.frame(4, "search", Room { list: list.len(), out: room, ..NONE }, [&words(&[variables, budget as usize]), &[], &bytes]);
         let mut values = vec![FILL; room];
         let answer = reference::search(self.limits, list, variables, budget as u64, &mut values);
         assert!(answer.is_ok() || values.iter().all(|&x| x == FILL), "outputs keep their bytes");
@@ -122,7 +126,7 @@ impl Cases {
 
     /// The class count.
     pub fn check(&mut self, b: &[u8], map: &[u8]) -> Result<usize, u8> {
-        self.frame(5, &[&words(&[map.len()]), map, b]);
+        self.frame(5, "check", NONE, [map, &[], b]);
         let answer = reference::check(self.limits, b, map);
         self.line("check", answer.map(|classes| vec![classes as u64]));
         self.end();
@@ -131,7 +135,7 @@ impl Cases {
 
     /// The sums and the total; with a refusal, 0 in all of them.
     pub fn uses(&mut self, b: &[u8], map: &[u8], lines: &[u8]) -> Result<([u64; 40], u64), u8> {
-        self.frame(10, &[&words(&[map.len(), lines.len()]), map, lines, b]);
+        self.frame(10, "uses", NONE, [map, lines, b]);
         let answer = reference::uses(self.limits, b, map, lines);
         let (number, sums, total) = match answer {
             Ok((sums, total)) => (0, sums, total),
@@ -145,7 +149,7 @@ impl Cases {
 
     /// Which of two maps is handed back, and its bytes; with a refusal none.
     pub fn choose(&mut self, b: &[u8], first: &[u8], second: &[u8]) -> Result<u8, u8> {
-        self.frame(14, &[&words(&[first.len(), second.len()]), first, second, b]);
+        self.frame(14, "choose", NONE, [first, second, b]);
         let answer = reference::choose(self.limits, b, first, second);
         write!(self.output, "choose {} {}", answer.err().unwrap_or(0), answer.unwrap_or(0)).unwrap();
         self.buffer(&longs(match answer {
@@ -161,7 +165,8 @@ impl Cases {
     pub fn generate(&mut self, load: Load, room: usize) -> Result<Vec<u8>, u8> {
         let long = |x: u32| [x as usize % 65_536, x as usize / 65_536];
         let Load { seed, states, internals, calls, returns, density } = load;
-        self.frame(12, &[&words(&long(seed)), &words(&[states, internals, calls, returns]), &words(&long(density)), &words(&[room])]);
+        let numbers = [words(&long(seed)), words(&[states, internals, calls, returns]), words(&long(density))].concat();
+        self.frame(12, "generate", Room { out: room, ..NONE }, [&numbers, &[], &[]]);
         let mut out = vec![FILL; room];
         let answer = reference::generate(self.limits, load, &mut out);
         assert!(answer.is_ok() || out.iter().all(|&x| x == FILL), "outputs keep their bytes");
@@ -173,7 +178,7 @@ impl Cases {
 
     /// Whether the table accepts the script.
     pub fn script(&mut self, b: &[u8], script: &[u8]) -> Result<bool, u8> {
-        self.frame(8, &[&words(&[script.len()]), script, b]);
+        self.frame(8, "script", NONE, [script, &[], b]);
         let answer = reference::script(self.limits, b, script);
         self.line("script", answer.map(|yes| vec![u64::from(yes)]));
         self.end();
@@ -182,7 +187,7 @@ impl Cases {
 
     /// Records, and those of them kept, folded and dead; one byte a record.
     pub fn records(&mut self, b: &[u8], map: &[u8], room: usize) -> Result<[usize; 4], u8> {
-        self.frame(9, &[&words(&[map.len(), room]), map, b]);
+        self.frame(9, "records", Room { out: room, ..NONE }, [map, &[], b]);
         let mut out = vec![FILL; room];
         let answer = reference::records(self.limits, b, map, &mut out);
         assert!(answer.is_ok() || out.iter().all(|&x| x == FILL), "outputs keep their bytes");
@@ -194,7 +199,7 @@ impl Cases {
 
     /// Whether the second table accepts every word of the first.
     pub fn fit(&mut self, first: &[u8], second: &[u8]) -> Result<bool, u8> {
-        self.frame(13, &[&words(&[first.len()]), first, second]);
+        self.frame(13, "fit", NONE, [first, &[], second]);
         let answer = reference::fit(first, second);
         self.line("fit", answer.map(|yes| vec![u64::from(yes)]));
         self.end();
@@ -204,7 +209,7 @@ impl Cases {
     /// The answers of the tables, and every buffer.
     pub fn season(&mut self, tables: &[u8], lengths: &[u64], guesses: u64, room: Room) -> Result<reference::Season, u8> {
         let long: Vec<u8> = lengths.iter().flat_map(|x| x.to_le_bytes()).collect();
-        self.frame(11, &[&words(&[guesses as usize, lengths.len()]), &long, &words(&[room.list, room.map, room.out]), tables]);
+        self.frame(11, "season", room, [&words(&[guesses as usize]), &long, tables]);
         let (mut list, mut maps, mut out) = (vec![FILL as u16; room.list], vec![FILL; room.map], vec![FILL; room.out]);
         let answer = reference::season(self.limits, tables, lengths, guesses, &mut list, &mut maps, &mut out);
         assert!(answer.is_ok() || maps.iter().chain(&out).all(|&x| x == FILL) && list.iter().all(|&x| x == FILL as u16), "buffers keep their content");
@@ -218,7 +223,7 @@ impl Cases {
 
     /// The written bytes.
     pub fn quotient(&mut self, b: &[u8], map: &[u8], room: usize) -> Result<Vec<u8>, u8> {
-        self.frame(6, &[&words(&[map.len(), room]), map, b]);
+        self.frame(6, "quotient", Room { out: room, ..NONE }, [map, &[], b]);
         let mut out = vec![FILL; room];
         let answer = reference::quotient(self.limits, b, map, &mut out);
         assert!(answer.is_ok() || out.iter().all(|&x| x == FILL), "outputs keep their bytes");
@@ -230,7 +235,7 @@ impl Cases {
 
     /// The answer, the map buffer and the output.
     pub fn reduce(&mut self, b: &[u8], budget: u64, room: Room) -> (Reduced, Vec<u8>, Vec<u8>) {
-        self.frame(7, &[&words(&[budget as usize, room.list, room.map, room.out]), b]);
+        self.frame(7, "reduce", room, [&words(&[budget as usize]), &[], b]);
         let (mut list, mut map, mut out) = (vec![FILL as u16; room.list], vec![FILL; room.map], vec![FILL; room.out]);
         let answer = reference::reduce(self.limits, b, budget, &mut list, &mut map, &mut out);
         assert!(answer.is_ok() || map.iter().chain(&out).all(|&x| x == FILL), "outputs keep their bytes");

@@ -7,58 +7,6 @@ use basilvault_tests::named::{self, silent, t, t_with_call, t_with_return, two_u
 use basilvault_tests::random::{self, Random};
 use basilvault_tests::reference::{self, Delivery, LARGEST, Limits, Load, STANDARD, Table};
 
-/// The names of the operations, by number.
-const NAMES: [&str; 15] =
-    ["", "read", "tops", "clauses", "search", "check", "quotient", "reduce", "script", "records", "uses", "season", "generate", "fit", "choose"];
-
-/// The 16-bit number at a place.
-fn word_at(bytes: &[u8], at: usize) -> usize {
-    u16::from_le_bytes([bytes[at], bytes[at + 1]]) as usize
-}
-
-/// The rest of an operation's frame as the program reads it: the lengths of list, map buffer and output, and the parts behind the name.
-fn in_parts(operation: u8, b: &[u8]) -> (Room, [&[u8]; 3]) {
-    let none = &b[..0];
-    let w = |k: usize| word_at(b, 2 * k);
-    let room = |list, map, out| Room { list, map, out };
-    match operation {
-        1 | 2 => (room(0, 0, 0), [none, none, b]),
-        3 => (room(w(0), 0, 0), [none, none, &b[2..]]),
-        4 => (room((b.len() - 6) / 2, 0, w(2)), [&b[..4], none, &b[6..]]),
-        5 | 8 | 13 => (room(0, 0, 0), [&b[2..2 + w(0)], none, &b[2 + w(0)..]]),
-        6 | 9 => (room(0, 0, w(1)), [&b[4..4 + w(0)], none, &b[4 + w(0)..]]),
-        7 => (room(w(1), w(2), w(3)), [&b[..2], none, &b[8..]]),
-        10 | 14 => {
-            let (middle, end) = (4 + w(0), 4 + w(0) + w(1));
-            (room(0, 0, 0), [&b[4..middle], &b[middle..end], &b[end..]])
-        }
-        11 => {
-            let end = 4 + 8 * w(1);
-            (room(word_at(b, end), word_at(b, end + 2), word_at(b, end + 4)), [&b[..2], &b[4..end], &b[end + 6..]])
-        }
-        12 => (room(0, 0, w(8)), [&b[..16], none, none]),
-        _ => unreachable!("no operation {operation}"),
-    }
-}
-
-/// The frames of the cases in the one form that the program reads; crates/cases/src/main.rt tells it.
-fn in_one_form(mut frames: &[u8]) -> Vec<u8> {
-    let mut cases = vec![];
-    while let [operation, states, symbols, ..] = *frames {
-        let (rest, next) = frames[5..].split_at(word_at(frames, 3));
-        let (room, parts) = in_parts(operation, rest);
-        let name = NAMES[operation as usize].as_bytes();
-        let numbers = [operation as usize, states as usize, symbols as usize, room.list, room.map, room.out, name.len(), parts[0].len(), parts[1].len()];
-        assert!([room.list, room.map, room.out].iter().all(|&x| x <= 4096), "buffers that the program has");
-        let numbers = numbers.iter().flat_map(|&x| u16::try_from(x).unwrap().to_le_bytes()).collect::<Vec<u8>>();
-        let case = [&numbers, name, parts[0], parts[1], parts[2]].concat();
-        cases.extend(u16::try_from(case.len()).unwrap().to_le_bytes());
-        cases.extend(case);
-        frames = next;
-    }
-    cases
-}
-
 /// The words of the list that reduce writes.
 fn short_words(table: &Table) -> usize {
     reference::words_of(&reference::short_list(table)).len()
@@ -999,8 +947,7 @@ fn main() {
     scripts(&mut c, &mut r);
     generating(&mut c, &mut r);
     seasons(&mut c, &mut r);
-    let input = in_one_form(&c.input);
-    println!("cases of the operations by number: {:?}; {} bytes", &c.counts[1..], input.len() + c.output.len());
-    std::fs::write(format!("{root}/crates/cases/stdin"), &input).unwrap();
+    println!("cases of the operations by number: {:?}; {} bytes", &c.counts[1..], c.input.len() + c.output.len());
+    std::fs::write(format!("{root}/crates/cases/stdin"), &c.input).unwrap();
     std::fs::write(format!("{root}/crates/cases/stdout"), &c.output).unwrap();
 }
