@@ -405,16 +405,32 @@ fn value(values: &[Option<bool>], l: u16) -> Option<bool> {
     values[(l / 2) as usize].map(|x| x == (l % 2 == 0))
 }
 
-/// The literal that a clause forces: no literal is true, and this one alone is unset.
-fn forces(values: &[Option<bool>], clause: &[u16]) -> Option<u16> {
-    if clause.iter().any(|&l| value(values, l) == Some(true)) {
-        return None;
+/// Sets what clauses force, in scans of the list until one sets nothing; whether no clause was met with every literal false. The choice among several
+/// clauses changes neither answer nor count.
+fn settles(list: &[Vec<u16>], values: &mut [Option<bool>]) -> bool {
+    loop {
+        let mut forced = false;
+        for c in list {
+            if c.iter().any(|&l| value(values, l) == Some(true)) {
+                continue;
+            }
+            let mut open = c.iter().filter(|&&l| value(values, l).is_none());
+            match (open.next(), open.next()) {
+                (None, _) => return false,
+                (Some(&l), None) => {
+                    values[(l / 2) as usize] = Some(l % 2 == 0);
+                    forced = true;
+                }
+                _ => {}
+            }
+        }
+        if !forced {
+            return true;
+        }
     }
-    let open: Vec<u16> = clause.iter().copied().filter(|&l| value(values, l).is_none()).collect();
-    if open.len() == 1 { Some(open[0]) } else { None }
 }
 
-/// The search, one step of (a) to (e) after the other, with a copy of the values at each guess.
+/// The search, (a) to (e), with a copy of the values at each guess.
 pub fn run_search(list: &[Vec<u16>], variables: usize, budget: u64) -> Outcome {
     search_trying(list, variables, budget, None)
 }
@@ -425,7 +441,7 @@ pub fn search_trying(list: &[Vec<u16>], variables: usize, budget: u64, mut trial
     let mut guesses: Vec<(usize, Vec<Option<bool>>)> = Vec::new();
     let mut made = 0u64;
     loop {
-        if list.iter().any(|c| c.iter().all(|&l| value(&values, l) == Some(false))) {
+        if !settles(list, &mut values) {
             match guesses.pop() {
                 None => return Outcome::None,
                 Some((x, before)) => {
@@ -433,10 +449,6 @@ pub fn search_trying(list: &[Vec<u16>], variables: usize, budget: u64, mut trial
                     values[x] = Some(false);
                 }
             }
-            continue;
-        }
-        if let Some(l) = list.iter().find_map(|c| forces(&values, c)) {
-            values[(l / 2) as usize] = Some(l % 2 == 0);
             continue;
         }
         if let Some(t) = trials.as_mut() {
@@ -914,9 +926,9 @@ pub fn script(l: Limits, b: &[u8], script: &[u8]) -> Result<bool, u8> {
     Ok(accepts_long(&t, script))
 }
 
-/// The one target of a move or return by its key, if there is one.
+/// The one target of a move or return by its key, if there is one; the records ascend.
 fn target<const N: usize>(records: &[[u8; N]], key: &[u8]) -> Option<u8> {
-    records.iter().find(|r| r[..N - 1] == *key).map(|r| r[N - 1])
+    records.binary_search_by(|r| r[..N - 1].cmp(key)).ok().map(|i| records[i][N - 1])
 }
 
 /// A state of the first table and one of the second, or none where the second is stuck.
@@ -924,6 +936,10 @@ type Both = (u8, Option<u8>);
 
 /// The pairs that balanced words reach from each pair that is entered, by rounds until nothing is new.
 fn reached(s: &Table, t: &Table, starts: &BTreeSet<Both>) -> BTreeMap<Both, BTreeSet<Both>> {
+    let mut pops: BTreeMap<(u8, u8), Vec<&[u8; 4]>> = BTreeMap::new();
+    for r in &s.returns {
+        pops.entry((r[0], r[2])).or_default().push(r);
+    }
     let mut reach: BTreeMap<Both, BTreeSet<Both>> = starts.iter().map(|&x| (x, BTreeSet::from([x]))).collect();
     loop {
         let mut new: Vec<(Both, Both)> = Vec::new();
@@ -936,7 +952,7 @@ fn reached(s: &Table, t: &Table, starts: &BTreeSet<Both>) -> BTreeMap<Both, BTre
                     let entered = (c[2], b.and_then(|b| target(&t.calls, &[b, c[1]])));
                     new.push((entered, entered));
                     for &(q, d) in reach.get(&entered).into_iter().flatten() {
-                        for r in s.returns.iter().filter(|r| r[0] == q && r[2] == p) {
+                        for r in pops.get(&(q, p)).into_iter().flatten() {
                             let after = d.zip(b).and_then(|(d, b)| target(&t.returns, &[d, r[1], b]));
                             new.push((x, (r[3], after)));
                         }
