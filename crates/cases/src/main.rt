@@ -22,6 +22,7 @@
 // A line is the name, the refusal's number or 0, the answer's values and, each behind a bar, the buffers at exit, which are filled with 7
 // beforehand. Choose prints which map it is, 1 or 2, or 0 with a refusal, and behind the bar the map that is handed back.
 ghost use Prim.Native.Nat.{_<_};
+use casts::long;
 use choices::Which;
 use libc::STDIN_FILENO;
 use libc::STDOUT_FILENO;
@@ -55,26 +56,19 @@ fn say_answer(refused: u32, values: &[u64]) {
     }
 }
 
-// A byte as an index.
-fn wide(x: u8) -> usize
-    ensures { λ r. ⌜ r < 256 ⌝ }
-{
-    x as usize
-}
-
-// A word as a number that can be printed.
-fn long(x: u16) -> u64 {
-    x as u64
-}
-
 // A buffer of bytes, behind a bar.
 fn say_bytes(bytes: &[u8]) {
     say(b" |");
     let mut i: usize = 0;
     'bytes: while i < bytes.len() {
-        number(wide(bytes[i]) as u64);
+        number(long(bytes[i]));
         i += 1;
     }
+}
+
+// A word as a number that can be printed.
+fn of_word(x: u16) -> u64 {
+    x as u64
 }
 
 // A buffer of words, behind a bar.
@@ -82,7 +76,7 @@ fn say_words(words: &[u16]) {
     say(b" |");
     let mut i: usize = 0;
     'words: while i < words.len() {
-        number(long(words[i]));
+        number(of_word(words[i]));
         i += 1;
     }
 }
@@ -97,7 +91,7 @@ fn word_at(bytes: &[u8], at: usize) -> usize
     if bytes.len() - 2 < at {
         return 0;
     }
-    wide(bytes[at]) + 256 * wide(bytes[at + 1])
+    (long(bytes[at]) + 256 * long(bytes[at + 1])) as usize
 }
 
 // The 32-bit number at a place.

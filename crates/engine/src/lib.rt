@@ -9,15 +9,12 @@ ghost use Rattle.pairs.specs.Entries.{PairTable};
 ghost use Rattle.rows.specs.Conclusions.{withTriangles};
 ghost use Rattle.rows.specs.Rows.{Rows};
 ghost use Rattle.engine.specs.Room.{WordRoom};
-ghost use Rattle.tallies.specs.Tallies.{Tallied};
 ghost use Rattle.turning.specs.Turns.{noneSet, Fresh, Begun, Rested, EndsWith};
-ghost use Rattle.closing.specs.Preparing.{Prepared};
 use lightening::lighten;
 use occurrences::index;
 use occurrences::no_firsts;
 use pairs::pair_table;
 use passes::settle;
-use restore::copy;
 use rows::own_rows;
 use sifting::sift;
 use tallies::tally;
@@ -37,48 +34,6 @@ pub fn none_set() -> [u8; 780]
     ensures { λ r. ⌜ r ≡ noneSet ⌝ }
 {
     [2u8; 780]
-}
-
-// The turns over a list whose clauses are indexed by their literals and have their words, which are saved for the first guess.
-fn turns_tallied(
-    list: &[u16],
-    n: u8,
-    table: &[u16],
-    firsts: &[u16; 1561],
-    clauses: &[u16],
-    words: &mut [u32],
-    saved: &mut [u32],
-    noted: &mut [u16],
-    values: &mut [u8],
-    trail: &mut [u16],
-    joined: &mut [u64; 40],
-    apart: &mut [u64; 40],
-    budget: u64,
-    start: usize,
-) -> Ending
-    requires { ⌜ Prepared (now list) (now firsts) (now clauses) (now words) (now noted) ⌝ }
-    requires { ⌜ Tallied (now list) (now values) (now words) × (length (now saved) ≡ length (now words)) ⌝ }
-    requires { ⌜ Rested (withTriangles (now list) n) (length (now values)) (now values) (now trail) start ⌝ }
-    requires { ⌜ PairTable (now table) × Rows n (now values) (now joined) (now apart) ⌝ }
-    ensures { λ r. ⌜ EndsWith (searchTried (withTriangles (now (list .entry)) n) (length (now (values .entry))) budget) r (now (values .exit)) (notFalse (now (values .entry))) ⌝ }
-{
-    copy(words, saved);
-    turns(
-        list,
-        n,
-        table,
-        firsts,
-        clauses,
-        words,
-        saved,
-        noted,
-        values,
-        trail,
-        joined,
-        apart,
-        budget,
-        start,
-    )
 }
 
 // The turns over a list whose clauses are indexed by their literals, in the room that is lent.
@@ -105,7 +60,7 @@ fn turns_indexed(
     let mut firsts = no_firsts();
     index(list, &mut firsts, clauses);
     let few = tally(list, values, words);
-    turns_tallied(
+    turns(
         list,
         n,
         table,

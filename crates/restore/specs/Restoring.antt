@@ -30,8 +30,3 @@ pub record Passed (ws v t : List ℕ) (mark base count : ℕ) : Type 0 where
   pub before : mark ≤ base
   pub inside : base ≤ count
   pub counted : mark + unsetCount (earlier v t mark count) ≡ length v
-
--- the words are those before the guess at mark, and saved
-pub record Back (ws clauses v t : List ℕ) (mark : ℕ) (words saved : List ℕ) : Type 0 where
-  pub lags : Lags ws clauses v t mark (mark + 1) words
-  pub kept : length ws ≤ length clauses → saved ≡ words

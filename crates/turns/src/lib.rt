@@ -9,7 +9,7 @@ ghost use Rattle.turning.specs.Turns.{Rested, EndsWith};
 ghost use Rattle.closing.specs.Preparing.{Prepared, TalliedIf};
 use closing::close;
 use restore::copy;
-use restore::retreat;
+use retreat::retreat;
 use rows::force;
 use rows::wide;
 use trial::walk_back;
@@ -44,7 +44,7 @@ pub fn turns(
     start: usize,
 ) -> Ending
     requires { ⌜ Prepared (now list) (now firsts) (now clauses) (now words) (now noted) ⌝ }
-    requires { ⌜ TalliedIf (now list) (now clauses) (now values) (now words) × (now saved ≡ now words) ⌝ }
+    requires { ⌜ TalliedIf (now list) (now clauses) (now values) (now words) × (length (now saved) ≡ length (now words)) ⌝ }
     requires { ⌜ Rested (withTriangles (now list) n) (length (now values)) (now values) (now trail) start ⌝ }
     requires { ⌜ PairTable (now table) × Rows n (now values) (now joined) (now apart) ⌝ }
     ensures { λ r. ⌜ EndsWith (searchTried (withTriangles (now (list .entry)) n) (length (now (values .entry))) budget) r (now (values .exit)) (notFalse (now (values .entry))) ⌝ }

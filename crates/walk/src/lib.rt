@@ -8,7 +8,7 @@ use linking::after_move;
 use linking::flow;
 use linking::gain;
 use linking::pair;
-use linking::pop_over;
+use popping::pop_over;
 use rounds::any;
 use rounds::held;
 use rounds::put;

@@ -20,11 +20,11 @@ say-requires c κs = search needs
 bytes-holds : tie.Need-bytes-holds Inv-bytes μ-bytes
 bytes-holds c = search needs
 
-shared-slice-read-wide : tie.Need-shared-slice-read-wide Inv-bytes μ-bytes
-shared-slice-read-wide c = search needs
+shared-slice-read-long : tie.Need-shared-slice-read-long Inv-bytes μ-bytes
+shared-slice-read-long c = search needs
 
-wide-requires : tie.Need-wide-requires Inv-bytes μ-bytes
-wide-requires c κs = search needs
+long-requires : tie.Need-long-requires Inv-bytes μ-bytes
+long-requires c κs = search needs
 
 number-requires : tie.Need-number-requires Inv-bytes μ-bytes
 number-requires c κs = search needs
@@ -50,8 +50,8 @@ say-bytes-spec =
     slice-aggregate-say
     say-requires
     bytes-holds
-    shared-slice-read-wide
-    wide-requires
+    shared-slice-read-long
+    long-requires
     number-requires
     add-i
     bytes-less

@@ -20,14 +20,14 @@ say-requires c κs = search needs
 words-holds : tie.Need-words-holds Inv-words μ-words
 words-holds c = search needs
 
-mul-long : tie.Need-mul-long Inv-words μ-words
-mul-long c = search needs
+mul-of-word : tie.Need-mul-of-word Inv-words μ-words
+mul-of-word c = search needs
 
-shared-slice-read-long : tie.Need-shared-slice-read-long Inv-words μ-words
-shared-slice-read-long c = search needs
+shared-slice-read-of-word : tie.Need-shared-slice-read-of-word Inv-words μ-words
+shared-slice-read-of-word c = search needs
 
-long-requires : tie.Need-long-requires Inv-words μ-words
-long-requires c κs = search needs
+of-word-requires : tie.Need-of-word-requires Inv-words μ-words
+of-word-requires c κs = search needs
 
 number-requires : tie.Need-number-requires Inv-words μ-words
 number-requires c κs = search needs
@@ -53,9 +53,9 @@ say-words-spec =
     slice-aggregate-say
     say-requires
     words-holds
-    mul-long
-    shared-slice-read-long
-    long-requires
+    mul-of-word
+    shared-slice-read-of-word
+    of-word-requires
     number-requires
     add-i
     words-less

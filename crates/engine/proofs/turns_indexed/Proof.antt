@@ -31,19 +31,19 @@ tally-requires c κs =
     let half = laws.few-clauses (the-args .list .now) (the-args .n) (the-pre .0 .0) (the-pre .1 .0) in
     ((the-pre .0 .0, formed-part (clausesIn (the-args .list .now)) _ (to-cs _ (triangles (the-args .n))) (rw (the-pre .1 .0 .size) (the-pre .1 .0 .formed)), omega (arith, the-pre .1 .0 .size, the-pre .1 .0 .most)), (laws.short-list (the-pre .0 .1), omega (arith, half, the-pre .0 .1 .words-room), the-pre .0 .1 .small))
 
-slice-relend-prefix-turns-tallied : tie.Need-slice-relend-prefix-turns-tallied
-slice-relend-prefix-turns-tallied c = search needs
+slice-relend-prefix-turns : tie.Need-slice-relend-prefix-turns
+slice-relend-prefix-turns c = search needs
 
-slice-aggregate-turns-tallied : tie.Need-slice-aggregate-turns-tallied
-slice-aggregate-turns-tallied c =
+slice-aggregate-turns : tie.Need-slice-aggregate-turns
+slice-aggregate-turns c =
     let the-tally = c .before .before .before .before .before .tally in
     sym (length-take-le _ _ (omega (arith, the-tally .ensures .1, the-tally .ensures .0 .room)))
 
-slice-relend-prefix-turns-tallied-2 : tie.Need-slice-relend-prefix-turns-tallied-2
-slice-relend-prefix-turns-tallied-2 c = search needs
+slice-relend-prefix-turns-2 : tie.Need-slice-relend-prefix-turns-2
+slice-relend-prefix-turns-2 c = search needs
 
-slice-aggregate-turns-tallied-2 : tie.Need-slice-aggregate-turns-tallied-2
-slice-aggregate-turns-tallied-2 c =
+slice-aggregate-turns-2 : tie.Need-slice-aggregate-turns-2
+slice-aggregate-turns-2 c =
     let c6 = c .before .before .before .before .before .before in
     let c23 = c6 .before .before .before .before .before .before .before .before .before .before .before .before .before .before .before .before .before in
     let the-args = c23 .args in
@@ -51,8 +51,8 @@ slice-aggregate-turns-tallied-2 c =
     let half = laws.few-clauses (the-args .list .now) (the-args .n) (the-pre .0 .0) (the-pre .1 .0) in
     sym (length-take-le _ _ (omega (arith, c6 .tally .ensures .1, half, the-pre .0 .1 .words-room, the-pre .0 .1 .same)))
 
-turns-tallied-requires : tie.Need-turns-tallied-requires
-turns-tallied-requires c κs =
+turns-requires : tie.Need-turns-requires
+turns-requires c κs =
     let c11 = c .before .before .before .before .before .before .before .before .before .before .before in
     let c16 = c11 .before .before .before .before .before in
     let c28 = c16 .before .before .before .before .before .before .before .before .before .before .before .before in
@@ -62,7 +62,7 @@ turns-tallied-requires c κs =
     let the-index = c16 .index in
     let half = laws.few-clauses (the-args .list .now) (the-args .n) (the-pre .0 .0) (the-pre .1 .0) in
     let kept = length-take-le (the-tally .result) (the-args .saved .now) (omega (arith, the-tally .ensures .1, half, the-pre .0 .1 .words-room, the-pre .0 .1 .same)) in
-    (laws.prepared (the-pre .0 .1) (the-pre .0 .0) (the-index .kept .1 .1 .0) (the-tally .result) (length-take-le _ _ (omega (arith, the-tally .ensures .1, the-tally .ensures .0 .room))) (omega (arith, the-tally .ensures .1, half, the-pre .0 .1 .words-room)) refl (the-index .ensures), ((laws.tallied-part (the-tally .ensures .0) (the-tally .ensures .1), kept ∙ sym (length-take-le _ _ (omega (arith, the-tally .ensures .1, the-tally .ensures .0 .room)))), the-pre .1))
+    (laws.prepared (the-pre .0 .1) (the-pre .0 .0) (the-index .kept .1 .1 .0) (the-tally .result) (length-take-le _ _ (omega (arith, the-tally .ensures .1, the-tally .ensures .0 .room))) (omega (arith, the-tally .ensures .1, half, the-pre .0 .1 .words-room)) refl (the-index .ensures), (((λ _. laws.tallied-part (the-tally .ensures .0) (the-tally .ensures .1)), kept ∙ sym (length-take-le _ _ (omega (arith, the-tally .ensures .1, the-tally .ensures .0 .room)))), the-pre .1))
 
 same-length : tie.Need-same-length
 same-length c = search needs
@@ -86,4 +86,4 @@ returns : tie.Need-returns
 returns c = search needs
 
 pub turns-indexed-spec : {M : Type 1} → statement M
-turns-indexed-spec = tie.close (tie.spec no-firsts-requires index-requires tally-requires slice-relend-prefix-turns-tallied slice-aggregate-turns-tallied slice-relend-prefix-turns-tallied-2 slice-aggregate-turns-tallied-2 turns-tallied-requires same-length same-length-2 same-length-3 same-length-4 same-length-5 same-length-6 returns)
+turns-indexed-spec = tie.close (tie.spec no-firsts-requires index-requires tally-requires slice-relend-prefix-turns slice-aggregate-turns slice-relend-prefix-turns-2 slice-aggregate-turns-2 turns-requires same-length same-length-2 same-length-3 same-length-4 same-length-5 same-length-6 returns)

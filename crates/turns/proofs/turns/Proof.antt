@@ -1,5 +1,5 @@
 -- `turns::turns` meets its contract. The loop's invariant: whatever end the turns lead to from here, with the trial held, they lead to from the start; the words are
--- those of the values before the last closing began, and saved. The measure is twice the guesses left and the guesses that stand. Assumes nothing.
+-- those of the values before the last closing began, and are saved where a guess stands. The measure is twice the guesses left and the guesses that stand. Assumes nothing.
 use borrow.Author.Needs.{needs}
 use Prim.Native.Nat.{suc, _+_, _-_, _*_, _≤_, _<_}
 use native.Mathlib.Omega.{arith}
@@ -21,7 +21,7 @@ use Rattle.turns.proofs.turns.Tie as tie
 abbrev Inv-turns : tie.InvT-turns
 Inv-turns list n table firsts clauses words₀ saved₀ noted₀ values₀ trail₀ joined₀ apart₀ budget start marks₀ at₀ count₀ depth₀ made₀ low₀ words saved noted values trail joined apart marks at count depth made low =
     laws.Turning (withTriangles list n) (length values₀) budget (notFalse values₀) values trail marks at count depth made low × Rows n values joined apart × Lags list clauses values trail at count words × wording.Marked marks depth at
-    × (length list ≤ length clauses → saved ≡ words) × (length words ≡ length words₀) × (length saved ≡ length words₀) × (length noted ≡ length noted₀)
+    × (length list ≤ length clauses → 0 < depth → saved ≡ words) × (length words ≡ length words₀) × (length saved ≡ length words₀) × (length noted ≡ length noted₀)
 
 abbrev μ-turns : tie.MeasureT-turns
 μ-turns list n table firsts clauses words₀ saved₀ noted₀ values₀ trail₀ joined₀ apart₀ budget start marks₀ at₀ count₀ depth₀ made₀ low₀ words saved noted values trail joined apart marks at count depth made low =
@@ -75,7 +75,7 @@ lengths c =
     let k = c .close .kept .1 .1 .1 .1 .1 in
     let s = c .close .ensures .0 .0 in
     let p = entry (head c) .pre .1 in
-    record { words = k .0 ∙ i .5; saved = i .6 ∙ sym (ap length (p .0 .1)); noted = k .1 .0 ∙ i .7; values = laws.after-size (i .0) s; trail = laws.after-long (i .0) s ∙ sym (p .1 .0 .long) }
+    record { words = k .0 ∙ i .5; saved = i .6 ∙ sym (p .0 .1); noted = k .1 .0 ∙ i .7; values = laws.after-size (i .0) s; trail = laws.after-long (i .0) s ∙ sym (p .1 .0 .long) }
 
 -- the guesses that stand are no more than the variables set
 depths : (c : tie.After-close Inv-turns μ-turns) → (head c .turns .depth ≤ c .close .result .count) × (c .close .result .count ≤ 780)
@@ -116,7 +116,7 @@ turns-holds c =
     let c9 = c .before .before .before .before .before .before .before .before .before in
     let p = c9 .pre .1 in
     let r = p .1 .0 in
-    (laws.turning _ _ r (c .places .ensures), p .1 .1 .1, wording.lags-first (c9 .args .clauses .now) (p .0 .0) (r .counted) (omega (arith, r .counted, r .size, r .most, r .long)), wording.marked-none, (λ _. p .0 .1), refl, ap length (p .0 .1), refl)
+    (laws.turning _ _ r (c .places .ensures), p .1 .1 .1, wording.lags-first (c9 .args .clauses .now) (p .0 .0) (r .counted) (omega (arith, r .counted, r .size, r .most, r .long)), wording.marked-none, (λ _ h. absurd (omega (arith, h))), refl, p .0 .1, refl)
 
 close-requires : tie.Need-close-requires Inv-turns μ-turns
 close-requires c κs =
@@ -172,7 +172,7 @@ retreat-requires c κs =
     let m = w .wide .ensures in
     let l = lengths q .words in
     let passed = wording.passed (a .list .now) (a .n) (i .0) (s .0) t d z m (i .3) in
-    let saved = wording.saved-on (a .list .now) (a .n) (i .0) (s .0) (a .clauses .now) (i .4) (i .2) in
+    let saved = wording.saved-on (a .list .now) (a .n) (i .0) (s .0) (a .clauses .now) (λ k. i .4 k (omega (arith, z))) (i .2) in
     ((p .0 .indexed, wording.prepared-sized l (p .0), i .6 ∙ sym l), ((passed, saved), (p .1 .1 .1 .0, laws.can-undo (i .0) (s .0) t d z m, s .1)))
 
 add-low : tie.Need-add-low Inv-turns μ-turns
@@ -204,7 +204,7 @@ turns-again c =
     let d = h .depth - 1 in
     let z = stands (w .before) in
     let m = w .wide .ensures in
-    (laws.turn-undo (i .0) s t d z m (r .ensures .0 .0), r .ensures .0 .1, r .ensures .1 .lags, record { before = laws.earlier-mark (i .0) s t d z m }, r .ensures .1 .kept, r .kept .1 .1 .1 .1 .1 .0 ∙ q .close .kept .1 .1 .1 .1 .1 .0 ∙ i .5, r .kept .1 .1 .1 .1 .1 .1 .0 ∙ i .6, lengths q .noted)
+    (laws.turn-undo (i .0) s t d z m (r .ensures .0 .0), r .ensures .0 .1, r .ensures .1 .lags, record { before = laws.earlier-mark (i .0) s t d z m }, (λ k _. r .ensures .1 .kept k), r .kept .1 .1 .1 .1 .1 .0 ∙ q .close .kept .1 .1 .1 .1 .1 .0 ∙ i .5, r .kept .1 .1 .1 .1 .1 .1 .0 ∙ i .6, lengths q .noted)
 
 due-at-requires : tie.Need-due-at-requires Inv-turns μ-turns
 due-at-requires c κs =
@@ -332,7 +332,7 @@ turns-again-2 c =
     let e = g .before .before .before .before .if1 .left in
     let f = forced c .force .ensures in
     let o = k .before .before .copy in
-    (laws.turn-guess (i .0) (s .0 .0) e (guess g .0) (guess g .1) refl f, f .assigned .rows, wording.lags-guess (a .list .now) (a .n) (i .0) (s .0 .0) (a .clauses .now) e (guess g .0) (s .1) refl f, wording.marked-guess (h .marks) (omega (arith, i .0 .marks, room g)), (λ _. o .ensures), lengths q .words, o .kept .1 .0 ∙ i .6, lengths q .noted)
+    (laws.turn-guess (i .0) (s .0 .0) e (guess g .0) (guess g .1) refl f, f .assigned .rows, wording.lags-guess (a .list .now) (a .n) (i .0) (s .0 .0) (a .clauses .now) e (guess g .0) (s .1) refl f, wording.marked-guess (h .marks) (omega (arith, i .0 .marks, room g)), (λ _ _. o .ensures), lengths q .words, o .kept .1 .0 ∙ i .6, lengths q .noted)
 
 pub turns-spec : {M : Type 1} → statement M
 turns-spec = tie.close (tie.spec Inv-turns μ-turns places-requires turns-holds close-requires same-length same-length-2 same-length-3 same-length-4 same-length-5 returns sub-depth mul-wide array-read-wide wide-requires retreat-requires add-low add-count turns-less turns-again due-at-requires enum-told same-length-6 same-length-7 same-length-8 same-length-9 same-length-10 returns-2 enum-told-2 walk-back-requires same-length-11 same-length-12 same-length-13 same-length-14 same-length-15 returns-3 enum-known-due copy-requires cast-marks mul-marks array-write-marks add-depth add-made mul-force cast-force force-requires add-low-2 turns-less-2 turns-again-2)

@@ -1,13 +1,13 @@
--- `linking::pop_over` meets its contract. The invariant: the rows hold tops and links only. Assumes nothing.
+-- `popping::pop_over` meets its contract. The invariant: the rows hold tops and links only. Assumes nothing.
 use mathlib.Core.Path.{_≡_, sym, ap, _∙_}
 use Prim.Native.Nat.{ℕ, _+_, _-_, _*_, _/_, _%_, _≤_}
 use native.Mathlib.Omega.{arith}
 use native.Mathlib.Nat.{mod-lt, div-add-mod'}
 use lib.ListN.{length}
 use borrow.Author.Needs.{needs}
 use Rattle.linking.proofs.Quickly.{PoppingOver, popping-first, pop-past, pop-on, return-small}
-use Rattle.linking.proofs.pop_over.Statement.{statement}
-use Rattle.linking.proofs.pop_over.Tie as tie
+use Rattle.popping.proofs.pop_over.Statement.{statement}
+use Rattle.popping.proofs.pop_over.Tie as tie
 
 -- the pair that y is
 below : (y n : ℕ) → y % (n + 1) ≤ n

@@ -1,9 +1,9 @@
--- `restore::retreat` meets its contract. Assumes nothing.
+-- `retreat::retreat` meets its contract. Assumes nothing.
 use borrow.Author.Needs.{needs}
 use native.Mathlib.Omega.{arith}
-use Rattle.restore.proofs.Retreating.{behind-undone}
-use Rattle.restore.proofs.retreat.Statement.{statement}
-use Rattle.restore.proofs.retreat.Tie as tie
+use Rattle.retreat.proofs.Retreating.{behind-undone}
+use Rattle.retreat.proofs.retreat.Statement.{statement}
+use Rattle.retreat.proofs.retreat.Tie as tie
 
 restore-requires : tie.Need-restore-requires
 restore-requires c κs =

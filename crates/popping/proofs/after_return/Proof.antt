@@ -1,9 +1,9 @@
--- `linking::after_return` meets its contract. Assumes nothing.
+-- `popping::after_return` meets its contract. Assumes nothing.
 use Prim.Native.Nat.{_+_, _*_}
 use native.Mathlib.Omega.{arith}
 use borrow.Author.Needs.{needs}
-use Rattle.linking.proofs.after_return.Statement.{statement}
-use Rattle.linking.proofs.after_return.Tie as tie
+use Rattle.popping.proofs.after_return.Statement.{statement}
+use Rattle.popping.proofs.after_return.Tie as tie
 
 mul-wide : tie.Need-mul-wide
 mul-wide c = search needs
