@@ -93,9 +93,9 @@ pub fn turns(
                 at,
                 r.count,
             );
-            low = undone + 1;
+            low = undone.variable + 1;
             at = mark;
-            count = at + 1;
+            count = undone.count;
             continue 'turns;
         }
         let due = due_at(values, low, made, budget);

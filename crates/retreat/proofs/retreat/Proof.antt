@@ -1,9 +1,15 @@
 -- `retreat::retreat` meets its contract. Assumes nothing.
 use borrow.Author.Needs.{needs}
 use native.Mathlib.Omega.{arith}
+use mathlib.Core.Path.{refl}
 use Rattle.retreat.proofs.Retreating.{behind-undone}
 use Rattle.retreat.proofs.retreat.Statement.{statement}
 use Rattle.retreat.proofs.retreat.Tie as tie
+
+add-set : tie.Need-add-set
+add-set c =
+    let passed = c .before .before .before .before .before .before .before .pre .1 .0 .0 in
+    omega (arith, passed .counted, passed .most)
 
 restore-requires : tie.Need-restore-requires
 restore-requires c κs =
@@ -33,7 +39,7 @@ returns c =
     let the-undo = c2 .undo in
     let the-pre = c22 .pre in
     let the-restore = c10 .restore in
-    (the-undo .ensures, record { lags = λ _. behind-undone (the-pre .1 .1 .1 .inside) (the-pre .1 .1 .1 .room) (the-undo .ensures .0) (the-restore .ensures .0); kept = λ _. the-restore .ensures .1 })
+    (the-undo .ensures, (refl, record { lags = λ _. behind-undone (the-pre .1 .1 .1 .inside) (the-pre .1 .1 .1 .room) (the-undo .ensures .0) (the-restore .ensures .0); kept = λ _. the-restore .ensures .1 }))
 
 undo-requires-2 : tie.Need-undo-requires-2
 undo-requires-2 c κs = c .before .before .before .before .before .before .before .before .before .before .before .pre .1 .1
@@ -46,7 +52,7 @@ returns-2 c =
     let c2 = c .before .before in
     let c6 = c2 .before .before .before .before in
     let the-if1 = c6 .if1 in
-    (c2 .undo2 .ensures, record { lags = λ h. absurd (omega (arith, h, the-if1 .left)); kept = λ h. absurd (omega (arith, h, the-if1 .left)) })
+    (c2 .undo2 .ensures, (refl, record { lags = λ h. absurd (omega (arith, h, the-if1 .left)); kept = λ h. absurd (omega (arith, h, the-if1 .left)) }))
 
 pub retreat-spec : {M : Type 1} → statement M
-retreat-spec = tie.close (tie.spec restore-requires undo-requires same-length same-length-2 same-length-3 returns undo-requires-2 same-length-4 returns-2)
+retreat-spec = tie.close (tie.spec add-set restore-requires undo-requires same-length same-length-2 same-length-3 returns undo-requires-2 same-length-4 returns-2)

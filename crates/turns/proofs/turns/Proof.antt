@@ -41,8 +41,8 @@ closed c = c .before .before .before .before .before .before .before .before
 abbrev undoing : tie.After-retreat-arg6 Inv-turns μ-turns → tie.After-wide Inv-turns μ-turns
 undoing c = c .before .before .before .before .before .before
 
-abbrev undone : tie.After-slice-known12 Inv-turns μ-turns → tie.After-retreat Inv-turns μ-turns
-undone c = c .before .before .before .before .before .before
+abbrev undone : tie.After-struct-known Inv-turns μ-turns → tie.After-retreat Inv-turns μ-turns
+undone c = c .before .before .before .before .before .before .before
 
 abbrev rested : tie.After-due-at Inv-turns μ-turns → tie.After-close Inv-turns μ-turns
 rested c = closed (c .before .before .before)
@@ -183,12 +183,6 @@ add-low c =
     let i = head q .turns .inv .0 in
     omega (arith, laws.inside i (q .close .ensures .0 .0) (w .before .before .if1 .taken) _ (stands (w .before)) (w .wide .ensures) (r .retreat .ensures .0 .0), i .most)
 
-add-count : tie.Need-add-count Inv-turns μ-turns
-add-count c =
-    let w = undoing (undone c .before) in
-    let q = closed (w .before .before .before) in
-    omega (arith, laws.place (head q .turns .inv .0) (q .close .ensures .0 .0) (w .before .before .if1 .taken) _ (stands (w .before)) (w .wide .ensures), depths q)
-
 turns-less : tie.Need-turns-less Inv-turns μ-turns
 turns-less c = search needs
 
@@ -204,7 +198,7 @@ turns-again c =
     let d = h .depth - 1 in
     let z = stands (w .before) in
     let m = w .wide .ensures in
-    (laws.turn-undo (i .0) s t d z m (r .ensures .0 .0), r .ensures .0 .1, r .ensures .1 .lags, record { before = laws.earlier-mark (i .0) s t d z m }, (λ k _. r .ensures .1 .kept k), r .kept .1 .1 .1 .1 .1 .0 ∙ q .close .kept .1 .1 .1 .1 .1 .0 ∙ i .5, r .kept .1 .1 .1 .1 .1 .1 .0 ∙ i .6, lengths q .noted)
+    rw (r .ensures .1 .0) (laws.turn-undo (i .0) s t d z m (r .ensures .0 .0), r .ensures .0 .1, r .ensures .1 .1 .lags, record { before = laws.earlier-mark (i .0) s t d z m }, (λ k _. r .ensures .1 .1 .kept k), r .kept .1 .1 .1 .1 .1 .0 ∙ q .close .kept .1 .1 .1 .1 .1 .0 ∙ i .5, r .kept .1 .1 .1 .1 .1 .1 .0 ∙ i .6, lengths q .noted)
 
 due-at-requires : tie.Need-due-at-requires Inv-turns μ-turns
 due-at-requires c κs =
@@ -335,4 +329,4 @@ turns-again-2 c =
     (laws.turn-guess (i .0) (s .0 .0) e (guess g .0) (guess g .1) refl f, f .assigned .rows, wording.lags-guess (a .list .now) (a .n) (i .0) (s .0 .0) (a .clauses .now) e (guess g .0) (s .1) refl f, wording.marked-guess (h .marks) (omega (arith, i .0 .marks, room g)), (λ _ _. o .ensures), lengths q .words, o .kept .1 .0 ∙ i .6, lengths q .noted)
 
 pub turns-spec : {M : Type 1} → statement M
-turns-spec = tie.close (tie.spec Inv-turns μ-turns places-requires turns-holds close-requires same-length same-length-2 same-length-3 same-length-4 same-length-5 returns sub-depth mul-wide array-read-wide wide-requires retreat-requires add-low add-count turns-less turns-again due-at-requires enum-told same-length-6 same-length-7 same-length-8 same-length-9 same-length-10 returns-2 enum-told-2 walk-back-requires same-length-11 same-length-12 same-length-13 same-length-14 same-length-15 returns-3 enum-known-due copy-requires cast-marks mul-marks array-write-marks add-depth add-made mul-force cast-force force-requires add-low-2 turns-less-2 turns-again-2)
+turns-spec = tie.close (tie.spec Inv-turns μ-turns places-requires turns-holds close-requires same-length same-length-2 same-length-3 same-length-4 same-length-5 returns sub-depth mul-wide array-read-wide wide-requires retreat-requires add-low turns-less turns-again due-at-requires enum-told same-length-6 same-length-7 same-length-8 same-length-9 same-length-10 returns-2 enum-told-2 walk-back-requires same-length-11 same-length-12 same-length-13 same-length-14 same-length-15 returns-3 enum-known-due copy-requires cast-marks mul-marks array-write-marks add-depth add-made mul-force cast-force force-requires add-low-2 turns-less-2 turns-again-2)
