@@ -32,63 +32,38 @@ add-at c = omega (arith, laws.at-inside (c .before .before .queue .inv .0) (c .b
 
 conclude-requires : tie.Need-conclude-requires Inv-queue μ-queue
 conclude-requires c κs =
-    let c5 = c .before .before .before .before .before in
-    let c6 = c5 .before in
-    let c10 = c6 .before .before .before .before in
-    let the-queue = c6 .queue in
-    let q = laws.next-queued (the-queue .inv .0) (c5 .queue-test .taken) in ((laws.queue-ready (the-queue .inv .0), the-queue .inv .1), (c10 .pre .1 .0, q))
+    let t = c .before .before .before .before .before in
+    let i = t .before .queue .inv in
+    ((laws.queue-ready (i .0), i .1), (t .before .before .before .before .before .pre .1 .0, laws.next-queued (i .0) (t .queue-test .taken)))
+
+-- the turn in which a conclusion is drawn
+abbrev turn : tie.After-conclude Inv-queue μ-queue → tie.In-queue Inv-queue μ-queue
+turn c = c .before .before .before .before .before .before
 
 same-length : tie.Need-same-length Inv-queue μ-queue
 same-length c =
-    let c5 = c .before .before .before .before .before in
-    let c11 = c5 .before .before .before .before .before .before in
-    let c12 = c11 .before in
-    let j = c12 .queue .inv .0 in
-    let h = c11 .queue-test .taken in
-    let k = c5 .conclude .ensures .0 in
-    laws.seen-values j h (laws.attended-seen _ k)
+    let d = c .before .before .before .before .before in
+    laws.seen-values (turn d .before .queue .inv .0) (turn d .queue-test .taken) (laws.attended-seen _ (d .conclude .ensures .0))
 
 same-length-2 : tie.Need-same-length-2 Inv-queue μ-queue
 same-length-2 c =
-    let c5 = c .before .before .before .before .before in
-    let c11 = c5 .before .before .before .before .before .before in
-    let c12 = c11 .before in
-    let j = c12 .queue .inv .0 in
-    let h = c11 .queue-test .taken in
-    let k = c5 .conclude .ensures .0 in
-    laws.seen-trail j h (laws.attended-seen _ k)
+    let d = c .before .before .before .before .before in
+    laws.seen-trail (turn d .before .queue .inv .0) (turn d .queue-test .taken) (laws.attended-seen _ (d .conclude .ensures .0))
 
 returns : tie.Need-returns Inv-queue μ-queue
 returns c =
-    let c5 = c .before .before .before .before .before in
-    let c11 = c5 .before .before .before .before .before .before in
-    let c12 = c11 .before in
-    let the-conclude = c5 .conclude in
-    let j = c12 .queue .inv .0 in
-    let h = c11 .queue-test .taken in
-    let k = the-conclude .ensures .0 in
-    (laws.queue-broken j h (laws.attended-seen _ k) (c .if1 .taken), the-conclude .ensures .1)
+    let d = c .before .before .before .before .before in
+    (laws.queue-broken (turn d .before .queue .inv .0) (turn d .queue-test .taken) (laws.attended-seen _ (d .conclude .ensures .0)) (c .if1 .taken), d .conclude .ensures .1)
 
 queue-less : tie.Need-queue-less Inv-queue μ-queue
 queue-less c =
-    let c5 = c .before .before .before .before .before in
-    let c11 = c5 .before .before .before .before .before .before in
-    let c12 = c11 .before in
-    let j = c12 .queue .inv .0 in
-    let h = c11 .queue-test .taken in
-    let k = c5 .conclude .ensures .0 in
-    laws.queue-less j h (laws.attended-seen _ k)
+    let d = c .before .before .before .before .before in
+    laws.queue-less (turn d .before .queue .inv .0) (turn d .queue-test .taken) (laws.attended-seen _ (d .conclude .ensures .0))
 
 queue-again : tie.Need-queue-again Inv-queue μ-queue
 queue-again c =
-    let c5 = c .before .before .before .before .before in
-    let c11 = c5 .before .before .before .before .before .before in
-    let c12 = c11 .before in
-    let the-conclude = c5 .conclude in
-    let j = c12 .queue .inv .0 in
-    let h = c11 .queue-test .taken in
-    let k = the-conclude .ensures .0 in
-    (laws.queue-on j h (laws.attended-seen _ k) (c .if1 .left), the-conclude .ensures .1)
+    let d = c .before .before .before .before .before in
+    (laws.queue-on (turn d .before .queue .inv .0) (turn d .queue-test .taken) (laws.attended-seen _ (d .conclude .ensures .0)) (c .if1 .left), d .conclude .ensures .1)
 
 same-length-3 : tie.Need-same-length-3 Inv-queue μ-queue
 same-length-3 c = laws.queue-values (c .before .queue .inv .0)

@@ -3,149 +3,107 @@
 use borrow.Author.Needs.{needs}
 use native.Mathlib.Omega.{arith}
 use mathlib.Core.List.{List, _++_}
-use Prim.Native.Nat.{ℕ}
+use Prim.Native.Nat.{ℕ, _≤_}
 use borrow.Author.Tests.{not-true, not-false}
 use mathlib.Core.Bool.{true, false}
-use mathlib.Core.Path.{sym, ap, _∙_}
+use mathlib.Core.Path.{_≡_, sym, ap, _∙_}
+use Rattle.solutions.specs.Answers.{listFits}
 use Rattle.solutions.proofs.Answers as answers
 use Rattle.engine.proofs.Prefixes as prefixes
 use Rattle.search.proofs.Answering as laws
 use Rattle.lists.specs.Lists.{over}
-use lib.ListN.{take, drop}
+use lib.ListN.{length, take, drop}
 use Rattle.lists.proofs.Copying.{copied}
 use Rattle.search.proofs.search_at.Statement.{statement}
 use Rattle.search.proofs.search_at.Tie as tie
 
+-- ---- places of the code, from later ones: the entry, where the variables are few, where the list fits, and where values are lent to the search
+
+abbrev start : tie.Else1 → tie.Start
+start c = c .before .before .before
+
+abbrev few : tie.Else2 → tie.Else1
+few c = c .before .before
+
+abbrev fitting : tie.After-none-set → tie.Else2
+fitting c = c .before .before
+
+abbrev lent : tie.After-solve → tie.After-none-set
+lent c = c .before .before
+
+abbrev entry : tie.After-none-set → tie.Start
+entry c = start (few (fitting c))
+
+-- ---- what holds there
+
+room : (c : tie.Else1) → start c .args .variables ≤ 780
+room c = laws.room (c .if1 .left) (start c .pre)
+
+fits : (c : tie.Else2) → let a = start (few c) .args in listFits (a .most) (a .list .now) (a .variables) ≡ true
+fits c = answers.list-as _ _ _ (few c .if1 .left) true (sym (c .before .list-fits .ensures) ∙ not-false _ (c .if2 .left))
+
+size : (c : tie.After-none-set) → let n = entry c .args .variables in length (take n (c .none-set .result)) ≡ n
+size c = prefixes.prefix-length _ (room (few (fitting c))) (c .none-set .ensures)
+
+-- the values that come back, in front of the rest of the array
+abbrev values : tie.After-solve → List ℕ
+values c = c .solve .last .1 .1 .0
+
+abbrev whole : tie.After-solve → List ℕ
+whole c = values c ++ drop (entry (lent c) .args .variables) (lent c .none-set .result)
+
+back : (c : tie.After-solve) → let n = entry (lent c) .args .variables in (n ≤ length (whole c)) × (take n (whole c) ≡ values c) × (length (take n (whole c)) ≡ n)
+back c =
+    let n = entry (lent c) .args .variables in
+    let h = room (few (fitting (lent c))) in
+    let e = lent c .none-set .ensures in
+    let k = c .solve .kept .1 .1 .0 in
+    (prefixes.prefix-room n h e (values c) k, prefixes.prefix-values n h e (values c) k, prefixes.prefix-size n h e (values c) k)
+
+-- ---- the needs
+
 returns : tie.Need-returns
-returns c =
-    let the-args = c .before .before .before .args in
-    let l = the-args .list .now in
-    let n = the-args .variables in
-    let k = the-args .most in
-    let b = the-args .budget in
-    let a = the-args .answer .now in
-    answers.promised k l n b a (answers.refuse-list k l n b a (answers.list-many k n l (c .if1 .taken)))
+returns c = answers.promised _ _ _ _ _ (answers.refuse-list _ _ _ _ _ (answers.list-many _ _ _ (c .if1 .taken)))
 
 list-fits-requires : tie.Need-list-fits-requires
-list-fits-requires c κs = laws.room (c .if1 .left) (c .before .before .before .pre)
+list-fits-requires c κs = room c
 
 returns-2 : tie.Need-returns-2
 returns-2 c =
-    let c1 = c .before in
-    let c2 = c1 .before in
-    let c5 = c2 .before .before .before in
-    let the-args = c5 .args in
-    let l = the-args .list .now in
-    let n = the-args .variables in
-    let k = the-args .most in
-    let b = the-args .budget in
-    let a = the-args .answer .now in
-    let most = c2 .if1 .left in
-    let room = laws.room most (c5 .pre) in
-    let unfit = answers.list-as k n l most false (sym (c1 .list-fits .ensures) ∙ not-true _ (c .if2 .taken)) in
-    answers.promised k l n b a (answers.refuse-list k l n b a unfit)
+    let unfit = answers.list-as _ _ _ (c .before .before .if1 .left) false (sym (c .before .list-fits .ensures) ∙ not-true _ (c .if2 .taken)) in
+    answers.promised _ _ _ _ _ (answers.refuse-list _ _ _ _ _ unfit)
 
 returns-3 : tie.Need-returns-3
-returns-3 c =
-    let c1 = c .before in
-    let c2 = c1 .before in
-    let c3 = c2 .before in
-    let c6 = c3 .before .before .before in
-    let the-args = c6 .args in
-    let l = the-args .list .now in
-    let n = the-args .variables in
-    let k = the-args .most in
-    let b = the-args .budget in
-    let a = the-args .answer .now in
-    let most = c3 .if1 .left in
-    let room = laws.room most (c6 .pre) in
-    let fits = answers.list-as k n l most true (sym (c2 .list-fits .ensures) ∙ not-false _ (c1 .if2 .left)) in
-    answers.promised k l n b a (answers.refuse-short k l n b a fits (c .if3 .taken))
+returns-3 c = answers.promised _ _ _ _ _ (answers.refuse-short _ _ _ _ _ (fits (c .before)) (c .if3 .taken))
 
 none-set-requires : tie.Need-none-set-requires
 none-set-requires c κs = search needs
 
 array-borrow-prefix-values : tie.Need-array-borrow-prefix-values
-array-borrow-prefix-values c = let h = laws.room (c .before .before .before .before .if1 .left) (c .before .before .before .before .before .before .before .pre) in search needs
+array-borrow-prefix-values c = let h = room (few (fitting c)) in search needs
 
 slice-aggregate-solve : tie.Need-slice-aggregate-solve
-slice-aggregate-solve c =
-    let c1 = c .before in
-    let c5 = c1 .before .before .before .before in
-    let c8 = c5 .before .before .before in
-    sym (prefixes.prefix-length (c8 .args .variables) (laws.room (c5 .if1 .left) (c8 .pre)) (c1 .none-set .ensures))
+slice-aggregate-solve c = sym (size (c .before))
 
 solve-requires : tie.Need-solve-requires
 solve-requires c κs =
-    let c1 = c .before in
-    let c3 = c1 .before .before in
-    let c4 = c3 .before in
-    let c5 = c4 .before in
-    let c8 = c5 .before .before .before in
-    let the-args = c8 .args in
-    let l = the-args .list .now in
-    let n = the-args .variables in
-    let k = the-args .most in
-    let most = c5 .if1 .left in
-    let room = laws.room most (c8 .pre) in
-    let fits = answers.list-as k n l most true (sym (c4 .list-fits .ensures) ∙ not-false _ (c3 .if2 .left)) in
-    let f = answers.list-formed k n l fits in
-    prefixes.fresh n room (c1 .none-set .ensures) (f .1) (f .2)
+    let q = c .before in
+    let f = answers.list-formed _ _ _ (fits (fitting q)) in
+    prefixes.fresh _ (room (few (fitting q))) (q .none-set .ensures) (f .1) (f .2)
 
 enum-known-ending : tie.Need-enum-known-ending
 enum-known-ending c = search needs
 
 array-share-prefix-values : tie.Need-array-share-prefix-values
-array-share-prefix-values c =
-    let c4 = c .before .before .before .before in
-    let c6 = c4 .before .before in
-    let c10 = c6 .before .before .before .before in
-    let c13 = c10 .before .before .before in
-    let the-solve = c4 .solve in
-    let the-args = c13 .args in
-    let n = the-args .variables in
-    let k = the-args .most in
-    let most = c10 .if1 .left in
-    let room = laws.room most (c13 .pre) in
-    let none = c6 .none-set .ensures in
-    let v = the-solve .last .1 .1 .0 in
-    let long = the-solve .kept .1 .1 .0 in
-    prefixes.prefix-room n room none v long
+array-share-prefix-values c = back (c .before .before .before .before) .0
 
 slice-aggregate-copy : tie.Need-slice-aggregate-copy
-slice-aggregate-copy c =
-    let c5 = c .before .before .before .before .before in
-    let c7 = c5 .before .before in
-    let c11 = c7 .before .before .before .before in
-    let c14 = c11 .before .before .before in
-    let the-solve = c5 .solve in
-    let the-args = c14 .args in
-    let n = the-args .variables in
-    let k = the-args .most in
-    let most = c11 .if1 .left in
-    let room = laws.room most (c14 .pre) in
-    let none = c7 .none-set .ensures in
-    let v = the-solve .last .1 .1 .0 in
-    let long = the-solve .kept .1 .1 .0 in
-    sym (prefixes.prefix-size n room none v long)
+slice-aggregate-copy c = sym (back (c .before .before .before .before .before) .2)
 
 copy-requires : tie.Need-copy-requires
 copy-requires c κs =
-    let c6 = c .before .before .before .before .before .before in
-    let c8 = c6 .before .before in
-    let c9 = c8 .before in
-    let c12 = c9 .before .before .before in
-    let c15 = c12 .before .before .before in
-    let the-solve = c6 .solve in
-    let the-args = c15 .args in
-    let n = the-args .variables in
-    let k = the-args .most in
-    let most = c12 .if1 .left in
-    let room = laws.room most (c15 .pre) in
-    let none = c8 .none-set .ensures in
-    let v = the-solve .last .1 .1 .0 in
-    let long = the-solve .kept .1 .1 .0 in
-    omega (arith, prefixes.prefix-size n room none v long, c9 .if3 .left)
+    let s = c .before .before .before .before .before .before in
+    omega (arith, back s .2, lent s .before .if3 .left)
 
 enum-told : tie.Need-enum-told
 enum-told c = search needs
@@ -158,83 +116,28 @@ same-length c = search needs
 
 returns-4 : tie.Need-returns-4
 returns-4 c =
-    let c2 = c .before .before in
-    let c6 = c2 .before .before .before .before in
-    let c9 = c6 .before .before .before in
-    let c11 = c9 .before .before in
-    let c12 = c11 .before in
-    let c13 = c12 .before in
-    let c14 = c13 .before in
-    let c15 = c14 .before in
-    let c18 = c15 .before .before .before in
-    let the-solve = c9 .solve in
-    let the-none-set = c11 .none-set in
-    let the-args = c18 .args in
-    let l = the-args .list .now in
-    let n = the-args .variables in
-    let k = the-args .most in
-    let b = the-args .budget in
-    let a = the-args .answer .now in
-    let most = c15 .if1 .left in
-    let room = laws.room most (c18 .pre) in
-    let fits = answers.list-as k n l most true (sym (c14 .list-fits .ensures) ∙ not-false _ (c13 .if2 .left)) in
-    let none = the-none-set .ensures in
-    let v = the-solve .last .1 .1 .0 in
-    let long = the-solve .kept .1 .1 .0 in
-    let size = prefixes.prefix-length n room none in
-    let found = laws.is-found l n b (the-solve .result .ending) v (the-solve .result .ceiling) size (the-solve .ensures) (c6 .ending .given .1) in
-    let written = copied (take n (the-solve .last .1 .1 .0 ++ drop n (the-none-set .result))) a (c2 .copy .ensures .1) ∙ ap (λ (u : List ℕ). over u a) (prefixes.prefix-values n room none v long) in
-    answers.promised k l n b a (answers.answer-found k l n b a fits (c12 .if3 .left) found written)
+    let d = c .before .before in
+    let e = d .before .before .before .before in
+    let s = e .before .before .before in
+    let q = lent s in
+    let a = entry q .args .answer .now in
+    let found = laws.is-found _ _ _ _ _ _ (size q) (s .solve .ensures) (e .ending .given .1) in
+    let written = copied (take (entry q .args .variables) (whole s)) a (d .copy .ensures .1) ∙ ap (λ (u : List ℕ). over u a) (back s .1) in
+    answers.promised _ _ _ _ _ (answers.answer-found _ _ _ _ _ (fits (fitting q)) (q .before .if3 .left) found written)
 
 returns-5 : tie.Need-returns-5
 returns-5 c =
-    let c3 = c .before .before .before in
-    let c5 = c3 .before .before in
-    let c6 = c5 .before in
-    let c7 = c6 .before in
-    let c8 = c7 .before in
-    let c9 = c8 .before in
-    let c12 = c9 .before .before .before in
-    let the-solve = c3 .solve in
-    let the-args = c12 .args in
-    let l = the-args .list .now in
-    let n = the-args .variables in
-    let k = the-args .most in
-    let b = the-args .budget in
-    let a = the-args .answer .now in
-    let most = c9 .if1 .left in
-    let room = laws.room most (c12 .pre) in
-    let fits = answers.list-as k n l most true (sym (c8 .list-fits .ensures) ∙ not-false _ (c7 .if2 .left)) in
-    let none = c5 .none-set .ensures in
-    let v = the-solve .last .1 .1 .0 in
-    let size = prefixes.prefix-length n room none in
-    let absent = laws.is-absent l n b (the-solve .result .ending) v (the-solve .result .ceiling) size (the-solve .ensures) (c .enum-told .given .1) in
-    answers.promised k l n b a (answers.answer-absent k l n b a fits (c6 .if3 .left) absent)
+    let s = c .before .before .before in
+    let q = lent s in
+    let absent = laws.is-absent _ _ _ _ _ _ (size q) (s .solve .ensures) (c .enum-told .given .1) in
+    answers.promised _ _ _ _ _ (answers.answer-absent _ _ _ _ _ (fits (fitting q)) (q .before .if3 .left) absent)
 
 returns-6 : tie.Need-returns-6
 returns-6 c =
-    let c3 = c .before .before .before in
-    let c5 = c3 .before .before in
-    let c6 = c5 .before in
-    let c7 = c6 .before in
-    let c8 = c7 .before in
-    let c9 = c8 .before in
-    let c12 = c9 .before .before .before in
-    let the-solve = c3 .solve in
-    let the-args = c12 .args in
-    let l = the-args .list .now in
-    let n = the-args .variables in
-    let k = the-args .most in
-    let b = the-args .budget in
-    let a = the-args .answer .now in
-    let most = c9 .if1 .left in
-    let room = laws.room most (c12 .pre) in
-    let fits = answers.list-as k n l most true (sym (c8 .list-fits .ensures) ∙ not-false _ (c7 .if2 .left)) in
-    let none = c5 .none-set .ensures in
-    let v = the-solve .last .1 .1 .0 in
-    let size = prefixes.prefix-length n room none in
-    let spent = laws.is-spent l n b (the-solve .result .ending) v (the-solve .result .ceiling) size (the-solve .ensures) (c .enum-told2 .given .1) in
-    answers.promised k l n b a (answers.answer-spent k l n b a fits (c6 .if3 .left) spent)
+    let s = c .before .before .before in
+    let q = lent s in
+    let spent = laws.is-spent _ _ _ _ _ _ (size q) (s .solve .ensures) (c .enum-told2 .given .1) in
+    answers.promised _ _ _ _ _ (answers.answer-spent _ _ _ _ _ (fits (fitting q)) (q .before .if3 .left) spent)
 
 pub search-at-spec : {M : Type 1} → statement M
 search-at-spec =
