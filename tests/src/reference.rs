@@ -405,29 +405,57 @@ fn value(values: &[Option<bool>], l: u16) -> Option<bool> {
     values[(l / 2) as usize].map(|x| x == (l % 2 == 0))
 }
 
-/// Sets what clauses force, in scans of the list until one sets nothing; whether no clause was met with every literal false. The choice among several
-/// clauses changes neither answer nor count.
-fn settles(list: &[Vec<u16>], values: &mut [Option<bool>]) -> bool {
+/// The literal that a clause forces: no literal is true, and this one alone is unset.
+fn forces(values: &[Option<bool>], clause: &[u16]) -> Option<u16> {
+    if clause.iter().any(|&l| value(values, l) == Some(true)) {
+        return None;
+    }
+    let mut open = clause.iter().copied().filter(|&l| value(values, l).is_none());
+    let first = open.next();
+    if open.next().is_none() { first } else { None }
+}
+
+/// (a) and (b), one step after the other; whether (a) did not apply.
+fn stepped(list: &[Vec<u16>], values: &mut [Option<bool>]) -> bool {
+    loop {
+        if list.iter().any(|c| c.iter().all(|&l| value(values, l) == Some(false))) {
+            return false;
+        }
+        match list.iter().find_map(|c| forces(values, c)) {
+            None => return true,
+            Some(l) => values[(l / 2) as usize] = Some(l % 2 == 0),
+        }
+    }
+}
+
+/// The same by scans of the list, until one sets nothing.
+fn scanned(list: &[Vec<u16>], values: &mut [Option<bool>]) -> bool {
     loop {
         let mut forced = false;
         for c in list {
-            if c.iter().any(|&l| value(values, l) == Some(true)) {
-                continue;
+            if c.iter().all(|&l| value(values, l) == Some(false)) {
+                return false;
             }
-            let mut open = c.iter().filter(|&&l| value(values, l).is_none());
-            match (open.next(), open.next()) {
-                (None, _) => return false,
-                (Some(&l), None) => {
-                    values[(l / 2) as usize] = Some(l % 2 == 0);
-                    forced = true;
-                }
-                _ => {}
+            if let Some(l) = forces(values, c) {
+                values[(l / 2) as usize] = Some(l % 2 == 0);
+                forced = true;
             }
         }
         if !forced {
             return true;
         }
     }
+}
+
+/// (a) and (b) until neither applies, or (a) does. "The choice among several clauses changes neither answer nor count": so by scans, which short lists are seen to bear out.
+fn settles(list: &[Vec<u16>], values: &mut [Option<bool>]) -> bool {
+    let mut before = values.to_vec();
+    let settled = scanned(list, values);
+    if list.len() <= 500 {
+        assert_eq!(settled, stepped(list, &mut before), "scans and steps end alike");
+        assert!(!settled || before == values, "scans and steps set the same");
+    }
+    settled
 }
 
 /// The search, (a) to (e), with a copy of the values at each guess.
