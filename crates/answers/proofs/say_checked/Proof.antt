@@ -1,9 +1,8 @@
 -- `answers::say_checked` meets its contract: its values are stored, a refusal has none. Assumes nothing.
 use borrow.Author.Needs.{needs}
-use mathlib.Core.Path.{sym, ap, _∙_}
+use mathlib.Core.Path.{refl}
 use Rattle.relations.specs.Check.{checkedNumber, checkedValues}
-use Rattle.stored.specs.Storing.{stored}
-use Rattle.stored.proofs.Storing.{stored-none}
+use Rattle.answers.proofs.Saying.{said, refused}
 use Rattle.answers.proofs.say_checked.Statement.{statement}
 use Rattle.answers.proofs.say_checked.Tie as tie
 
@@ -28,19 +27,12 @@ same-length c = search needs
 returns : tie.Need-returns
 unfolding checkedNumber checkedValues
 returns c =
-    let c2 = c .before .before in
-    let c6 = c2 .before .before .before .before in
-    let c9 = c6 .before .before .before in
-    let f = c6 .checked .given .1 in
-    let v = c9 .args .values .now in
-    (sym (ap checkedNumber f), c2 .store .ensures ∙ ap (λ vs. stored vs v) (sym (ap checkedValues f)))
+    let d = c .before .before in
+    said checkedNumber checkedValues (d .before .before .before .before .checked .given .1) _ (d .store .ensures)
 
 returns-2 : tie.Need-returns-2
 unfolding checkedNumber checkedValues
-returns-2 c =
-    let f = c .before .checked2 .given .1 in
-    let v = c .before .before .before .before .args .values .now in
-    (sym (ap checkedNumber f), sym (stored-none v) ∙ ap (λ vs. stored vs v) (sym (ap checkedValues f)))
+returns-2 c = refused checkedNumber checkedValues (c .before .checked2 .given .1) _ refl
 
 pub say-checked-spec : {M : Type 1} → statement M
 say-checked-spec =

@@ -1,9 +1,8 @@
 -- `answers::say_fitting` meets its contract: one value is stored, a refusal has none. Assumes nothing.
 use borrow.Author.Needs.{needs}
-use mathlib.Core.Path.{sym, ap, _∙_}
+use mathlib.Core.Path.{refl}
 use Rattle.fitting.specs.Fit.{fittingNumber, fittingValues}
-use Rattle.stored.specs.Storing.{stored}
-use Rattle.stored.proofs.Storing.{stored-none}
+use Rattle.answers.proofs.Saying.{said, refused}
 use Rattle.answers.proofs.say_fitting.Statement.{statement}
 use Rattle.answers.proofs.say_fitting.Tie as tie
 
@@ -37,12 +36,8 @@ same-length c = search needs
 returns : tie.Need-returns
 unfolding fittingNumber fittingValues
 returns c =
-    let c2 = c .before .before in
-    let c5 = c2 .before .before .before in
-    let c8 = c5 .before .before .before in
-    let f = c5 .enum-told .given .1 in
-    let v = c8 .args .values .now in
-    (sym (ap fittingNumber f), c2 .store .ensures ∙ ap (λ vs. stored vs v) (sym (ap fittingValues f)))
+    let d = c .before .before in
+    said fittingNumber fittingValues (d .before .before .before .enum-told .given .1) _ (d .store .ensures)
 
 same-length-2 : tie.Need-same-length-2
 same-length-2 c = search needs
@@ -50,19 +45,12 @@ same-length-2 c = search needs
 returns-2 : tie.Need-returns-2
 unfolding fittingNumber fittingValues
 returns-2 c =
-    let c2 = c .before .before in
-    let c5 = c2 .before .before .before in
-    let c8 = c5 .before .before .before in
-    let f = c5 .enum-told2 .given .1 in
-    let v = c8 .args .values .now in
-    (sym (ap fittingNumber f), c2 .store2 .ensures ∙ ap (λ vs. stored vs v) (sym (ap fittingValues f)))
+    let d = c .before .before in
+    said fittingNumber fittingValues (d .before .before .before .enum-told2 .given .1) _ (d .store2 .ensures)
 
 returns-3 : tie.Need-returns-3
 unfolding fittingNumber fittingValues
-returns-3 c =
-    let f = c .before .fitting .given .1 in
-    let v = c .before .before .before .before .args .values .now in
-    (sym (ap fittingNumber f), sym (stored-none v) ∙ ap (λ vs. stored vs v) (sym (ap fittingValues f)))
+returns-3 c = refused fittingNumber fittingValues (c .before .fitting .given .1) _ refl
 
 pub say-fitting-spec : {M : Type 1} → statement M
 say-fitting-spec =

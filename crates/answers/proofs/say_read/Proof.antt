@@ -1,9 +1,8 @@
 -- `answers::say_read` meets its contract: its values are stored, a refusal has none. Assumes nothing.
 use borrow.Author.Needs.{needs}
-use mathlib.Core.Path.{sym, ap, _∙_}
+use mathlib.Core.Path.{refl}
 use Rattle.scripts.specs.Script.{readNumberOf, readValues}
-use Rattle.stored.specs.Storing.{stored}
-use Rattle.stored.proofs.Storing.{stored-none}
+use Rattle.answers.proofs.Saying.{said, refused}
 use Rattle.answers.proofs.say_read.Statement.{statement}
 use Rattle.answers.proofs.say_read.Tie as tie
 
@@ -31,20 +30,12 @@ same-length c = search needs
 returns : tie.Need-returns
 unfolding readNumberOf readValues
 returns c =
-    let c2 = c .before .before in
-    let c5 = c2 .before .before .before in
-    let c7 = c5 .before .before in
-    let c10 = c7 .before .before .before in
-    let f = c7 .read .given .1 in
-    let v = c10 .args .values .now in
-    (sym (ap readNumberOf f), (rw (c5 .yes-value .ensures) at (c2 .store .ensures)) ∙ ap (λ vs. stored vs v) (sym (ap readValues f)))
+    let d = c .before .before in
+    said readNumberOf readValues (d .before .before .before .before .before .read .given .1) _ (rw (d .before .before .before .yes-value .ensures) at (d .store .ensures))
 
 returns-2 : tie.Need-returns-2
 unfolding readNumberOf readValues
-returns-2 c =
-    let f = c .before .read2 .given .1 in
-    let v = c .before .before .before .before .args .values .now in
-    (sym (ap readNumberOf f), sym (stored-none v) ∙ ap (λ vs. stored vs v) (sym (ap readValues f)))
+returns-2 c = refused readNumberOf readValues (c .before .read2 .given .1) _ refl
 
 pub say-read-spec : {M : Type 1} → statement M
 say-read-spec =

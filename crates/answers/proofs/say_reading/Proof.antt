@@ -1,9 +1,8 @@
 -- `answers::say_reading` meets its contract: its values are stored, a refusal has none. Assumes nothing.
 use borrow.Author.Needs.{needs}
-use mathlib.Core.Path.{sym, ap, _∙_}
+use mathlib.Core.Path.{refl}
 use Rattle.format.specs.Reading.{readingNumber, readingValues}
-use Rattle.stored.specs.Storing.{stored}
-use Rattle.stored.proofs.Storing.{stored-none}
+use Rattle.answers.proofs.Saying.{said, refused}
 use Rattle.answers.proofs.say_reading.Statement.{statement}
 use Rattle.answers.proofs.say_reading.Tie as tie
 
@@ -28,19 +27,12 @@ same-length c = search needs
 returns : tie.Need-returns
 unfolding readingNumber readingValues
 returns c =
-    let c2 = c .before .before in
-    let c6 = c2 .before .before .before .before in
-    let c9 = c6 .before .before .before in
-    let f = c6 .reading .given .1 in
-    let v = c9 .args .values .now in
-    (sym (ap readingNumber f), c2 .store .ensures ∙ ap (λ vs. stored vs v) (sym (ap readingValues f)))
+    let d = c .before .before in
+    said readingNumber readingValues (d .before .before .before .before .reading .given .1) _ (d .store .ensures)
 
 returns-2 : tie.Need-returns-2
 unfolding readingNumber readingValues
-returns-2 c =
-    let f = c .before .reading2 .given .1 in
-    let v = c .before .before .before .before .args .values .now in
-    (sym (ap readingNumber f), sym (stored-none v) ∙ ap (λ vs. stored vs v) (sym (ap readingValues f)))
+returns-2 c = refused readingNumber readingValues (c .before .reading2 .given .1) _ refl
 
 pub say-reading-spec : {M : Type 1} → statement M
 say-reading-spec =

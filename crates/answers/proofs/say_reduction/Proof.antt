@@ -1,9 +1,8 @@
 -- `answers::say_reduction` meets its contract: its values are stored, a refusal has none. Assumes nothing.
 use borrow.Author.Needs.{needs}
-use mathlib.Core.Path.{sym, ap, _∙_}
+use mathlib.Core.Path.{refl}
 use Rattle.reductions.specs.Reduce.{reductionNumber, reductionValues}
-use Rattle.stored.specs.Storing.{stored}
-use Rattle.stored.proofs.Storing.{stored-none}
+use Rattle.answers.proofs.Saying.{said, refused}
 use Rattle.answers.proofs.say_reduction.Statement.{statement}
 use Rattle.answers.proofs.say_reduction.Tie as tie
 
@@ -31,20 +30,12 @@ same-length c = search needs
 returns : tie.Need-returns
 unfolding reductionNumber reductionValues
 returns c =
-    let c2 = c .before .before in
-    let c5 = c2 .before .before .before in
-    let c7 = c5 .before .before in
-    let c10 = c7 .before .before .before in
-    let f = c7 .reduction .given .1 in
-    let v = c10 .args .values .now in
-    (sym (ap reductionNumber f), (rw (c5 .yes-value .ensures) at (c2 .store .ensures)) ∙ ap (λ vs. stored vs v) (sym (ap reductionValues f)))
+    let d = c .before .before in
+    said reductionNumber reductionValues (d .before .before .before .before .before .reduction .given .1) _ (rw (d .before .before .before .yes-value .ensures) at (d .store .ensures))
 
 returns-2 : tie.Need-returns-2
 unfolding reductionNumber reductionValues
-returns-2 c =
-    let f = c .before .reduction2 .given .1 in
-    let v = c .before .before .before .before .args .values .now in
-    (sym (ap reductionNumber f), sym (stored-none v) ∙ ap (λ vs. stored vs v) (sym (ap reductionValues f)))
+returns-2 c = refused reductionNumber reductionValues (c .before .reduction2 .given .1) _ refl
 
 pub say-reduction-spec : {M : Type 1} → statement M
 say-reduction-spec =

@@ -1,9 +1,8 @@
 -- `answers::say_solution` meets its contract: its values are stored, a refusal has none. Assumes nothing.
 use borrow.Author.Needs.{needs}
-use mathlib.Core.Path.{sym, ap, _∙_}
+use mathlib.Core.Path.{refl}
 use Rattle.solutions.specs.Answers.{solutionNumber, solutionValues}
-use Rattle.stored.specs.Storing.{stored}
-use Rattle.stored.proofs.Storing.{stored-none}
+use Rattle.answers.proofs.Saying.{said, refused}
 use Rattle.answers.proofs.say_solution.Statement.{statement}
 use Rattle.answers.proofs.say_solution.Tie as tie
 
@@ -28,19 +27,12 @@ same-length c = search needs
 returns : tie.Need-returns
 unfolding solutionNumber solutionValues
 returns c =
-    let c2 = c .before .before in
-    let c6 = c2 .before .before .before .before in
-    let c9 = c6 .before .before .before in
-    let f = c6 .solution .given .1 in
-    let v = c9 .args .values .now in
-    (sym (ap solutionNumber f), c2 .store .ensures ∙ ap (λ vs. stored vs v) (sym (ap solutionValues f)))
+    let d = c .before .before in
+    said solutionNumber solutionValues (d .before .before .before .before .solution .given .1) _ (d .store .ensures)
 
 returns-2 : tie.Need-returns-2
 unfolding solutionNumber solutionValues
-returns-2 c =
-    let f = c .before .solution2 .given .1 in
-    let v = c .before .before .before .before .args .values .now in
-    (sym (ap solutionNumber f), sym (stored-none v) ∙ ap (λ vs. stored vs v) (sym (ap solutionValues f)))
+returns-2 c = refused solutionNumber solutionValues (c .before .solution2 .given .1) _ refl
 
 pub say-solution-spec : {M : Type 1} → statement M
 say-solution-spec =

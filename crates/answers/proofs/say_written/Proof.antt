@@ -1,9 +1,8 @@
 -- `answers::say_written` meets its contract: a length is stored, a refusal has no value. Assumes nothing.
 use borrow.Author.Needs.{needs}
-use mathlib.Core.Path.{sym, ap, _∙_}
+use mathlib.Core.Path.{refl}
 use Rattle.quotients.specs.Quotient.{writtenNumber, writtenValues}
-use Rattle.stored.specs.Storing.{stored}
-use Rattle.stored.proofs.Storing.{stored-none}
+use Rattle.answers.proofs.Saying.{said, refused}
 use Rattle.answers.proofs.say_written.Statement.{statement}
 use Rattle.answers.proofs.say_written.Tie as tie
 
@@ -28,19 +27,12 @@ same-length c = search needs
 returns : tie.Need-returns
 unfolding writtenNumber writtenValues
 returns c =
-    let c2 = c .before .before in
-    let c6 = c2 .before .before .before .before in
-    let c9 = c6 .before .before .before in
-    let f = c6 .written .given .1 in
-    let v = c9 .args .values .now in
-    (sym (ap writtenNumber f), c2 .store .ensures ∙ ap (λ vs. stored vs v) (sym (ap writtenValues f)))
+    let d = c .before .before in
+    said writtenNumber writtenValues (d .before .before .before .before .written .given .1) _ (d .store .ensures)
 
 returns-2 : tie.Need-returns-2
 unfolding writtenNumber writtenValues
-returns-2 c =
-    let f = c .before .written2 .given .1 in
-    let v = c .before .before .before .before .args .values .now in
-    (sym (ap writtenNumber f), sym (stored-none v) ∙ ap (λ vs. stored vs v) (sym (ap writtenValues f)))
+returns-2 c = refused writtenNumber writtenValues (c .before .written2 .given .1) _ refl
 
 pub say-written-spec : {M : Type 1} → statement M
 say-written-spec =
