@@ -32,10 +32,10 @@ use Rattle.scripts.specs.Demands.{SameScripts}
 use Rattle.quotients.specs.Demands.{IsQuotient, ShowsSteps}
 use Rattle.quotients.proofs.Theorems.{is-quotient, keeps-words, keeps-marks, open-neither, keeps-steps, keeps-scripts}
 use Rattle.reductions.specs.Reduce.{Reduced, beforeSearch, searchOfTable, joinedPairs, deliver, triedOfTable, afterSearch, reduceOf, reductionNumber, reductionValues, reduceNumber, ReduceSays}
-use Rattle.reductions.specs.Demands.{OnDelivery, KeepsWords, DeliversQuotient, DeliversChecked, DeliversMaximal, FewGuesses, DeliversCeiling, SameSearch, SpentSaid, DeliversNoneOpen, DeliversSteps, KeepsMarks, KeepsScripts, Promises, mapWritten}
+use Rattle.reductions.specs.Demands.{OnDelivery, KeepsWords, DeliversQuotient, DeliversChecked, DeliversMaximal, FewGuesses, DeliversCeiling, SameSearch, SameAssignment, SpentSaid, DeliversNoneOpen, DeliversSteps, KeepsMarks, KeepsScripts, Promises, mapWritten}
 use Rattle.reductions.specs.declared.Reduction.{Reduction}
 use Rattle.reductions.specs.declared.Reduction.the-variants.{Delivered, Refused}
-use Rattle.reductions.proofs.Ways.{FirstNumber, of-limits, of-reading, map-short, list-long, first-number, list-formed, Held, Ways, refused-first, refused-short, delivers, reduce-ways}
+use Rattle.reductions.proofs.Ways.{FirstNumber, of-limits, of-reading, map-short, list-long, first-number, list-formed, Held, Ways, refused-first, refused-short, delivers, held-accepted, reduce-ways}
 
 module _ (L : Limits) (b : List ℕ) (budget : ℕ) (list map out : List ℕ) where
   -- the map that was written is the one that was found
@@ -117,6 +117,14 @@ module _ (L : Limits) (b : List ℕ) (budget : ℕ) (list map out : List ℕ) wh
   same-ways (refused-short v g u z s l) = tt
   same-ways (delivers v g u z s l) = (s .guesses, s .ended)
 
+  found-ways : {r : Reduced} → Ways L b budget list map out r → SameAssignment (r .answer) b budget (r .map)
+  found-ways (refused-first k e n) = tt
+  found-ways (refused-short v g u z s l) = tt
+  found-ways (delivers v g u z s l) = λ w k e. map-written v g u z s ∙ ap (λ (x : List ℕ). mapOf x (count (tableOf b))) (s .found w k e)
+
+  pub same-assignment : SameAssignment (reduceOf L b budget list map out .answer) b budget (reduceOf L b budget list map out .map)
+  same-assignment = found-ways (reduce-ways L b budget list map out)
+
   -- guesses and spent are those of the search over the full list
   pub same-search : SameSearch (reduceOf L b budget list map out .answer) b budget
   same-search = same-ways (reduce-ways L b budget list map out)
@@ -185,6 +193,7 @@ module _ (L : Limits) (b : List ℕ) (budget : ℕ) (list map out : List ℕ) wh
     few = few-guesses;
     ceiling = delivers-ceiling;
     same = same-search;
+    found = same-assignment;
     spent = spent-said;
     none-open = delivers-none-open;
     steps = delivers-steps;
@@ -215,7 +224,7 @@ module _ (L : Limits) (b : List ℕ) (budget : ℕ) (list map out : List ℕ) wh
   delivery-says m g u z = says (quotientNumber L b m out) _ _ (λ (d : Reduced). reductionNumber (d .answer)) (λ (d : Reduced). reductionValues (d .answer)) refl refl refl refl
 
   numbered : ReduceSays L b budget list map out (reduceOf L b budget list map out .answer)
-  unfolding reduceOf reduceNumber afterSearch reductionNumber reductionValues
+  unfolding reduceOf reduceNumber afterSearch quotientNumber reductionNumber reductionValues
   numbered = by-number (beforeSearch L b list map) (afterSearch L b list map out e) (record { answer = Refused (beforeSearch L b list map); list = list; map = map; out = out }) (λ (d : Reduced). ReduceSays L b budget list map out (d .answer)) searched first
     where
       e : Tried
@@ -228,7 +237,7 @@ module _ (L : Limits) (b : List ℕ) (budget : ℕ) (list map out : List ℕ) wh
       searched z =
           let r = afterSearch L b list map out e .answer in
           subst (λ (k : ℕ). Says (reductionNumber r) (reductionValues r) k (reductionValues (Delivered (classes m) (madeOf (e .outcome)) (length (shortWords (tableOf b))) (length (quotientBytes b m)) (joinedPairs (count (tableOf b)) m) (ceilingOf (e .trials .ceiling)) (isSpent (e .outcome)))))
-          (sym (stage-passes _ _ z ∙ last-stage (quotientNumber L b m out)))
+          (stage-passes _ _ (held-accepted L b budget list map out z) ∙ sym (stage-passes _ _ z))
           (delivery-says m (madeOf (e .outcome)) (ceilingOf (e .trials .ceiling)) (isSpent (e .outcome)))
 
       first : beforeSearch L b list map ≢ 0 → ReduceSays L b budget list map out (Refused (beforeSearch L b list map))

@@ -91,6 +91,7 @@ module _ (L : Limits) (b : List ℕ) (budget : ℕ) (list map out : List ℕ) wh
     pub none-above : z ≡ false → Maximal (clauseList (tableOf b)) (pairs (count (tableOf b))) v
     pub most : (m : List ℕ) → RaqMap (tableOf b) m → joinedPairs (count (tableOf b)) m ≤ u
     pub accepted : checkNumber L b (mapOf v (count (tableOf b))) ≡ 0
+    pub found : (w : List ℕ) (k : ℕ) → searchOfTable b budget ≡ solved w k → v ≡ w
 
   pub data Ways : Reduced → Type 0 where
     refused-first : (k : ℕ) → beforeSearch L b list map ≡ k → k ≢ 0 → Ways (record { answer = Refused k; list = list; map = map; out = out })
@@ -123,6 +124,11 @@ module _ (L : Limits) (b : List ℕ) (budget : ℕ) (list map out : List ℕ) wh
           let refusal : ℕ → Reduced = λ k. record { answer = Refused k; list = over (shortWords (tableOf b)) list; map = map; out = out } in
           subst Ways (refuses (quotientNumber L b m out) _ refusal (stage-passes _ _ (s .accepted) ∙ fails 21 _ p) (λ y. omega (arith, y))) (refused-short v g u z s (leb-false _ _ p))
 
+  -- the map that is held is one that the check accepts
+  pub held-accepted : beforeSearch L b list map ≡ 0 → checkNumber L b (mapOf (triedOfTable b budget .trials .held) (count (tableOf b))) ≡ 0
+  unfolding triedOfTable
+  held-accepted z = let h = begun L b list map z in model-accepted L b (h .readable) _ (trial-model L (tableOf b) (read-well-formed L b (h .readable)) budget)
+
   search-ways : Begun L b list map → Ways (afterSearch L b list map out (triedOfTable b budget))
   unfolding afterSearch triedOfTable searchOfTable
   search-ways h = delivery-ways held (madeOf (e .outcome)) (ceilingOf (e .trials .ceiling)) (isSpent (e .outcome)) (record {
@@ -133,6 +139,7 @@ module _ (L : Limits) (b : List ℕ) (budget : ℕ) (list map out : List ℕ) wh
     none-above = λ z. largest (searchFrom cs (pairs n) budget) refl (sym (ap isSpent same) ∙ z);
     most = ceiling-pairs L (tableOf b) wf budget formed;
     accepted = model-accepted L b (h .readable) held model;
+    found = solved-held cs (pairs n) budget formed;
   })
     where
       n : ℕ

@@ -4,7 +4,7 @@ use mathlib.Core.Bool.{Bool, true, false}
 use mathlib.Core.List.{List}
 use Prim.Native.Nat.{ℕ, _-_, _*_, _/_, _≤_}
 use lib.ListN.{take}
-use Rattle.cnf.specs.Search.{spent, madeOf, isSpent}
+use Rattle.cnf.specs.Search.{solved, spent, madeOf, isSpent}
 use Rattle.limits.specs.declared.Limits.{Limits}
 use Rattle.format.specs.File.{tableOf}
 use Rattle.format.specs.Language.{count, SameWords, SameMarks, OpenByNeither, OneTarget}
@@ -13,6 +13,7 @@ use Rattle.relations.specs.Check.{checkOf}
 use Rattle.scripts.specs.Demands.{SameScripts}
 use Rattle.quotients.specs.Demands.{IsQuotient, ShowsSteps}
 use Rattle.relations.specs.declared.Checked.the-variants.{Accepted}
+use Rattle.encoding.specs.Maps.{mapOf}
 use Rattle.reductions.specs.Reduce.{searchOfTable, joinedPairs}
 use Rattle.reductions.specs.declared.Reduction.{Reduction}
 use Rattle.reductions.specs.declared.Reduction.the-variants.{Delivered, Refused}
@@ -79,6 +80,10 @@ DeliversCeiling r b map = OnBest r (λ g j u s. Ceiling b map j u)
 abbrev pub SameSearch : Reduction → List ℕ → ℕ → Type 0
 SameSearch r b budget = OnBest r (λ g j u s. (g ≡ madeOf (searchOfTable b budget)) × (s ≡ isSpent (searchOfTable b budget)))
 
+-- and where that search is solved, the map delivered is that of its assignment
+abbrev pub SameAssignment : Reduction → List ℕ → ℕ → List ℕ → Type 0
+SameAssignment r b budget map = OnBest r (λ g j u s. (v : List ℕ) (k : ℕ) → searchOfTable b budget ≡ solved v k → mapWritten b map ≡ mapOf v (count (tableOf b)))
+
 -- "A spent delivery says so": it made all guesses of the budget, and that search ends by (d), with a variable unset
 abbrev pub SpentSaid : Reduction → List ℕ → ℕ → Type 0
 SpentSaid r b budget = OnBest r (λ g j u s. s ≡ true → (g ≡ budget) × (searchOfTable b budget ≡ spent budget))
@@ -92,6 +97,7 @@ pub record Promises (L : Limits) (b : List ℕ) (budget : ℕ) (r : Reduction) (
   pub few : FewGuesses r b
   pub ceiling : DeliversCeiling r b map
   pub same : SameSearch r b budget
+  pub found : SameAssignment r b budget map
   pub spent : SpentSaid r b budget
   pub none-open : DeliversNoneOpen r b out
   pub steps : DeliversSteps r b map out

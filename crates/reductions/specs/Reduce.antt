@@ -94,7 +94,7 @@ reductionValues (Refused k) = []
 
 -- 39, 1 to 8, 22, 10, then those of the quotient under the map of the trial that is held, of which only 21 comes out (proofs/Ways); or 0
 unfoldable pub reduceNumber : Limits → List ℕ → ℕ → List ℕ → List ℕ → List ℕ → ℕ
-reduceNumber L b budget list map out = firstFailed (stage (beforeSearch L b list map) ∷ stage (quotientNumber L b (mapOf (triedOfTable b budget .trials .held) (count (tableOf b))) out) ∷ [])
+reduceNumber L b budget list map out = firstFailed (stage (beforeSearch L b list map) ∷ (21, leb (length (quotientBytes b (mapOf (triedOfTable b budget .trials .held) (count (tableOf b))))) (length out)) ∷ [])
 
 -- the answer by its number and its values
 abbrev pub ReduceSays : Limits → List ℕ → ℕ → List ℕ → List ℕ → List ℕ → Reduction → Type 0

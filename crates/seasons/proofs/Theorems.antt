@@ -81,13 +81,14 @@ carried L b a (Delivered c g w l j u s) map map' out out' e f p =
       few = p .few;
       ceiling = record { joined = subst (λ (m : List ℕ). j ≡ joinedPairs n m) (sym e) (p .ceiling .joined); most = p .ceiling .most };
       same = p .same;
+      found = λ v k q. e ∙ p .found v k q;
       spent = p .spent;
       none-open = subst (λ (x : List ℕ). OpenByNeither b x) (sym f) (p .none-open);
       steps = subst (λ x. x) (λ i. ShowsSteps b (sym e i) (sym f i)) (p .steps);
       marks = subst (λ (x : List ℕ). SameMarks b x) (sym f) (p .marks);
       scripts = subst (λ (x : List ℕ). SameScripts L b x) (sym f) (p .scripts);
     }
-carried L b a (Refused k) map map' out out' e f p = record { words = tt; exact = tt; checked = tt; maximal = tt; few = tt; ceiling = tt; same = tt; spent = tt; none-open = tt; steps = tt; marks = tt; scripts = tt }
+carried L b a (Refused k) map map' out out' e f p = record { words = tt; exact = tt; checked = tt; maximal = tt; few = tt; ceiling = tt; same = tt; found = tt; spent = tt; none-open = tt; steps = tt; marks = tt; scripts = tt }
 
 -- a search that needs at most so many guesses is not spent under a budget that has them
 solved-ways : (L : Limits) (b : List ℕ) (a budget : ℕ) (list map out : List ℕ) → isSpent (searchOfTable b budget) ≡ false → madeOf (searchOfTable b budget) ≤ a
