@@ -1,7 +1,7 @@
 -- Which map is picked, its number, and what is handed back: a law for each way to a return of src/, and the promises. Assumes nothing.
 use mathlib.Core.Path.{_≡_, refl, sym, ap, _∙_, subst}
 use mathlib.Core.Logic.{inl, inr, ⊎-elim}
-use mathlib.Core.Bool.{Bool, true, false}
+use mathlib.Core.Bool.{Bool, true, false, true≢false}
 use mathlib.Core.List.{List, [], _∷_}
 use Prim.Native.Nat.{ℕ, _≤_, _<_}
 use native.Mathlib.Omega.{arith}
@@ -135,6 +135,15 @@ module _ (L : Limits) (b m n : List ℕ) where
   unfolding chooseNumber
   refused e z = let f = number-40 e (stage-passed _ _ z .0) in omega arith
 
+  number-some : some (whichOf L b m n) ≡ true → chooseNumber L b m n ≡ 0
+  unfolding some
+  number-some h = go (whichOf L b m n) refl picked h
+    where
+      go : (w : Which) → w ≡ whichOf L b m n → Picked w → some w ≡ true → chooseNumber L b m n ≡ 0
+      go Neither e p k = absurd (true≢false (sym k))
+      go First e (first p q) k = number-0 (ap some (sym e)) (pass-accepted L b m p .readable)
+      go Second e (second p q) k = number-0 (ap some (sym e)) (pass-accepted L b n p .readable)
+
   -- a map is picked only from a readable table, and then the number is 0
   picked-number : (whichOf L b m n ≡ Neither → ⊥) → chooseNumber L b m n ≡ 0
   unfolding some
@@ -177,18 +186,18 @@ module _ (L : Limits) (b : List ℕ) (s t : RefT (List ℕ)) where
   pub hand-none : {x : RefT (List ℕ)} → Neither ≡ whichOf L b (s .now) (t .now) → x .ptr ≡ s .ptr → x .now ≡ []
       → (sliceOf x ≡ chooseOf L b (sliceOf s) (sliceOf t)) × HandedBack L b s t x
   unfolding handed
-  hand-none {x} e p q = ((λ i. record { place = p i; bytes = q i }) ∙ by-which e, λ z. absurd (refused L b (s .now) (t .now) e z))
+  hand-none {x} e p q = ((λ i. record { place = p i; bytes = q i }) ∙ by-which e, record { chosen = λ z. absurd (refused L b (s .now) (t .now) e z); empty = λ n. (p, q) })
 
   pub hand-first : First ≡ whichOf L b (s .now) (t .now) → (sliceOf s ≡ chooseOf L b (sliceOf s) (sliceOf t)) × HandedBack L b s t s
-  unfolding handed
-  hand-first e = (by-which e, λ z. go (subst (Picked L b (s .now) (t .now)) (sym e) (picked L b (s .now) (t .now))))
+  unfolding handed some
+  hand-first e = (by-which e, record { chosen = λ z. go (subst (Picked L b (s .now) (t .now)) (sym e) (picked L b (s .now) (t .now))); empty = λ n. absurd (n (number-some L b (s .now) (t .now) (ap some (sym e)))) })
     where
       go : Picked L b (s .now) (t .now) First → Chosen L b s t s
       go (first p q) = record { itself = inl refl; passes = p; fewest-first = λ _. omega arith; fewest-second = q; first = λ _ _. refl; filled = pass-filled L b (s .now) p }
 
   pub hand-second : Second ≡ whichOf L b (s .now) (t .now) → (sliceOf t ≡ chooseOf L b (sliceOf s) (sliceOf t)) × HandedBack L b s t t
-  unfolding handed
-  hand-second e = (by-which e, λ z. go (subst (Picked L b (s .now) (t .now)) (sym e) (picked L b (s .now) (t .now))))
+  unfolding handed some
+  hand-second e = (by-which e, record { chosen = λ z. go (subst (Picked L b (s .now) (t .now)) (sym e) (picked L b (s .now) (t .now))); empty = λ n. absurd (n (number-some L b (s .now) (t .now) (ap some (sym e)))) })
     where
       go : Picked L b (s .now) (t .now) Second → Chosen L b s t t
       go (second p q) =

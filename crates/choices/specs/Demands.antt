@@ -1,7 +1,7 @@
 -- What choosing promises (document 02, request (xiv)). Assumes nothing.
 use mathlib.Core.Path.{_≡_}
 use mathlib.Core.Logic.{_↔_, _⊎_}
-use mathlib.Core.List.{List}
+use mathlib.Core.List.{List, []}
 use Prim.Native.Nat.{ℕ, _≤_}
 use lib.ListN.{length}
 use denote.Ref.{RefT}
@@ -40,6 +40,7 @@ NeitherPasses L b m n k = (k ≡ 40) ↔ (Readable L b × (Passes L b m → ⊥)
 abbrev pub NumberTells : Choice → Type 0
 NumberTells r = (r .number ≡ 0) ↔ (r .which ≡ Neither → ⊥)
 
--- where the number is 0, the map x is handed back for the maps s and t
-abbrev pub HandedBack : Limits → List ℕ → RefT (List ℕ) → RefT (List ℕ) → RefT (List ℕ) → Type 0
-HandedBack L b s t x = chooseNumber L b (s .now) (t .now) ≡ 0 → Chosen L b s t x
+-- where the number is 0, the map x is handed back for the maps s and t; "with any refusal .. the empty part of the first map"
+pub record HandedBack (L : Limits) (b : List ℕ) (s t x : RefT (List ℕ)) : Type 0 where
+  pub chosen : chooseNumber L b (s .now) (t .now) ≡ 0 → Chosen L b s t x
+  pub empty : (chooseNumber L b (s .now) (t .now) ≡ 0 → ⊥) → (x .ptr ≡ s .ptr) × (x .now ≡ [])
