@@ -10,10 +10,11 @@
  * to hold before a call: any bytes, numbers and lengths are answered or refused.
  *
  * What a call takes. Nothing is allocated or kept, and there are no globals: calls from several threads are fine, each on buffers of its own. A call
- * needs at most BASILVAULT_STACK bytes of stack. Every call ends. The time of basilvault_search, basilvault_reduce and basilvault_season grows with the
- * guesses that they make, at most the budget. On the hardest tables that were found a guess of a reduction takes 0.1 to 0.3 microseconds; where the
- * clause list has over 32,768 words each guess goes over the whole list. A guess of basilvault_search can take some 40 microseconds, on lists that were made to
- * be slow (bench/README.md). basilvault_fit took an eighth of a second on the worst tables that were made. */
+ * needs at most BASILVAULT_STACK bytes of stack. Every call ends. The time of basilvault_search, basilvault_reduce and basilvault_season grows with
+ * the guesses that they make, at most the budget. On the hardest tables that were found a guess of a reduction takes 0.1 to 0.3 microseconds; where
+ * over 32,768 words of the clause list are left once nothing more follows from it, each guess goes over the whole list. A guess of basilvault_search
+ * can take some 40 microseconds, on lists that were made to be slow (bench/README.md). basilvault_fit took an eighth of a second on the worst tables
+ * that were made. */
 #ifndef BASILVAULT_H
 #define BASILVAULT_H
 
@@ -66,7 +67,7 @@ extern "C" {
      (size_t)(moves) * ((size_t)(n)-1) * ((size_t)(n) + 2) + (size_t)(returns) * (size_t)(n) * (size_t)(n) * ((size_t)(n) + 3))
 
 /* The most bytes of stack that a call takes, as measured, and some to spare. */
-#define BASILVAULT_STACK 327680
+#define BASILVAULT_STACK 393216
 
 /* Why a call is refused. Where several apply, the first in the operation's order is given, 39 before all. */
 enum basilvault_refusal {

@@ -114,14 +114,18 @@ static void try_table(struct work *w, const char *path, size_t *most) {
     }
 }
 
-/* The search over a list of which all is left behind its first pass, 32,766 words of clauses of two: it takes the most room. */
+/* The search over a list of over 65,536 words of which 32,768 are left at rest, in clauses of two, and one of the variable 779 with which the others hold: it
+ * takes the most room. */
 static void try_long_list(struct work *w, size_t *most) {
     w->states = STATES;
     w->words = 0;
-    for (size_t i = 0; w->words + 3 <= 32768; i++) {
+    w->list[w->words++] = 1;
+    w->list[w->words++] = 2 * 779;
+    for (size_t i = 0; w->words <= 65536; i++) {
         w->list[w->words++] = 2;
-        w->list[w->words++] = (uint16_t)(2 * (i % 779));
-        w->list[w->words++] = (uint16_t)(2 * (i % 779 + 1) + i % 2);
+        w->list[w->words++] = (uint16_t)(2 * (i % 778));
+        w->list[w->words] = w->words + 1 <= 32768 ? (uint16_t)(2 * (i % 778 + 1) + i % 2) : 2 * 779;
+        w->words++;
     }
     size_t bytes = stack_of(do_search_within, w);
     if (*most < bytes) *most = bytes;

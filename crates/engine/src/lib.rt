@@ -11,6 +11,7 @@ ghost use Rattle.rows.specs.Rows.{Rows};
 ghost use Rattle.engine.specs.Room.{WordRoom};
 ghost use Rattle.turning.specs.Turns.{noneSet, Fresh, Begun, Rested, EndsWith};
 use lightening::lighten;
+use lightening::lighten_all;
 use occurrences::index;
 use occurrences::no_firsts;
 use pairs::pair_table;
@@ -199,6 +200,55 @@ fn turns_any(
     )
 }
 
+// Whether what is left of a list at rest is looked for: where it is too long to be indexed, or not short and half of the variables are set.
+fn worth_lightening(words: usize, set: usize, variables: usize) -> bool {
+    if words <= 4096 {
+        return false;
+    }
+    if words <= 32768 {
+        return set >= variables / 2;
+    }
+    true
+}
+
+// The turns over what is left of a list at rest, where that is looked for and has room; else over the list.
+fn turns_left(
+    list: &[u16],
+    n: u8,
+    table: &[u16],
+    values: &mut [u8],
+    trail: &mut [u16],
+    joined: &mut [u64; 40],
+    apart: &mut [u64; 40],
+    budget: u64,
+    start: usize,
+) -> Ending
+    requires { ⌜ whole (now list) ≡ true ⌝ }
+    requires { ⌜ Rested (withTriangles (now list) n) (length (now values)) (now values) (now trail) start ⌝ }
+    requires { ⌜ PairTable (now table) × Rows n (now values) (now joined) (now apart) ⌝ }
+    ensures { λ r. ⌜ EndsWith (searchTried (withTriangles (now (list .entry)) n) (length (now (values .entry))) budget) r (now (values .exit)) (notFalse (now (values .entry))) ⌝ }
+{
+    if !worth_lightening(list.len(), start, values.len()) {
+        return turns_any(list, n, table, values, trail, joined, apart, budget, start);
+    }
+    let mut rest = [0u16; 32768];
+    let k = lighten_all(list, values, &mut rest);
+    if k <= 32768 {
+        return turns_any(
+            &rest[..k],
+            n,
+            table,
+            values,
+            trail,
+            joined,
+            apart,
+            budget,
+            start,
+        );
+    }
+    turns_any(list, n, table, values, trail, joined, apart, budget, start)
+}
+
 // Closes the values by passes, and counts the ceiling; where a guess is due, goes on by turns. The first `start` variables of the trail are set.
 fn finish(
     list: &[u16],
@@ -230,7 +280,7 @@ fn finish(
         };
     }
     let rested = r.count;
-    let ending = turns_any(list, n, table, values, trail, joined, apart, budget, rested);
+    let ending = turns_left(list, n, table, values, trail, joined, apart, budget, rested);
     End { ending, ceiling }
 }
 

@@ -1,29 +1,32 @@
 -- Laws for what is left of a list: how it is written, and that it is at rest under the same values as the list. Assumes nothing.
 use mathlib.Core.Path.{_≡_, refl, sym, ap, _∙_, subst}
 use mathlib.Core.Logic.{_⊎_, inl, inr, _≢_}
-use mathlib.Core.Bool.{Bool, true, false, not}
+use mathlib.Core.Bool.{Bool, true, false, not, true≢false}
 use mathlib.Core.List.{List, [], _∷_, _++_, map, append-nil, append-assoc, List·Memᴰ, List·Memᴰ·head, List·Memᴰ·tail, Memᴰ·append-left, Memᴰ·append-right, List·Memᴰ·append-cases as append-cases, List·Memᴰ·not-nil as not-nil, List·Memᴰ·eq-of-singleton as eq-of-singleton}
 use Prim.Native.Nat.{ℕ, suc, _+_, _-_, _*_, _/_, _≤_, _<_}
 use native.Mathlib.Numerals.{add-one}
 use native.Mathlib.Omega.{arith}
-use native.Mathlib.Decide.{ℕ-discrete}
-use lib.ListN.{length, getD, set, take, drop, length-set, length-drop, drop-of-length-le}
+use native.Mathlib.Decide.{ℕ-discrete, decLt}
+use lib.ListN.{length, getD, set, take, drop, length-set, length-drop, drop-of-length-le, List·getD-eq-default as getD-eq-default}
 use lib.Seq.{take-suc, take-suc-set, take-length, drop-cons, length-take-le}
-use Rattle.lists.specs.Lists.{any, keep, gather}
-use Rattle.lists.proofs.Members.{any-true, keep-mem, keep-of, getD-any, one-on}
+use lib.Dec.{eqb}
+use borrow.Author.Tests.{eq-eqb, ne-eqb}
+use Rattle.lists.specs.Lists.{any, keep, gather, upto}
+use Rattle.lists.proofs.Members.{any-true, keep-mem, keep-of, getD-any, one-on, upto-mem, upto-of}
 use Rattle.lists.proofs.Counts.{keep-append, gather-append, map-of}
-use Rattle.cnf.specs.Clauses.{valueOf, clausesIn, wordsOf, Right}
+use Rattle.cnf.specs.Clauses.{valueOf, clausesIn, whole, wordsOf, Right}
 use Rattle.cnf.specs.Search.{isRight, isUnset}
 use Rattle.cnf.specs.Closing.{Formed, _⊑_, Settled, holds, waits, AtRest}
 use Rattle.cnf.proofs.Values.{set-cases}
 use Rattle.cnf.proofs.Found.{right-is}
+use Rattle.cnf.proofs.Words.{clauses-nil}
 use Rattle.rows.specs.Conclusions.{saying}
 use Rattle.rows.specs.Trail.{unsetting}
 use Rattle.asking.specs.Asked.{Over, clauseAt}
-use Rattle.asking.proofs.Walking.{clause-words}
+use Rattle.asking.proofs.Walking.{clause-words, Before, before-first, before-next, end-inside, at-clauses, clause-in}
 use Rattle.sifting.specs.Sift.{StandsAt, Left}
 use Rattle.sifting.proofs.Sifting.{any-more}
-use Rattle.lightening.specs.Lighten.{units, unheld, lightened, SetIn, AllSet, Written}
+use Rattle.lightening.specs.Lighten.{units, unheld, lightened, clausesAt, setBelow, variablesSet, SetIn, AllSet, Written}
 
 -- ---- members of a mapped list
 
@@ -110,65 +113,144 @@ pub uniting : (v xs out : List ℕ) → Uniting v xs out 0 0
 unfolding units wordsOf gather
 uniting v xs out = record { inside = omega arith; place = omega arith; words = refl }
 
+-- one more
+units-snoc : (v xs : List ℕ) (x : ℕ) {l : ℕ} → l ≡ saying x (valueOf v x) → wordsOf (units v (xs ++ (x ∷ []))) ≡ wordsOf (units v xs) ++ (1 ∷ l ∷ [])
+unfolding units
+units-snoc v xs x e =
+    ap wordsOf (mapped-snoc (λ x. saying x (valueOf v x) ∷ []) xs x) ∙ words-snoc (units v xs) (saying x (valueOf v x) ∷ []) ∙ ap (λ (k : ℕ). wordsOf (units v xs) ++ (1 ∷ k ∷ [])) (sym e)
+
+unit-put : (v xs ys out out′ : List ℕ) (at l x r : ℕ) → Written out at (units v xs) → ys ≡ xs ++ (x ∷ []) → l ≡ saying x (valueOf v x) → take r out′ ≡ take at out ++ (1 ∷ l ∷ []) → Written out′ r (units v ys)
+unit-put v xs ys out out′ at l x r w q e p = p ∙ ap (λ (k : List ℕ). k ++ (1 ∷ l ∷ [])) w ∙ sym (units-snoc v xs x e) ∙ ap (λ (z : List ℕ). wordsOf (units v z)) (sym q)
+
 module _ {v xs out : List ℕ} {at i : ℕ} (u : Uniting v xs out at i) where
   pub unite-on : {out′ : List ℕ} {l r : ℕ} → i < length xs → l ≡ saying (getD xs i 0) (valueOf v (getD xs i 0)) → (r ≡ at + 2) × (take r out′ ≡ take at out ++ (1 ∷ l ∷ [])) → Uniting v xs out′ r (i + 1)
-  unfolding units
-  unite-on {out′} {l} {r} h e p = record {
-    inside = omega arith;
-    place = omega (arith, p .0, u .place);
-    words = p .1 ∙ ap (λ (k : List ℕ). k ++ (1 ∷ l ∷ [])) (u .words) ∙ sym last;
-  }
-    where
-      last : wordsOf (units v (take (i + 1) xs)) ≡ wordsOf (units v (take i xs)) ++ (1 ∷ l ∷ [])
-      last =
-          let x = getD xs i 0 in
-          rw (add-one, take-suc xs i 0 h)
-          (ap wordsOf (mapped-snoc (λ x. saying x (valueOf v x) ∷ []) (take i xs) x) ∙ words-snoc (units v (take i xs)) (saying x (valueOf v x) ∷ []) ∙ ap (λ (k : ℕ). wordsOf (units v (take i xs)) ++ (1 ∷ k ∷ [])) (sym e))
+  unite-on {out′} {l} {r} h e p = record { inside = omega arith; place = omega (arith, p .0, u .place); words = unit-put v (take i xs) (take (i + 1) xs) out out′ at l (getD xs i 0) r (u .words) (rw add-one (take-suc xs i 0 h)) e (p .1) }
 
   pub unite-all : length xs ≤ i → (at ≡ 2 * length xs) × Written out at (units v xs)
   unite-all h = let e : i ≡ length xs = omega (arith, u .inside) in (omega (arith, u .place), u .words ∙ rw (e, take-length))
 
--- ---- the clauses at the places
+-- those of the variables below x that are set are put, in `at` words
+pub record Setting (v out : List ℕ) (at x : ℕ) : Type 0 where
+  pub inside : x ≤ length v
+  pub few : at ≤ 2 * x
+  pub words : Written out at (units v (setBelow v x))
+
+pub setting : (v out : List ℕ) → Setting v out 0 0
+unfolding units setBelow upto keep wordsOf gather
+setting v out = record { inside = omega arith; few = omega arith; words = refl }
+
+module _ {v out : List ℕ} {at x : ℕ} (u : Setting v out at x) where
+  one-more : setBelow v (x + 1) ≡ setBelow v x ++ keep (λ y. not (eqb (valueOf v y) 2)) (x ∷ [])
+  unfolding setBelow upto
+  one-more = rw add-one (keep-append (λ y. not (eqb (valueOf v y) 2)) (upto x) (x ∷ []))
+
+  pub set-past : x < length v → getD v x 0 ≡ 2 → Setting v out at (x + 1)
+  set-past h e = record { inside = omega arith; few = omega (arith, u .few); words = u .words ∙ ap (λ (z : List ℕ). wordsOf (units v z)) (sym same) }
+    where
+      same : setBelow v (x + 1) ≡ setBelow v x
+      same = one-more ∙ (unfold keep in rw (eq-eqb (valueOf v x) 2 (getD-any v x 2 0 h ∙ e), keep) (append-nil (setBelow v x)))
+
+  pub set-put : {out′ : List ℕ} {l r : ℕ} → x < length v → getD v x 0 ≢ 2 → l ≡ saying x (valueOf v x) → (r ≡ at + 2) × (take r out′ ≡ take at out ++ (1 ∷ l ∷ [])) → Setting v out′ r (x + 1)
+  set-put {out′} {l} {r} h e q p = record { inside = omega arith; few = omega (arith, p .0, u .few); words = unit-put v (setBelow v x) (setBelow v (x + 1)) out out′ at l x r (u .words) more q (p .1) }
+    where
+      more : setBelow v (x + 1) ≡ setBelow v x ++ (x ∷ [])
+      more = one-more ∙ (unfold keep in rw (ne-eqb (valueOf v x) 2 (λ z. e (sym (getD-any v x 2 0 h) ∙ z)), keep))
+
+  pub set-all : length v ≤ x → (at ≤ 2 * length v) × Written out at (units v (variablesSet v))
+  set-all h = let e : x ≡ length v = omega (arith, u .inside) in (omega (arith, u .few), u .words ∙ ap (λ (n : ℕ). wordsOf (units v (setBelow v n))) e)
+
+-- ---- clauses that do not hold
+
+-- the first r of the new words are the first `at` of the old ones, with the clause behind them unless it holds
+record PutOpen (v c old : List ℕ) (at : ℕ) (new : List ℕ) (r : ℕ) : Type 0 where
+  pub words : take r new ≡ take at old ++ wordsOf (unheld v (c ∷ []))
+
+module _ (v c out : List ℕ) (at : ℕ) where
+  put-held : any (isRight v) c ≡ true → PutOpen v c out at out at
+  unfolding unheld keep wordsOf gather
+  put-held e = record { words = rw (e, keep) (sym (append-nil (take at out))) }
+
+  put-unheld : {out′ put : List ℕ} {r : ℕ} → any (isRight v) c ≡ false → take r out′ ≡ take at out ++ put → put ≡ length c ∷ c → PutOpen v c out at out′ r
+  unfolding unheld keep wordsOf gather
+  put-unheld e p q = record { words = p ∙ ap (λ (k : List ℕ). take at out ++ k) (q ∙ rw (e, keep) (sym (append-nil (length c ∷ c)))) }
+
+-- what is left of the clauses so far
+pub record Lightened (v xs : List ℕ) (cs : List (List ℕ)) (out : List ℕ) (at : ℕ) : Type 0 where
+  pub room : at ≤ length out
+  pub words : Written out at (lightened v xs cs)
+
+module _ {v xs : List ℕ} where
+  lightened-none : {out : List ℕ} {at m : ℕ} → at ≤ m → m ≡ length out → Written out at (units v xs) → Lightened v xs [] out at
+  unfolding unheld keep
+  lightened-none h e p = record { room = omega (arith, h, e); words = p ∙ ap wordsOf (sym (append-nil (units v xs))) }
+
+  lightened-more : {out out′ c : List ℕ} {cs ds : List (List ℕ)} {at r : ℕ} → Lightened v xs cs out at → ds ≡ cs ++ (c ∷ []) → r ≤ length out′ → PutOpen v c out at out′ r → Lightened v xs ds out′ r
+  lightened-more {c = c} {cs = cs} w q k p = record { room = k; words = p .words ∙ ap (λ (z : List ℕ). z ++ wordsOf (unheld v (c ∷ []))) (w .words) ∙ sym last ∙ ap (λ (z : List (List ℕ)). wordsOf (lightened v xs z)) (sym q) }
+    where
+      split : unheld v (cs ++ (c ∷ [])) ≡ unheld v cs ++ unheld v (c ∷ [])
+      split = unfold unheld in keep-append (λ c. not (any (isRight v) c)) cs (c ∷ [])
+
+      joined : wordsOf (lightened v xs cs ++ unheld v (c ∷ [])) ≡ wordsOf (lightened v xs cs) ++ wordsOf (unheld v (c ∷ []))
+      joined = unfold wordsOf in gather-append (λ c. length c ∷ c) (lightened v xs cs) (unheld v (c ∷ []))
+
+      last : wordsOf (lightened v xs (cs ++ (c ∷ []))) ≡ wordsOf (lightened v xs cs) ++ wordsOf (unheld v (c ∷ []))
+      last = ap (λ (z : List (List ℕ)). wordsOf (units v xs ++ z)) split ∙ ap wordsOf (sym (append-assoc (units v xs) (unheld v cs) (unheld v (c ∷ [])))) ∙ joined
 
 -- those at the first i places are looked at; there are `at` words so far
 pub record Lightening (ws v xs ps out : List ℕ) (at i : ℕ) : Type 0 where
   pub inside : i ≤ length ps
-  pub room : at ≤ length out
-  pub words : Written out at (lightened ws v xs (take i ps))
+  pub so-far : Lightened v xs (clausesAt ws (take i ps)) out at
 
 module _ {ws v xs ps : List ℕ} where
   pub lightening : {out : List ℕ} {at m : ℕ} → at ≤ m → m ≡ length out → Written out at (units v xs) → Lightening ws v xs ps out at 0
-  unfolding unheld keep
-  lightening h e p = record { inside = omega arith; room = omega (arith, h, e); words = p ∙ ap wordsOf (sym (append-nil (units v xs))) }
+  lightening h e p = record { inside = omega arith; so-far = lightened-none h e p }
 
   module _ {out : List ℕ} {at i : ℕ} (w : Lightening ws v xs ps out at i) where
-    pub lighten-all : length ps ≤ i → Written out at (lightened ws v xs ps)
-    lighten-all h = let e : i ≡ length ps = omega (arith, w .inside) in w .words ∙ rw (e, take-length)
+    lighten-on : {out′ : List ℕ} {r : ℕ} → i < length ps → r ≤ length out′ → PutOpen v (clauseAt ws (getD ps i 0)) out at out′ r → Lightening ws v xs ps out′ r (i + 1)
+    lighten-on h k p = record { inside = omega arith; so-far = lightened-more (w .so-far) (rw (add-one, take-suc ps i 0 h) (mapped-snoc (clauseAt ws) (take i ps) (getD ps i 0))) k p }
 
-    module _ (h : i < length ps) where
-      next : unheld ws v (take (i + 1) ps) ≡ unheld ws v (take i ps) ++ keep (λ c. not (any (isRight v) c)) (clauseAt ws (getD ps i 0) ∷ [])
-      unfolding unheld
-      next = rw (add-one, take-suc ps i 0 h, mapped-snoc (clauseAt ws) (take i ps) (getD ps i 0)) (keep-append (λ c. not (any (isRight v) c)) (map (clauseAt ws) (take i ps)) (clauseAt ws (getD ps i 0) ∷ []))
+    -- it holds
+    pub lighten-holding : i < length ps → any (isRight v) (clauseAt ws (getD ps i 0)) ≡ true → Lightening ws v xs ps out at (i + 1)
+    lighten-holding h e = lighten-on h (w .so-far .room) (put-held v (clauseAt ws (getD ps i 0)) out at e)
 
-      -- it holds
-      pub lighten-holding : any (isRight v) (clauseAt ws (getD ps i 0)) ≡ true → Lightening ws v xs ps out at (i + 1)
-      lighten-holding e = record { inside = omega arith; room = w .room; words = w .words ∙ ap (λ (r : List (List ℕ)). wordsOf (units v xs ++ r)) (sym same) }
-        where
-          same : unheld ws v (take (i + 1) ps) ≡ unheld ws v (take i ps)
-          same = next ∙ (unfold keep in rw (e, keep) (append-nil (unheld ws v (take i ps))))
+    -- it does not, and is put
+    pub lighten-put : {out′ put : List ℕ} {r : ℕ} → i < length ps → any (isRight v) (clauseAt ws (getD ps i 0)) ≡ false → r ≤ length out′ → take r out′ ≡ take at out ++ put → put ≡ length (clauseAt ws (getD ps i 0)) ∷ clauseAt ws (getD ps i 0) → Lightening ws v xs ps out′ r (i + 1)
+    lighten-put h e k p q = lighten-on h k (put-unheld v (clauseAt ws (getD ps i 0)) out at e p q)
 
-      -- it does not, and is put
-      pub lighten-put : {out′ put : List ℕ} {r : ℕ} → any (isRight v) (clauseAt ws (getD ps i 0)) ≡ false → r ≤ length out′ → take r out′ ≡ take at out ++ put → put ≡ length (clauseAt ws (getD ps i 0)) ∷ clauseAt ws (getD ps i 0) → Lightening ws v xs ps out′ r (i + 1)
-      lighten-put {out′} {put} {r} e k p q = record { inside = omega arith; room = k; words = p ∙ (λ j. w .words j ++ q j) ∙ sym last }
-        where
-          more : unheld ws v (take (i + 1) ps) ≡ unheld ws v (take i ps) ++ (clauseAt ws (getD ps i 0) ∷ [])
-          more = next ∙ (unfold keep in rw (e, keep))
+    pub lighten-all : length ps ≤ i → Written out at (lightened v xs (clausesAt ws ps))
+    lighten-all h = let e : i ≡ length ps = omega (arith, w .inside) in w .so-far .words ∙ rw (e, take-length)
 
-          last : wordsOf (lightened ws v xs (take (i + 1) ps)) ≡ wordsOf (lightened ws v xs (take i ps)) ++ (length (clauseAt ws (getD ps i 0)) ∷ clauseAt ws (getD ps i 0))
-          last =
-              ap (λ (q : List (List ℕ)). wordsOf (units v xs ++ q)) more
-              ∙ ap wordsOf (sym (append-assoc (units v xs) (unheld ws v (take i ps)) (clauseAt ws (getD ps i 0) ∷ [])))
-              ∙ words-snoc (lightened ws v xs (take i ps)) (clauseAt ws (getD ps i 0))
+-- the clauses before `end` are looked at
+pub record Walked (ws v xs out : List ℕ) (at end : ℕ) : Type 0 where
+  pub before : Before ws end
+  pub passed : List (List ℕ)
+  pub all-are : clausesIn ws ≡ passed ++ clausesIn (drop end ws)
+  pub so-far : Lightened v xs passed out at
+
+module _ {ws v xs : List ℕ} where
+  pub walked : {out : List ℕ} {at m : ℕ} → whole ws ≡ true → at ≤ m → m ≡ length out → Written out at (units v xs) → Walked ws v xs out at 0
+  walked w h e p = record { before = before-first w; passed = []; all-are = refl; so-far = lightened-none h e p }
+
+  module _ {out : List ℕ} {at end : ℕ} (w : Walked ws v xs out at end) where
+    walk-on : {out′ : List ℕ} {r : ℕ} → end < length ws → r ≤ length out′ → PutOpen v (clauseAt ws end) out at out′ r → Walked ws v xs out′ r (end + 1 + getD ws end 0)
+    walk-on h k p = record {
+      before = before-next (w .before) h;
+      passed = w .passed ++ (clauseAt ws end ∷ []);
+      all-are = w .all-are ∙ ap (λ (z : List (List ℕ)). w .passed ++ z) (at-clauses (w .before) h) ∙ sym (append-assoc (w .passed) (clauseAt ws end ∷ []) (clausesIn (drop (end + 1 + getD ws end 0) ws)));
+      so-far = lightened-more (w .so-far) refl k p;
+    }
+
+    pub walk-holding : end < length ws → any (isRight v) (clauseAt ws end) ≡ true → Walked ws v xs out at (end + 1 + getD ws end 0)
+    walk-holding h e = walk-on h (w .so-far .room) (put-held v (clauseAt ws end) out at e)
+
+    pub walk-put : {out′ put : List ℕ} {r : ℕ} → end < length ws → any (isRight v) (clauseAt ws end) ≡ false → r ≤ length out′ → take r out′ ≡ take at out ++ put → put ≡ length (clauseAt ws end) ∷ clauseAt ws end → Walked ws v xs out′ r (end + 1 + getD ws end 0)
+    walk-put h e k p q = walk-on h k (put-unheld v (clauseAt ws end) out at e p q)
+
+    pub walk-all : length ws ≤ end → Written out at (lightened v xs (clausesIn ws))
+    walk-all h = w .so-far .words ∙ ap (λ (z : List (List ℕ)). wordsOf (lightened v xs z)) (sym (w .all-are ∙ rw (drop-of-length-le ws h, clauses-nil) (append-nil (w .passed))))
+
+    pub stands-here : end < length ws → StandsAt ws end
+    stands-here h = record { starts = h; ends = end-inside (w .before) h; clause = clause-in (w .before) h }
 
 -- the words that the code lends: the clause at place q, which it has read as p, and k as its count
 module _ {ws : List ℕ} {p q k : ℕ} (e : p ≡ q) (s : StandsAt ws q) (d : k ≡ getD ws p 0) where
@@ -218,7 +300,44 @@ covered v (y ∷ xs) x e h = go (ℕ-discrete x y) (λ p. covered v xs x p h)
     go (yes p) ih = List·Memᴰ·head p
     go (no n) ih = List·Memᴰ·tail (ih (other n (set-cases (unsetting v xs) y 2 x)))
 
-module _ {ws v xs ps : List ℕ} (ts : List (List ℕ)) (sets : (x : ℕ) → List·Memᴰ x xs → valueOf v x < 2) (cover : (x : ℕ) → valueOf v x ≢ 2 → List·Memᴰ x xs) (left : Left ws v ps) where
+-- some clauses of the list, with every one that has no right literal
+pub record Spares (ws v : List ℕ) (cs : List (List ℕ)) : Type 0 where
+  pub part : (c : List ℕ) → List·Memᴰ c cs → List·Memᴰ c (clausesIn ws)
+  pub each : (c : List ℕ) → List·Memᴰ c (clausesIn ws) → (any (isRight v) c ≡ true) ⊎ List·Memᴰ c cs
+
+pub spares-all : (ws v : List ℕ) → Spares ws v (clausesIn ws)
+spares-all ws v = record { part = λ c m. m; each = λ c m. inr m }
+
+pub spares-left : {ws v ps : List ℕ} → Left ws v ps → Spares ws v (clausesAt ws ps)
+spares-left {ws} {v} {ps} left = record { part = λ c m. at-place c (mapped (clauseAt ws) ps c m); each = λ c m. go c (left .each c m) }
+  where
+    at-place : (c : List ℕ) → (p : ℕ) × List·Memᴰ p ps × (c ≡ clauseAt ws p) → List·Memᴰ c (clausesIn ws)
+    at-place c r = subst (λ (d : List ℕ). List·Memᴰ d (clausesIn ws)) (sym (r .2)) (left .places (r .0) (r .1) .clause)
+
+    go : (c : List ℕ) → (any (isRight v) c ≡ true) ⊎ ((p : ℕ) × List·Memᴰ p ps × (clauseAt ws p ≡ c)) → (any (isRight v) c ≡ true) ⊎ List·Memᴰ c (clausesAt ws ps)
+    go c (inl e) = inl e
+    go c (inr r) = inr (subst (λ (d : List ℕ). List·Memᴰ d (clausesAt ws ps)) (r .2) (map-of (clauseAt ws) (r .1)))
+
+-- the variables that are set
+module _ (v : List ℕ) where
+  pub set-in : ((x : ℕ) → valueOf v x ≤ 2) → AllSet v (variablesSet v)
+  unfolding setBelow
+  set-in small x m =
+      let k = keep-mem (λ y. not (eqb (valueOf v y) 2)) (upto (length v)) x m in
+      (upto-mem (length v) x (k .0), omega (arith, small x, not-two (k .1)))
+    where
+      not-two : not (eqb (valueOf v x) 2) ≡ true → valueOf v x ≢ 2
+      not-two e z = true≢false (sym e ∙ ap not (eq-eqb (valueOf v x) 2 z))
+
+  pub set-all-in : (x : ℕ) → valueOf v x ≢ 2 → List·Memᴰ x (variablesSet v)
+  unfolding setBelow
+  set-all-in x h = keep-of (λ y. not (eqb (valueOf v y) 2)) (upto (length v)) x (upto-of (length v) x (inside (decLt x (length v)))) (ap not (ne-eqb (valueOf v x) 2 h))
+    where
+      inside : Dec (x < length v) → x < length v
+      inside (yes k) = k
+      inside (no k) = absurd (h (getD-eq-default v 2 (omega arith)))
+
+module _ {ws v xs : List ℕ} {cs : List (List ℕ)} (ts : List (List ℕ)) (sets : (x : ℕ) → List·Memᴰ x xs → valueOf v x < 2) (cover : (x : ℕ) → valueOf v x ≢ 2 → List·Memᴰ x xs) (left : Spares ws v cs) where
   abbrev unitOf : ℕ → List ℕ
   unitOf x = saying x (valueOf v x) ∷ []
 
@@ -249,60 +368,58 @@ module _ {ws v xs ps : List ℕ} (ts : List (List ℕ)) (sets : (x : ℕ) → Li
           few true d = absurd (omega (arith, ap length d))
           few false d = absurd (omega (arith, ap length d))
 
-  pub lighter-to : (u : List ℕ) → v ⊑ u → AtRest (clausesIn ws ++ ts) u → AtRest (lightened ws v xs ps ++ ts) u
+  pub lighter-to : (u : List ℕ) → v ⊑ u → AtRest (clausesIn ws ++ ts) u → AtRest (lightened v xs cs ++ ts) u
   unfolding unheld
-  lighter-to u p q = λ c m. go c (append-cases (lightened ws v xs ps) m)
+  lighter-to u p q = λ c m. go c (append-cases (lightened v xs cs) m)
     where
-      kept : (c : List ℕ) → List·Memᴰ c (units v xs) ⊎ List·Memᴰ c (unheld ws v ps) → Settled u c
+      kept : (c : List ℕ) → List·Memᴰ c (units v xs) ⊎ List·Memᴰ c (unheld v cs) → Settled u c
       kept c (inl m) = units-rest u p c m
       kept c (inr m) =
-          let k = keep-mem (λ c. not (any (isRight v) c)) (map (clauseAt ws) ps) c m in
-          let r = mapped (clauseAt ws) ps c (k .0) in
-          q c (Memᴰ·append-left ts (subst (λ (d : List ℕ). List·Memᴰ d (clausesIn ws)) (sym (r .2)) (left .places (r .0) (r .1) .clause)))
+          let k = keep-mem (λ c. not (any (isRight v) c)) cs c m in
+          q c (Memᴰ·append-left ts (left .part c (k .0)))
 
-      go : (c : List ℕ) → List·Memᴰ c (lightened ws v xs ps) ⊎ List·Memᴰ c ts → Settled u c
+      go : (c : List ℕ) → List·Memᴰ c (lightened v xs cs) ⊎ List·Memᴰ c ts → Settled u c
       go c (inl m) = kept c (append-cases (units v xs) m)
       go c (inr m) = q c (Memᴰ·append-right (clausesIn ws) m)
 
-  pub lighter-low : (u : List ℕ) → AtRest (lightened ws v xs ps ++ ts) u → v ⊑ u
-  lighter-low u q = rest-units u (λ c m. q c (Memᴰ·append-left ts (Memᴰ·append-left (unheld ws v ps) m)))
+  pub lighter-low : (u : List ℕ) → AtRest (lightened v xs cs ++ ts) u → v ⊑ u
+  lighter-low u q = rest-units u (λ c m. q c (Memᴰ·append-left ts (Memᴰ·append-left (unheld v cs) m)))
 
-  pub lighter-from : (u : List ℕ) → AtRest (lightened ws v xs ps ++ ts) u → AtRest (clausesIn ws ++ ts) u
+  pub lighter-from : (u : List ℕ) → AtRest (lightened v xs cs ++ ts) u → AtRest (clausesIn ws ++ ts) u
   unfolding unheld
   lighter-from u q = λ c m. go c (append-cases (clausesIn ws) m)
     where
       right : (c : List ℕ) → any (isRight v) c ≡ true → Settled u c
       right c e = let r = any-true (isRight u) c (any-more c (lighter-low u q) e) in holds (r .0) (r .1) (right-is u (r .0) (r .2))
 
-      at-place : (p : ℕ) → List·Memᴰ p ps → (t : Bool) → any (isRight v) (clauseAt ws p) ≡ t → Settled u (clauseAt ws p)
-      at-place p m true e = right (clauseAt ws p) e
-      at-place p m false e = q (clauseAt ws p) (Memᴰ·append-left ts (Memᴰ·append-right (units v xs) (keep-of (λ c. not (any (isRight v) c)) (map (clauseAt ws) ps) (clauseAt ws p) (map-of (clauseAt ws) m) (ap not e))))
+      spared : (c : List ℕ) → List·Memᴰ c cs → (t : Bool) → any (isRight v) c ≡ t → Settled u c
+      spared c m true e = right c e
+      spared c m false e = q c (Memᴰ·append-left ts (Memᴰ·append-right (units v xs) (keep-of (λ c. not (any (isRight v) c)) cs c m (ap not e))))
 
-      each : (c : List ℕ) → (any (isRight v) c ≡ true) ⊎ ((p : ℕ) × List·Memᴰ p ps × (clauseAt ws p ≡ c)) → Settled u c
+      each : (c : List ℕ) → (any (isRight v) c ≡ true) ⊎ List·Memᴰ c cs → Settled u c
       each c (inl e) = right c e
-      each c (inr p) = subst (Settled u) (p .2) (at-place (p .0) (p .1) (any (isRight v) (clauseAt ws (p .0))) refl)
+      each c (inr m) = spared c m (any (isRight v) c) refl
 
       go : (c : List ℕ) → List·Memᴰ c (clausesIn ws) ⊎ List·Memᴰ c ts → Settled u c
       go c (inl m) = each c (left .each c m)
-      go c (inr m) = q c (Memᴰ·append-right (lightened ws v xs ps) m)
+      go c (inr m) = q c (Memᴰ·append-right (lightened v xs cs) m)
 
   -- the clauses left are over the same variables
-  pub lighter-formed : (n : ℕ) → length v ≡ n → AllSet v xs → Formed (clausesIn ws ++ ts) n → Formed (lightened ws v xs ps ++ ts) n
+  pub lighter-formed : (n : ℕ) → length v ≡ n → AllSet v xs → Formed (clausesIn ws ++ ts) n → Formed (lightened v xs cs ++ ts) n
   unfolding units unheld
-  lighter-formed n size all f = record { below = λ c m. go c (append-cases (lightened ws v xs ps) m) }
+  lighter-formed n size all f = record { below = λ c m. go c (append-cases (lightened v xs cs) m) }
     where
       unit : (c : List ℕ) → (x : ℕ) × List·Memᴰ x xs × (c ≡ unitOf x) → (l : ℕ) → List·Memᴰ l c → l / 2 < n
       unit c r l m =
           let is : l ≡ saying (r .0) (valueOf v (r .0)) = eq-of-singleton (subst (λ (d : List ℕ). List·Memᴰ l d) (r .2) m) in
           omega (arith, is, all (r .0) (r .1), size)
 
-      kept : (c : List ℕ) → List·Memᴰ c (units v xs) ⊎ List·Memᴰ c (unheld ws v ps) → (l : ℕ) → List·Memᴰ l c → l / 2 < n
+      kept : (c : List ℕ) → List·Memᴰ c (units v xs) ⊎ List·Memᴰ c (unheld v cs) → (l : ℕ) → List·Memᴰ l c → l / 2 < n
       kept c (inl m) = unit c (mapped unitOf xs c m)
       kept c (inr m) =
-          let k = keep-mem (λ c. not (any (isRight v) c)) (map (clauseAt ws) ps) c m in
-          let r = mapped (clauseAt ws) ps c (k .0) in
-          f .below c (Memᴰ·append-left ts (subst (λ (d : List ℕ). List·Memᴰ d (clausesIn ws)) (sym (r .2)) (left .places (r .0) (r .1) .clause)))
+          let k = keep-mem (λ c. not (any (isRight v) c)) cs c m in
+          f .below c (Memᴰ·append-left ts (left .part c (k .0)))
 
-      go : (c : List ℕ) → List·Memᴰ c (lightened ws v xs ps) ⊎ List·Memᴰ c ts → (l : ℕ) → List·Memᴰ l c → l / 2 < n
+      go : (c : List ℕ) → List·Memᴰ c (lightened v xs cs) ⊎ List·Memᴰ c ts → (l : ℕ) → List·Memᴰ l c → l / 2 < n
       go c (inl m) = kept c (append-cases (units v xs) m)
       go c (inr m) = f .below c (Memᴰ·append-right (clausesIn ws) m)

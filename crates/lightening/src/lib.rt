@@ -1,14 +1,14 @@
 // What is left of a list behind the first pass: a clause with a right literal holds for good, since nothing was guessed yet.
 ghost use mathlib.Core.Path.{_≡_};
 ghost use mathlib.Core.List.{_++_};
-ghost use Prim.Native.Nat.{_+_, _*_, _≤_};
+ghost use Prim.Native.Nat.{ℕ, _+_, _*_, _≤_};
 ghost use lib.ListN.{length, take};
 ghost use Rattle.lists.specs.Lists.{any};
-ghost use Rattle.cnf.specs.Clauses.{valueOf};
+ghost use Rattle.cnf.specs.Clauses.{valueOf, clausesIn};
 ghost use Rattle.cnf.specs.Search.{isRight};
 ghost use Rattle.rows.specs.Conclusions.{saying};
 ghost use Rattle.asking.specs.Asked.{Over};
-ghost use Rattle.lightening.specs.Lighten.{SetIn, AllSet, units, lightened, Lightens, Written};
+ghost use Rattle.lightening.specs.Lighten.{SetIn, AllSet, units, lightened, clausesAt, variablesSet, Lightens, LightensAll, Written};
 use asking::is_right;
 use rows::wide;
 
@@ -67,8 +67,28 @@ fn put_units(values: &[u8], variables: &[u16], out: &mut [u16]) -> usize
     at
 }
 
-// What is left of the list, where there is room: the variables that are set, and the clauses at the places that do not hold. Answers how many words that
-// is, or more than there is room for.
+// Puts a clause of its right literal for each variable that is set; answers how many words there are.
+fn put_set(values: &[u8], out: &mut [u16]) -> usize
+    requires { ⌜ (length (now values) ≤ 780) × (2 * length (now values) ≤ length (now out)) ⌝ }
+    requires { ⌜ ((x : ℕ) → valueOf (now values) x ≤ 2) ⌝ }
+    ensures { λ r. ⌜ (r ≤ 2 * length (now (values .entry))) × Written (now (out .exit)) r (units (now (values .entry)) (variablesSet (now (values .entry)))) ⌝ }
+{
+    let mut at: usize = 0;
+    let mut x: usize = 0;
+    'variables: while x < values.len() {
+        if values[x] == 2 {
+            x += 1;
+            continue 'variables;
+        }
+        let unit = [1u16, right_literal(values, x as u16)];
+        x += 1;
+        at = put_words(&unit, out, at);
+    }
+    at
+}
+
+// What is left of the clauses at the places, where there is room: the variables that are set, and the clauses that do not hold. Answers how many words
+// that is, or more than there is room for.
 pub fn lighten(
     list: &[u16],
     places: &[u16],
@@ -77,7 +97,7 @@ pub fn lighten(
     out: &mut [u16],
 ) -> usize
     requires { ⌜ Lightens (now list) (now values) (now variables) (now places) ⌝ }
-    ensures { λ r. ⌜ (r ≤ length (now (out .entry)) → Written (now (out .exit)) r (lightened (now (list .entry)) (now (values .entry)) (now (variables .entry)) (now (places .entry)))) ⌝ }
+    ensures { λ r. ⌜ (r ≤ length (now (out .entry)) → Written (now (out .exit)) r (lightened (now (values .entry)) (now (variables .entry)) (clausesAt (now (list .entry)) (now (places .entry))))) ⌝ }
 {
     let none = out.len() + 1;
     if out.len() / 2 < variables.len() {
@@ -92,6 +112,32 @@ pub fn lighten(
         let end = first + wide(list[start]);
         if holds(&list[first..end], values) {
             continue 'places;
+        }
+        if out.len() - at < end - start {
+            return none;
+        }
+        at = put_words(&list[start..end], out, at);
+    }
+    at
+}
+
+// The same of all clauses of the list, which is walked over, and all variables that are set.
+pub fn lighten_all(list: &[u16], values: &[u8], out: &mut [u16]) -> usize
+    requires { ⌜ LightensAll (now list) (now values) ⌝ }
+    ensures { λ r. ⌜ (r ≤ length (now (out .entry)) → Written (now (out .exit)) r (lightened (now (values .entry)) (variablesSet (now (values .entry))) (clausesIn (now (list .entry))))) ⌝ }
+{
+    let none = out.len() + 1;
+    if out.len() / 2 < values.len() {
+        return none;
+    }
+    let mut at = put_set(values, out);
+    let mut end: usize = 0;
+    'clauses: while end < list.len() {
+        let start = end;
+        let literals = start + 1;
+        end = literals + wide(list[start]);
+        if holds(&list[literals..end], values) {
+            continue 'clauses;
         }
         if out.len() - at < end - start {
             return none;

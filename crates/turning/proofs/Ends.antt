@@ -24,12 +24,12 @@ use Rattle.cnf.proofs.Steps.{stateOf, guessOf}
 use Rattle.cnf.proofs.Words.{clauses-words, whole-words}
 use Rattle.cnf.proofs.Order.{units-below}
 use Rattle.cnf.proofs.Queue.{waiting-set, rest-waiting}
-use Rattle.cnf.proofs.Closure.{closes-one, closes-below, units-break, turnTo, atStart}
+use Rattle.cnf.proofs.Closure.{closes-one, closes-alike, closes-below, units-break, turnTo, atStart}
 use Rattle.cnf.proofs.Trying.{closedTrials, endOf, TriesTo, there, turn, tried-outcome, turns-tried}
 use Rattle.cnf.proofs.Trials.{latest as latestTrial, Holds, holds-start, holds-closed, holds-undone, holds-guess, holds-latest, horn-trial, solved-held, tried-alike}
 use Rattle.pairs.specs.Triangles.{triangles}
-use Rattle.sifting.specs.Sift.{Left, Sifts}
-use Rattle.lightening.specs.Lighten.{AllSet, lightened, Lightens}
+use Rattle.sifting.specs.Sift.{Sifts}
+use Rattle.lightening.specs.Lighten.{AllSet, lightened, clausesAt, variablesSet, Lightens, LightensAll}
 use Rattle.rows.specs.Trail.{unsetting, Ready, Grown, Worked, Queue, closedBy, Settles}
 use Rattle.rows.specs.Rows.{Rows, Own, Settable, Forced}
 use Rattle.rows.specs.Conclusions.{withTriangles}
@@ -42,7 +42,7 @@ use Rattle.rows.proofs.Trails.{unsetting-append, length-unsetting, unsetting-st
 use Rattle.rows.proofs.Working.{worked-length, worked-on, worked-part, ready-part}
 use Rattle.passes.proofs.Attending.{to-cs}
 use Rattle.passes.proofs.Settling.{worked-queue}
-use Rattle.lightening.proofs.Lightening.{covered, lighter-to, lighter-from, lighter-formed}
+use Rattle.lightening.proofs.Lightening.{covered, Spares, spares-all, spares-left, set-in, set-all-in, lighter-to, lighter-from, lighter-formed}
 use Rattle.rows.proofs.Marking.{rows-start}
 use Rattle.spreading.proofs.Triangles.{with-formed, triangles-horn, unset-rest}
 
@@ -244,6 +244,77 @@ rested-leads {cs} {n} {b} {k} {v} {w} {held} {gs} {e} z h (turn c y i l) =
     itself : Closes cs w (rests w)
     itself = record { long = refl; small = h .small; extends = ⊑-refl w; at-rest = h .at-rest; least = λ u p q. p }
 
+-- ---- what is left of a list
+
+-- the clauses of the list are over the variables
+pub list-formed : (ws : List ℕ) (m : ℕ) {n : ℕ} → Formed (withTriangles ws m) n → Formed (clausesIn ws) n
+list-formed ws m f = record { below = λ c k. f .below c (Memᴰ·append-left (triangles m) k) }
+
+-- v are the values that are set wherever the list is at rest, xs the variables that have one, and cs has the clauses that do not hold
+record Lighter (ws v xs : List ℕ) (cs : List (List ℕ)) (m : ℕ) : Type 0 where
+  pub formed : Formed (withTriangles ws m) (length v)
+  pub low : (u : List ℕ) → AtRest (withTriangles ws m) u → v ⊑ u
+  pub all-set : AllSet v xs
+  pub cover : (x : ℕ) → valueOf v x ≢ 2 → List·Memᴰ x xs
+  pub left : Spares ws v cs
+
+module _ {ws v xs rest : List ℕ} {cs : List (List ℕ)} {m : ℕ} (g : Lighter ws v xs cs m) (written : rest ≡ wordsOf (lightened v xs cs)) where
+  same-rests : withTriangles rest m ≡ lightened v xs cs ++ triangles m
+  same-rests = ap (λ (y : List (List ℕ)). y ++ triangles m) (ap clausesIn written ∙ clauses-words (lightened v xs cs))
+
+  lighter-whole : whole rest ≡ true
+  lighter-whole = ap whole written ∙ whole-words (lightened v xs cs)
+
+  sets : (x : ℕ) → List·Memᴰ x xs → valueOf v x < 2
+  sets x h = g .all-set x h .1
+
+  rest-formed : Formed (withTriangles rest m) (length v)
+  rest-formed = rw same-rests (lighter-formed (triangles m) sets (g .cover) (g .left) (length v) refl (g .all-set) (g .formed))
+
+  to-rest : (u : List ℕ) → AtRest (withTriangles ws m) u → AtRest (withTriangles rest m) u
+  to-rest u q = rw same-rests (lighter-to (triangles m) sets (g .cover) (g .left) u (g .low u q) q)
+
+  from-rest : (u : List ℕ) → AtRest (withTriangles rest m) u → AtRest (withTriangles ws m) u
+  from-rest u q = lighter-from (triangles m) sets (g .cover) (g .left) u (rw same-rests at q)
+
+  -- it has the outcome and the trials of the whole list
+  lighter-ends : (b : ℕ) (r : Ending) (x : List ℕ) (u : ℕ) → EndsWith (searchTried (withTriangles rest m) (length v) b) r x u → EndsWith (searchTried (withTriangles ws m) (length v) b) r x u
+  lighter-ends b r x u q = subst (λ (z : Tried). EndsWith z r x u) (tried-alike (withTriangles rest m) (withTriangles ws m) from-rest to-rest (length v) rest-formed (g .formed) b) q
+
+-- at the first rest
+module _ (ws : List ℕ) {v t : List ℕ} (m : ℕ) {n start : ℕ} (r : Rested (withTriangles ws m) n v t start) where
+  pub rest-lightens : whole ws ≡ true → LightensAll ws v
+  rest-lightens w = record { all-there = w; formed = rw (r .size) (list-formed ws m (r .formed)); most = omega (arith, r .size, r .most); small = r .closed .small }
+
+  rest-lighter : Lighter ws v (variablesSet v) (clausesIn ws) m
+  rest-lighter = record {
+    formed = rw (r .size) (r .formed);
+    low = λ u q. r .closed .least u (record { keeps = λ i h. absurd (h (none-set n i)) }) q;
+    all-set = set-in v (r .closed .small);
+    cover = set-all-in v;
+    left = spares-all ws v;
+  }
+
+  module _ {rest : List ℕ} (written : rest ≡ wordsOf (lightened v (variablesSet v) (clausesIn ws))) where
+    pub rest-whole : whole rest ≡ true
+    rest-whole = lighter-whole rest-lighter written
+
+    pub rest-rested : Rested (withTriangles rest m) n v t start
+    rest-rested = record {
+      formed = rw (r .size) at (rest-formed rest-lighter written);
+      size = r .size;
+      most = r .most;
+      long = r .long;
+      counted = r .counted;
+      below = r .below;
+      closed = closes-alike (withTriangles ws m) (withTriangles rest m) (to-rest rest-lighter written) (from-rest rest-lighter written) (replicate n 2) (rests v) (r .closed);
+    }
+
+    pub rest-ends : (b : ℕ) (e : Ending) (x : List ℕ) (u : ℕ) → EndsWith (searchTried (withTriangles rest m) n b) e x u → EndsWith (searchTried (withTriangles ws m) n b) e x u
+    rest-ends b e x u q =
+        subst (λ (k : ℕ). EndsWith (searchTried (withTriangles ws m) k b) e x u) (r .size)
+        (lighter-ends rest-lighter written b e x u (subst (λ (k : ℕ). EndsWith (searchTried (withTriangles rest m) k b) e x u) (sym (r .size)) q))
+
 -- nothing is unset where as many are set as there are
 all-set : (w : List ℕ) {count : ℕ} → count + unsetCount w ≡ length w → count ≡ length w → (j : ℕ) → j < length w → valueOf w j ≢ 2
 all-set w c e j h = λ z. absurd (omega (arith, unset-set w j 0 h z (omega arith)))
@@ -339,51 +410,31 @@ module _ {ws v : List ℕ} {m : ℕ} (f : Fresh ws m v) (b : ℕ) where
 
     -- what the pass has left can be searched instead
     module _ (e : isBroken ≡ false) (k : kept ≤ length room) where
-      left : Left ws w (take kept room)
-      left = c .left e k
-
       pub lightens : Lightens ws w (take count s) (take kept room)
       lightens = record {
         formed = rw sifted-size (f .formed);
         most = omega (arith, sifted-size, f .most);
-        places = left .places;
+        places = c .left e k .places;
         set-in = sifted-set;
       }
 
-      module _ {rest : List ℕ} (written : rest ≡ wordsOf (lightened ws w (take count s) (take kept room))) where
-        is-left : clausesIn rest ≡ lightened ws w (take count s) (take kept room)
-        is-left = ap clausesIn written ∙ clauses-words (lightened ws w (take count s) (take kept room))
+      lighter : Lighter ws w (take count s) (clausesAt ws (take kept room)) m
+      lighter = record { formed = rw sifted-size all-formed; low = sifted-low; all-set = sifted-set; cover = sifted-cover; left = spares-left (c .left e k) }
 
-        same-rests : withTriangles rest m ≡ lightened ws w (take count s) (take kept room) ++ triangles m
-        same-rests = ap (λ (y : List (List ℕ)). y ++ triangles m) is-left
-
-        sets : (x : ℕ) → List·Memᴰ x (take count s) → valueOf w x < 2
-        sets x h = sifted-set x h .1
-
-        left-formed : Formed (withTriangles rest m) (length w)
-        left-formed = rw same-rests (lighter-formed (triangles m) sets sifted-cover left (length w) refl sifted-set (rw sifted-size all-formed))
-
-        to-left : (u : List ℕ) → AtRest (withTriangles ws m) u → AtRest (withTriangles rest m) u
-        to-left u q = rw same-rests (lighter-to (triangles m) sets sifted-cover left u (sifted-low u q) q)
-
-        from-left : (u : List ℕ) → AtRest (withTriangles rest m) u → AtRest (withTriangles ws m) u
-        from-left u q = lighter-from (triangles m) sets sifted-cover left u (rw same-rests at q)
-
+      module _ {rest : List ℕ} (written : rest ≡ wordsOf (lightened w (take count s) (clausesAt ws (take kept room)))) where
         pub left-begins : Begun rest m w s count
         left-begins = record {
-          all-there = ap whole written ∙ whole-words (lightened ws w (take count s) (take kept room));
-          ready = record { formed = left-formed; values = worked-on (first-ready p) sifted .values; counted = sifted .grown .counted; room = worked-on (first-ready p) sifted .room };
+          all-there = lighter-whole lighter written;
+          ready = record { formed = rest-formed lighter written; values = worked-on (first-ready p) sifted .values; counted = sifted .grown .counted; room = worked-on (first-ready p) sifted .room };
           queue = sifted-queue;
           most = omega (arith, sifted-size, f .most);
           long = sifted-long;
           below = sifted-below;
-          low = λ u q. sifted-low u (from-left u q);
+          low = λ u q. sifted-low u (from-rest lighter written u q);
         }
 
-        -- it has the outcome and the trials of the whole list
         pub left-outcome : (r : Ending) (x : List ℕ) (u : ℕ) → EndsWith (searchTried (withTriangles rest m) (length w) b) r x u → EndsWith (searchTried (withTriangles ws m) (length v) b) r x u
-        left-outcome r x u q =
-            subst (λ (z : Tried). EndsWith z r x u) (tried-alike (withTriangles rest m) (withTriangles ws m) from-left to-left (length v) (rw sifted-size at left-formed) all-formed b) (rw sifted-size at q)
+        left-outcome r x u q = rw sifted-size at (lighter-ends lighter written b r x u q)
 
 -- the first k of n elements are k
 pub prefix-long : {k n : ℕ} (l : List ℕ) → k ≤ n → n ≡ length l → k ≡ length (take k l)
@@ -726,7 +777,3 @@ short-trial ws m f u z q = satisfied-append (clausesIn ws) (triangles m) (onlyTr
     and-left : (t : Bool) → (t && true) ≡ t
     and-left true = refl
     and-left false = refl
-
--- the clauses of the list are over the variables
-pub list-formed : (ws : List ℕ) (m : ℕ) {n : ℕ} → Formed (withTriangles ws m) n → Formed (clausesIn ws) n
-list-formed ws m f = record { below = λ c k. f .below c (Memᴰ·append-left (triangles m) k) }

@@ -38,8 +38,8 @@ returns-2 c =
     let c18 = c9 .before .before .before .before .before .before .before .before .before in
     rw (c2 .not-false .ensures) (laws.first-solved (c18 .pre .0) (c18 .args .budget) (c9 .settle .ensures .0) (c4 .if1 .left) (c .if2 .taken))
 
-turns-any-requires : tie.Need-turns-any-requires
-turns-any-requires c κs =
+turns-left-requires : tie.Need-turns-left-requires
+turns-left-requires c κs =
     let c8 = c .before .before .before .before .before .before .before .before in
     let c13 = c8 .before .before .before .before .before in
     let c22 = c13 .before .before .before .before .before .before .before .before .before in
@@ -60,8 +60,8 @@ returns-3 c =
     let c13 = c11 .before .before in
     let c18 = c13 .before .before .before .before .before in
     let c27 = c18 .before .before .before .before .before .before .before .before .before in
-    let the-turns-any = c4 .turns-any in
-    laws.first-outcome (c27 .pre .0) (c27 .args .budget) (c18 .settle .ensures .0) (c13 .if1 .left) (the-turns-any .result) _ (c11 .not-false .ensures) (the-turns-any .ensures)
+    let the-turns-left = c4 .turns-left in
+    laws.first-outcome (c27 .pre .0) (c27 .args .budget) (c18 .settle .ensures .0) (c13 .if1 .left) (the-turns-left .result) _ (c11 .not-false .ensures) (the-turns-left .ensures)
 
 pub finish-spec : {M : Type 1} → statement M
 finish-spec =
@@ -75,7 +75,7 @@ finish-spec =
     same-length-3
     same-length-4
     returns-2
-    turns-any-requires
+    turns-left-requires
     same-length-5
     same-length-6
     returns-3)

@@ -123,7 +123,7 @@ places-again c =
 sub-if3 : tie.Need-sub-if3 Inv-places μ-places
 sub-if3 c =
     let the-places = c .before .before .before .before .before .before .before .before .places in
-    omega (arith, the-places .inv .0 .room, the-places .inv .1)
+    omega (arith, the-places .inv .0 .so-far .room, the-places .inv .1)
 
 sub-if3-2 : tie.Need-sub-if3-2 Inv-places μ-places
 sub-if3-2 c = search needs
@@ -164,7 +164,7 @@ put-words-requires c κs =
     let c11 = c10 .before in
     let c22 = c11 .before .before .before .before .before .before .before .before .before .before .before in
     let s = c22 .pre .places _ (getD-mem (c22 .args .places .now) _ 0 (c10 .places-test .taken)) in
-    omega (arith, laws.lent-size (c8 .wide .ensures) s (c6 .wide2 .ensures), c2 .if3 .left, c11 .places .inv .0 .room)
+    omega (arith, laws.lent-size (c8 .wide .ensures) s (c6 .wide2 .ensures), c2 .if3 .left, c11 .places .inv .0 .so-far .room)
 
 places-less-2 : tie.Need-places-less-2 Inv-places μ-places
 places-less-2 c = search needs
@@ -178,7 +178,7 @@ places-again-2 c =
     let s = c .before .before .before .before .before .before .before .before .before .before .before .before .before .before .before .before .before .before .before .before .before .before .before .before .before .pre .places _ (getD-mem (c .before .before .before .before .before .before .before .before .before .before .before .before .before .before .before .before .before .before .before .before .before .before .before .before .before .args .places .now) _ 0 (the-places-test .taken)) in
     let put = c .before .before .put-words .ensures in
     let open-still = laws.lent-held (the-wide .ensures) s (the-wide2 .ensures) _ (sym (c .before .before .before .before .before .before .if2 .left) ∙ c .before .before .before .before .before .before .before .holds .ensures) in
-    (laws.lighten-put (the-places .inv .0) (the-places-test .taken) open-still (omega (arith, put .0, laws.lent-size (the-wide .ensures) s (the-wide2 .ensures), c .before .before .before .before .before .if3 .left, the-places .inv .0 .room)) (put .1) (laws.lent-words (the-wide .ensures) s (the-wide2 .ensures)), search needs)
+    (laws.lighten-put (the-places .inv .0) (the-places-test .taken) open-still (omega (arith, put .0, laws.lent-size (the-wide .ensures) s (the-wide2 .ensures), c .before .before .before .before .before .if3 .left, the-places .inv .0 .so-far .room)) (put .1) (laws.lent-words (the-wide .ensures) s (the-wide2 .ensures)), search needs)
 
 same-length-2 : tie.Need-same-length-2 Inv-places μ-places
 same-length-2 c = c .before .places .inv .1 ∙ search needs
