@@ -14,23 +14,19 @@ use Rattle.limits.specs.declared.Limits.{Limits}
 use Rattle.format.specs.File.{trailer, start, tableOf, records, ofStates}
 use Rattle.format.specs.Reading.{Readable, startsOf}
 use Rattle.format.specs.declared.Starts.{Starts}
-use Rattle.format.proofs.Passed.{Tested, formed-tested}
-use Rattle.format.proofs.Bytes.{read-well-formed}
 use Rattle.view.specs.Sections.{partOf}
 use Rattle.view.specs.declared.Section.the-variants.{States, Internals, Calls, Returns}
 use Rattle.view.proofs.Parts.{states-at, internals-at, calls-at, returns-at}
 use Rattle.reach.specs.Tops.{topWords, liveReturns}
 use Rattle.tops.specs.Steps.{examinedOf}
 use Rattle.tops.specs.declared.Examined.{Examined}
-use Rattle.tops.proofs.Loops.{section-within}
-use Rattle.tops.proofs.Read.{sections-read}
 use Rattle.maps.specs.Known.{Known}
 use Rattle.maps.proofs.Checking.{examined-number}
 use Rattle.encoding.specs.declared.Listed.the-variants.{Refused}
 use Rattle.encoding.specs.Clauses.{lookClauses, transitivity, moveClauses, returnClauses, clauseList, shortList, clauseWords, clausesNumber, ClausesDone, clausesOf}
 use Rattle.emit.specs.Emit.{State, emit}
-use Rattle.recordwise.specs.Sorted.{returnClausesBy}
-use Rattle.clauses.specs.Whole.{Ready, listFor, closureFor, listBy, listedBy}
+use Rattle.recordwise.specs.Returns.{returnClausesBy}
+use Rattle.clauses.specs.Whole.{listFor, closureFor, listBy, listedBy}
 use Rattle.emit.proofs.Emitting.{emit-append}
 
 -- ---- group 2, where the list is to be whole
@@ -69,20 +65,6 @@ refused L b list e n = refuses (clausesNumber L b list) _ (λ k. record { answer
 -- ---- the parts of the file
 
 module _ (L : Limits) (b : List ℕ) (readable : Readable L b) where
-  tested : Tested L (tableOf b)
-  tested = formed-tested (read-well-formed L b readable)
-
-  ready : Ready (slice (start b 1) (start b 2) b) (slice (start b 2) (start b 3) b) (slice (start b 3) (start b 4) b) (slice (start b 4) (trailer b) b)
-  unfolding tableOf
-  ready =
-      let s = sections-read L b readable in
-      record {
-        few = s .few;
-        internals-sorted = record { ascends = tested .internals-ascend; names = section-within (s .few) (s .internals-whole) };
-        calls-sorted = record { ascends = tested .calls-ascend; names = section-within (s .few) (s .calls-whole) };
-        returns-sorted = record { ascends = tested .returns-ascend; names = section-within (s .few) (s .returns-whole) };
-      }
-
   listed-for : (whole : Bool) → listBy whole (slice (start b 1) (start b 2) b) (slice (start b 2) (start b 3) b) (slice (start b 3) (start b 4) b) (slice (start b 4) (trailer b) b) (topWords (tableOf b)) ≡ listFor whole (tableOf b)
   unfolding listBy clauseList shortList lookClauses transitivity returnClauses returnClausesBy liveReturns tableOf
   listed-for true = refl
@@ -102,9 +84,6 @@ module _ {b : List ℕ} {s : Starts} {tops : List ℕ} (k : Known b s tops) {sta
     (e1 : states ≡ partOf b s States) (e2 : internals ≡ partOf b s Internals) (e3 : calls ≡ partOf b s Calls) (e4 : returns ≡ partOf b s Returns) where
   starts : s ≡ startsOf b
   starts = k .read .starts
-
-  pub parts-ready : Ready states internals calls returns
-  parts-ready = rw (e1 ∙ states-at b starts, e2 ∙ internals-at b starts, e3 ∙ calls-at b starts, e4 ∙ returns-at b starts) (ready (k .limits) b (k .read .readable))
 
   pub parts-listed : (whole : Bool) (list : List ℕ) {d : ClausesDone} → d ≡ listedBy (listBy whole states internals calls returns tops) list → d ≡ listedBy (listFor whole (tableOf b)) list
   parts-listed whole list f =

@@ -1,23 +1,15 @@
 -- What the code that writes the whole clause list is stated with. Assumes nothing.
 use mathlib.Core.Bool.{Bool, true, false}
 use mathlib.Core.List.{List, [], _++_}
-use Prim.Native.Nat.{ℕ, _≤_}
+use Prim.Native.Nat.{ℕ}
 use lib.ListN.{length}
 use lib.Dec.{leb}
 use Rattle.lists.specs.Lists.{over}
-use Rattle.limits.specs.Limits.{stateMost}
 use Rattle.format.specs.File.{Table, records, ofStates}
 use Rattle.cnf.specs.Clauses.{wordsOf}
 use Rattle.encoding.specs.declared.Listed.the-variants.{List as Words, Refused}
-use Rattle.recordwise.specs.Sorted.{Sorted, returnClausesBy}
+use Rattle.recordwise.specs.Returns.{returnClausesBy}
 use Rattle.encoding.specs.Clauses.{lookClauses, transitivity, moveClauses, ClausesDone, clauseList, shortList}
-
--- at most 40 states, and sections that ascend and name states
-pub record Ready (states internals calls returns : List ℕ) : Type 0 where
-  pub few : length states ≤ stateMost
-  pub internals-sorted : Sorted 3 internals
-  pub calls-sorted : Sorted 3 calls
-  pub returns-sorted : Sorted 4 returns
 
 -- the whole list of a table, or the one without group 2
 abbrev pub listFor : Bool → Table → List (List ℕ)

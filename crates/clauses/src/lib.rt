@@ -8,7 +8,8 @@ ghost use Rattle.maps.specs.Known.{Known};
 ghost use Rattle.encoding.specs.Clauses.{clausesOf, ClausesSays};
 ghost use Rattle.encoding.specs.Demands.{ListSound};
 ghost use Rattle.emit.specs.Emit.{state, Ordered, emit};
-ghost use Rattle.clauses.specs.Whole.{closureFor, Ready, listFor, listBy, listedBy};
+ghost use Rattle.index.specs.Index.{LentParts};
+ghost use Rattle.clauses.specs.Whole.{closureFor, listFor, listBy, listedBy};
 use emit::Tally;
 use encoding::Listed;
 use format::Starts;
@@ -41,7 +42,7 @@ fn all_groups(
     tally: Tally,
     list: &mut [u16],
 ) -> Tally
-    requires { ⌜ Ready (now states) (now internals) (now calls) (now returns) × Ordered tally ⌝ }
+    requires { ⌜ LentParts (now states) (now internals) (now calls) (now returns) × Ordered tally ⌝ }
     ensures { λ r. ⌜
         state r (now (list .exit))
         ≡ emit (listBy whole (now (states .entry)) (now (internals .entry)) (now (calls .entry)) (now (returns .entry)) (now (tops .entry)))
@@ -65,7 +66,7 @@ fn list_sections(
     tops: &[u64; 40],
     list: &mut [u16],
 ) -> Listed
-    requires { ⌜ Ready (now states) (now internals) (now calls) (now returns) ⌝ }
+    requires { ⌜ LentParts (now states) (now internals) (now calls) (now returns) ⌝ }
     ensures { λ r. ⌜
         record { answer = r; list = now (list .exit) }
         ≡ listedBy (listBy whole (now (states .entry)) (now (internals .entry)) (now (calls .entry)) (now (returns .entry)) (now (tops .entry)))

@@ -14,8 +14,8 @@ use Rattle.lists.proofs.Copying.{length-over}
 use Rattle.emit.specs.declared.literals.Literals.{Literals}
 use Rattle.emit.specs.Emit.{literalsOf, withLiteral, Holds}
 
--- the words of a clause are 42
-pub whole : (words : List ℕ) → length (map (λ v. v) words) ≡ 42 → length words ≡ 42
+-- the words of a clause are 3
+pub whole : (words : List ℕ) → length (map (λ v. v) words) ≡ 3 → length words ≡ 3
 whole words e = sym (length-map words (λ v. v)) ∙ e
 
 -- ---- looking for a literal: it is among all of them where it is among those to come
@@ -47,11 +47,11 @@ module _ {l : ℕ} {words : List ℕ} {n i : ℕ} (w : Seeking l words n i) wher
 
 -- ---- one literal more
 
-pub kept-literal : (c : Literals) (l : ℕ) → length (c .words) ≡ 42 → c .n < 42 → mem l (literalsOf c) ≡ true → Holds c (withLiteral (literalsOf c) l)
+pub kept-literal : (c : Literals) (l : ℕ) → length (c .words) ≡ 3 → c .n < 3 → mem l (literalsOf c) ≡ true → Holds c (withLiteral (literalsOf c) l)
 unfolding withLiteral
 kept-literal c l h k e = rw (e, withLiteral) (record { count = sym (length-take-le (c .n) (c .words) (omega arith)); same = refl })
 
-pub new-literal : (c : Literals) (l : ℕ) → length (c .words) ≡ 42 → c .n < 42 → mem l (literalsOf c) ≡ false → Holds (record { words = set (c .words) (c .n) l; n = c .n + 1 }) (withLiteral (literalsOf c) l)
+pub new-literal : (c : Literals) (l : ℕ) → length (c .words) ≡ 3 → c .n < 3 → mem l (literalsOf c) ≡ false → Holds (record { words = set (c .words) (c .n) l; n = c .n + 1 }) (withLiteral (literalsOf c) l)
 unfolding withLiteral
 new-literal c l h k e =
     rw (e, withLiteral)
@@ -60,53 +60,53 @@ new-literal c l h k e =
       same = rw (add-one (c .n)) (take-suc-set (c .words) (c .n) l (omega arith));
     })
 
--- ---- storing a clause's words: the count and the first i literals stand at the front
+-- ---- storing a clause's words: the count k and the first i literals stand at the front
 
-pub record Storing (n : ℕ) (words rest₀ rest : List ℕ) (i : ℕ) : Type 0 where
+pub record Storing (k n : ℕ) (words rest₀ rest : List ℕ) (i : ℕ) : Type 0 where
   pub long : n ≤ length words
   pub room : n < length rest₀
   pub inside : i ≤ n
-  pub meets : rest ≡ over (n ∷ take i words) rest₀
+  pub meets : rest ≡ over (k ∷ take i words) rest₀
 
-pub storing : (n : ℕ) (words rest : List ℕ) → n ≤ length words → n < length rest → Storing n words (set rest 0 n) (set rest 0 n) 0
+pub storing : (k n : ℕ) (words rest : List ℕ) → n ≤ length words → n < length rest → Storing k n words (set rest 0 k) (set rest 0 k) 0
 unfolding over
-storing n words (x ∷ rest) h k = record { long = h; room = k; inside = omega arith; meets = refl }
-storing n words [] h k = absurd (omega arith)
+storing k n words (x ∷ rest) h l = record { long = h; room = l; inside = omega arith; meets = refl }
+storing k n words [] h l = absurd (omega arith)
 
 -- the count was stored first
-counted : (n : ℕ) (ls rest : List ℕ) → over (n ∷ ls) (set rest 0 n) ≡ over (n ∷ ls) rest
+count-first : (k : ℕ) (ls rest : List ℕ) → over (k ∷ ls) (set rest 0 k) ≡ over (k ∷ ls) rest
 unfolding over
-counted n ls [] = refl
-counted n ls (x ∷ rest) = refl
+count-first k ls [] = refl
+count-first k ls (x ∷ rest) = refl
 
-module _ {n : ℕ} {words rest₀ rest : List ℕ} {i : ℕ} (w : Storing n words rest₀ rest i) where
-  taken : length (n ∷ take i words) ≡ i + 1
+module _ {k n : ℕ} {words rest₀ rest : List ℕ} {i : ℕ} (w : Storing k n words rest₀ rest i) where
+  taken : length (k ∷ take i words) ≡ i + 1
   taken = omega (arith, w, length-take-le i words (omega (arith, w)))
 
   pub stored-length : length rest ≡ length rest₀
-  stored-length = ap length (w .meets) ∙ length-over (n ∷ take i words) rest₀ (omega (arith, w, taken))
+  stored-length = ap length (w .meets) ∙ length-over (k ∷ take i words) rest₀ (omega (arith, w, taken))
 
-  pub store-on : i < n → Storing n words rest₀ (set rest (i + 1) (getD words i 0)) (i + 1)
+  pub store-on : i < n → Storing k n words rest₀ (set rest (i + 1) (getD words i 0)) (i + 1)
   unfolding over
   store-on h =
-      let k : i + 1 < length rest₀ = omega (arith, w) in
+      let l : i + 1 < length rest₀ = omega (arith, w) in
       let v = getD words i 0 in
-      let next : drop (i + 1) rest₀ ≡ getD rest₀ (i + 1) 0 ∷ drop (suc (i + 1)) rest₀ = drop-cons rest₀ (i + 1) 0 k in
-      let tail : drop (length (n ∷ take i words)) rest₀ ≡ getD rest₀ (i + 1) 0 ∷ drop (suc (i + 1)) rest₀ = ap (λ m. drop m rest₀) taken ∙ next in
-      let more : (n ∷ take i words) ++ (v ∷ []) ≡ n ∷ take (i + 1) words = ap (λ ys. n ∷ ys) (sym (take-suc words i 0 (omega (arith, w)))) ∙ rw add-one in
-      let long : length (n ∷ take (i + 1) words) ≡ suc (i + 1) = ap length (sym more) ∙ length-append (n ∷ take i words) (v ∷ []) ∙ omega (arith, taken) in
+      let next : drop (i + 1) rest₀ ≡ getD rest₀ (i + 1) 0 ∷ drop (suc (i + 1)) rest₀ = drop-cons rest₀ (i + 1) 0 l in
+      let tail : drop (length (k ∷ take i words)) rest₀ ≡ getD rest₀ (i + 1) 0 ∷ drop (suc (i + 1)) rest₀ = ap (λ m. drop m rest₀) taken ∙ next in
+      let more : (k ∷ take i words) ++ (v ∷ []) ≡ k ∷ take (i + 1) words = ap (λ ys. k ∷ ys) (sym (take-suc words i 0 (omega (arith, w)))) ∙ rw add-one in
+      let long : length (k ∷ take (i + 1) words) ≡ suc (i + 1) = ap length (sym more) ∙ length-append (k ∷ take i words) (v ∷ []) ∙ omega (arith, taken) in
       record {
         long = w .long;
         room = w .room;
         inside = omega arith;
         meets =
-            ap (λ r. set r (i + 1) v) (w .meets ∙ ap (λ t. (n ∷ take i words) ++ t) tail)
-            ∙ set-at (n ∷ take i words) (getD rest₀ (i + 1) 0) (drop (suc (i + 1)) rest₀) v (i + 1) taken
-            ∙ sym (append-snoc (n ∷ take i words) v (drop (suc (i + 1)) rest₀))
+            ap (λ r. set r (i + 1) v) (w .meets ∙ ap (λ t. (k ∷ take i words) ++ t) tail)
+            ∙ set-at (k ∷ take i words) (getD rest₀ (i + 1) 0) (drop (suc (i + 1)) rest₀) v (i + 1) taken
+            ∙ sym (append-snoc (k ∷ take i words) v (drop (suc (i + 1)) rest₀))
             ∙ (λ j. more j ++ drop (sym long j) rest₀);
       }
 
-pub stored : (rest : List ℕ) {n : ℕ} {words rest' : List ℕ} {i : ℕ} → Storing n words (set rest 0 n) rest' i → n ≤ i → rest' ≡ over (n ∷ take n words) rest
-stored rest {n} {words} {rest'} {i} w h =
+pub stored : (rest : List ℕ) {k n : ℕ} {words rest' : List ℕ} {i : ℕ} → Storing k n words (set rest 0 k) rest' i → n ≤ i → rest' ≡ over (k ∷ take n words) rest
+stored rest {k} {n} {words} {rest'} {i} w h =
     let e : i ≡ n = omega (arith, w) in
-    w .meets ∙ ap (λ m. over (n ∷ take m words) (set rest 0 n)) e ∙ counted n (take n words) rest
+    w .meets ∙ ap (λ m. over (k ∷ take m words) (set rest 0 k)) e ∙ count-first k (take n words) rest

@@ -5,6 +5,7 @@ use mathlib.Core.Bool.{Bool, true, false, _&&_}
 use mathlib.Core.List.{List, [], _∷_, _++_, append-nil}
 use Prim.Native.Nat.{ℕ, _+_, _-_, _≤_, _<_}
 use native.Mathlib.Omega.{arith}
+use native.Mathlib.Decide.{decLt}
 use lib.ListN.{length, take, drop, length-append, length-drop, drop-of-length-le}
 use lib.Seq.{take-all, length-take-le}
 use lib.Dec.{ltb, leb}
@@ -13,47 +14,80 @@ use Rattle.lists.specs.Lists.{over}
 use Rattle.lists.proofs.Members.{and-true}
 use Rattle.lists.proofs.Copying.{length-over}
 use Rattle.emit.specs.declared.emit.Tally.{Tally}
-use Rattle.emit.specs.Emit.{State, state, Ordered, place, written, emitOne, emit}
+use Rattle.emit.specs.Emit.{State, state, Ordered, countedBy, place, written, emitOne, emit}
 
 -- ---- one clause
 
+-- the test that a clause of n literals is written
+abbrev pub Tested : Bool → Tally → ℕ → ℕ → Type 0
+Tested b t n room = b ≡ (t .write && leb (t .words + 1 + n) room)
+
+module _ (t : Tally) (n room : ℕ) where
+  -- the code's own test, where there is room for the words so far
+  pub writes-by : {b : Bool} → t .write ≡ true → t .words ≤ room → b ≡ ltb n (room - t .words) → Tested b t n room
+  writes-by w l e = e ∙ rw (w, _&&_) (go (decLt n (room - t .words)))
+    where
+      go : Dec (n < room - t .words) → ltb n (room - t .words) ≡ leb (t .words + 1 + n) room
+      go (yes h) = lt-ltb _ _ h ∙ sym (le-leb (t .words + 1 + n) room (omega arith))
+      go (no h) = le-ltb n (room - t .words) (omega arith) ∙ sym (lt-leb (t .words + 1 + n) room (omega arith))
+
+  pub writes-none : t .write ≡ false → Tested false t n room
+  writes-none w = sym (rw w)
+
+  pub writes-full : room < t .words → Tested false t n room
+  writes-full l = sym (ap (λ b. t .write && b) (lt-leb (t .words + 1 + n) room (omega arith)) ∙ and-none (t .write))
+    where
+      and-none : (b : Bool) → (b && false) ≡ false
+      and-none true = refl
+      and-none false = refl
+
+  pub counted-full : room < t .words → t ≡ countedBy t n room
+  unfolding countedBy
+  counted-full h = sym (rw (lt-ltb _ _ h, countedBy))
+
+  pub counted-more : t .words ≤ room → record { write = t .write; clauses = t .clauses + 1; words = t .words + 1 + n } ≡ countedBy t n room
+  unfolding countedBy
+  counted-more h = sym (rw (le-ltb _ _ h, countedBy))
+
 module _ (t : Tally) (c list : List ℕ) where
-  -- the counts behind the clause
-  abbrev counted : ℕ → Tally
-  counted n = record { write = t .write; clauses = t .clauses + 1; words = t .words + 1 + n }
-
-  pub put-full : length list < t .words → state t list ≡ emit (c ∷ []) (state t list)
-  unfolding emit emitOne
-  put-full h = sym (rw (lt-ltb _ _ h, emitOne))
-
-  put-one : {n : ℕ} {list' : List ℕ} → n ≡ length c → t .words ≤ length list → list' ≡ written t c list → state (counted n) list' ≡ emit (c ∷ []) (state t list)
-  unfolding emit emitOne
-  put-one e h w = (λ i. state (counted (e i)) (w i)) ∙ sym (rw (le-ltb _ _ h, emitOne))
-
-  pub put-counted : {n : ℕ} → n ≡ length c → t .words ≤ length list → t .write ≡ false → state (counted n) list ≡ emit (c ∷ []) (state t list)
+  unwritten : Tested false t (length c) (length list) → written t c list ≡ list
   unfolding written
-  put-counted e h w = put-one e h (sym (rw (w, written)))
+  unwritten e = rw (sym e, written)
 
-  pub put-short : {n : ℕ} → n ≡ length c → t .words ≤ length list → t .write ≡ true → length list < t .words + 1 + n → state (counted n) list ≡ emit (c ∷ []) (state t list)
-  unfolding written
-  put-short e h w l =
-      let k : length list < t .words + 1 + length c = omega arith in
-      put-one e h (sym (rw (w, lt-leb _ _ k, written)))
+  -- the counts and the buffer, each by itself
+  emit-one : emit (c ∷ []) (state t list) ≡ state (countedBy t (length c) (length list)) (written t c list)
+  unfolding emit emitOne
+  emit-one = go (decLt (length list) (t .words))
+    where
+      go : Dec (length list < t .words) → emitOne c (state t list) ≡ state (countedBy t (length c) (length list)) (written t c list)
+      go (yes h) = rw (lt-ltb _ _ h, emitOne) (λ i. state (counted-full t (length c) (length list) h i) (sym (unwritten (writes-full t (length c) (length list) h)) i))
+      go (no h) = rw (le-ltb (length list) (t .words) (omega arith), emitOne) (λ i. state (counted-more t (length c) (length list) (omega arith) i) (written t c list))
 
-  -- the clause's words are stored in the remaining buffer
-  pub put-stored : {n : ℕ} (out : List ℕ) → n ≡ length c → t .words ≤ length list → t .write ≡ true → t .words + 1 + n ≤ length list
-      → out ≡ over (n ∷ c) (take (length list - t .words) (drop (t .words) list))
-      → state (counted n) (take (t .words) list ++ (out ++ drop (length list - t .words) (drop (t .words) list))) ≡ emit (c ∷ []) (state t list)
-  unfolding written place
-  put-stored {n} out e h w l s =
-      let k : t .words + 1 + length c ≤ length list = omega arith in
-      let d = length-drop (t .words) list in
-      let all : take (length list - t .words) (drop (t .words) list) ≡ drop (t .words) list = take-all (length list - t .words) (drop (t .words) list) (omega arith) in
-      let none : drop (length list - t .words) (drop (t .words) list) ≡ [] = drop-of-length-le (drop (t .words) list) {i = length list - t .words} (omega arith) in
-      put-one e h
-      ((λ i. take (t .words) list ++ (s i ++ none i))
-      ∙ ap (λ r. take (t .words) list ++ r) (append-nil _ ∙ (λ i. over (e i ∷ c) (all i)))
-      ∙ sym (rw (w, le-leb _ _ k, written)))
+  module _ {n : ℕ} {b : Bool} {r : Tally} (e : n ≡ length c) (d : Tested b t n (length list)) (k : r ≡ countedBy t n (length list)) where
+    counts : r ≡ countedBy t (length c) (length list)
+    counts = k ∙ ap (λ m. countedBy t m (length list)) e
+
+    test : {v : Bool} → b ≡ v → Tested v t (length c) (length list)
+    test f = sym f ∙ d ∙ ap (λ m. t .write && leb (t .words + 1 + m) (length list)) e
+
+    pub put-unwritten : b ≡ false → state r list ≡ emit (c ∷ []) (state t list)
+    put-unwritten f = (λ i. state (counts i) (sym (unwritten (test f)) i)) ∙ sym emit-one
+
+    -- the clause's words are stored in the remaining buffer
+    pub put-stored : b ≡ true → {out : List ℕ} → out ≡ over (n ∷ c) (take (length list - t .words) (drop (t .words) list))
+        → state r (take (t .words) list ++ (out ++ drop (length list - t .words) (drop (t .words) list))) ≡ emit (c ∷ []) (state t list)
+    unfolding written place
+    put-stored f {out} s =
+        let l = length-drop (t .words) list in
+        let all : take (length list - t .words) (drop (t .words) list) ≡ drop (t .words) list = take-all (length list - t .words) (drop (t .words) list) (omega arith) in
+        let none : drop (length list - t .words) (drop (t .words) list) ≡ [] = drop-of-length-le (drop (t .words) list) {i = length list - t .words} (omega arith) in
+        let there : take (t .words) list ++ (out ++ drop (length list - t .words) (drop (t .words) list)) ≡ written t c list
+        = (λ i. take (t .words) list ++ (s i ++ none i)) ∙ ap (λ x. take (t .words) list ++ x) (append-nil _ ∙ (λ i. over (e i ∷ c) (all i))) ∙ sym (rw (sym (test f), written)) in
+        (λ i. state (counts i) (there i)) ∙ sym emit-one
+
+  -- where a clause of n literals is written
+  pub put-room : (n : ℕ) {b : Bool} → Tested b t n (length list) → b ≡ true → t .words + 1 + n ≤ length list
+  put-room n d f = leb-true _ _ (and-true (t .write) (leb (t .words + 1 + n) (length list)) (sym d ∙ f) .1)
 
 -- ---- several clauses
 

@@ -1,18 +1,22 @@
 -- A clause tidied literal by literal is the tidy clause, and a clause with its premises first. Assumes nothing.
 use mathlib.Core.Path.{_≡_, refl, sym, ap, _∙_, subst}
 use mathlib.Core.Logic.{_⊎_, inl, inr, _≢_}
-use mathlib.Core.Bool.{Bool, true, false, _||_, or-comm}
-use mathlib.Core.List.{List, [], _∷_, _++_, append-assoc, append-nil, map, List·Memᴰ, List·Memᴰ·head, List·Memᴰ·tail, Memᴰ·append-left, Memᴰ·append-right, List·Memᴰ·append-cases as append-cases, List·Memᴰ·not-nil as not-nil, List·Memᴰ·eq-of-singleton as eq-of-singleton, List·Memᴰ·cases-cons as cases-cons}
-use Prim.Native.Nat.{ℕ, _%_}
+use mathlib.Core.Bool.{Bool, true, false, _||_, or-comm, true≢false}
+use mathlib.Core.List.{List, [], _∷_, _++_, append-assoc, append-nil, map, List·Memᴰ, List·Memᴰ·head, List·Memᴰ·tail, Memᴰ·map, Memᴰ·of-map, Memᴰ·append-left, Memᴰ·append-right, List·Memᴰ·append-cases as append-cases, List·Memᴰ·not-nil as not-nil, List·Memᴰ·eq-of-singleton as eq-of-singleton, List·Memᴰ·cases-cons as cases-cons}
+use Prim.Native.Nat.{ℕ, suc, _%_, _<_, _≤_}
 use native.Mathlib.Omega.{arith}
+use native.Mathlib.Decide.{decLt}
 use lib.Dec.{eqb}
-use borrow.Author.Tests.{eq-eqb, ne-eqb}
+use borrow.Author.Tests.{eq-eqb, ne-eqb, eqb-true}
 use Rattle.lists.specs.Lists.{any, mem}
-use Rattle.lists.proofs.Members.{any-true, any-false, mem-true, mem-false, mem-snoc}
+use Rattle.lists.proofs.Members.{or-true, or-false, any-true, any-false, mem-true, mem-of, mem-false, mem-snoc}
+use Rattle.pairs.specs.Pairs.{variableOf}
 use Rattle.pairs.specs.Triangles.{together, apart}
+use Rattle.pairs.proofs.Pairs.{variable-sym, variable-injective}
 use Rattle.encoding.specs.Clauses.{opposite, once, tidy, premise, matching}
 use Rattle.encoding.proofs.Tidy.{opposite-half, opposite-sign}
-use Rattle.emit.specs.Emit.{withLiteral, withAll, tidyFrom, matchingFrom}
+use Rattle.emit.specs.Emit.{withLiteral, withAll, tidyFrom, matchingFrom, leaves, Ascending, Negative}
+use Rattle.emit.specs.Emit.Ascending.{none, next}
 
 opposite-twice : (l : ℕ) → opposite (opposite l) ≡ l
 opposite-twice l = omega (arith, opposite-half (opposite l), opposite-half l, opposite-sign (opposite l), opposite-sign l)
@@ -51,7 +55,7 @@ not-mem x xs h = go (mem x xs) refl
 -- ---- a tautology
 
 -- a literal to come and its opposite among those kept and those to come
-pub record Both (kept ls : List ℕ) : Type 0 where
+record Both (kept ls : List ℕ) : Type 0 where
   pub one : ℕ
   pub to-come : List·Memᴰ one ls
   pub other : List·Memᴰ (opposite one) kept ⊎ List·Memᴰ (opposite one) ls
@@ -132,11 +136,8 @@ tidy-from ls = go (any (λ l. mem (opposite l) ls) ls) refl
 
 -- ---- premises first: every literal of theirs says "false"
 
-Negative : List ℕ → Type 0
-Negative ls = (x : ℕ) → List·Memᴰ x ls → x % 2 ≡ 1
-
 premises-first : (kept ps rest : List ℕ) → Negative kept → Negative ps → tidyFrom kept (ps ++ rest) ≡ tidyFrom (withAll kept ps) rest
-unfolding tidyFrom withAll Negative
+unfolding tidyFrom withAll
 premises-first kept [] rest h k = refl
 premises-first kept (l ∷ ps) rest h k =
     let even : mem (opposite l) kept ≡ false = not-mem (opposite l) kept (λ x m e. let a = h x m in let b = k l (List·Memᴰ·head refl) in omega (arith, opposite-sign l)) in
@@ -146,13 +147,22 @@ premises-first kept (l ∷ ps) rest h k =
     odd x (inl m) = h x m
     odd x (inr e) = ap (λ y. y % 2) e ∙ k l (List·Memᴰ·head refl)
 
-premise-negative : (p q : ℕ) → Negative (premise p q)
-unfolding premise Negative
+pub premise-negative : (p q : ℕ) → Negative (premise p q)
+unfolding premise
 premise-negative p q x = go (eqb p q)
   where
     go : (t : Bool) → List·Memᴰ x (elim t [ true ↦ [] | false ↦ apart p q ∷ [] ]) → x % 2 ≡ 1
     go true m = absurd (not-nil m)
     go false m = let e = eq-of-singleton m in omega arith
+
+pub with-negative : (kept ps : List ℕ) → Negative kept → Negative ps → Negative (withAll kept ps)
+unfolding withAll
+with-negative kept [] h k = h
+with-negative kept (l ∷ ps) h k = with-negative (withLiteral kept l) ps (λ x m. odd x (mem-with kept l x m)) (λ x m. k x (List·Memᴰ·tail m))
+  where
+    odd : (x : ℕ) → List·Memᴰ x kept ⊎ (x ≡ l) → x % 2 ≡ 1
+    odd x (inl m) = h x m
+    odd x (inr e) = ap (λ y. y % 2) e ∙ k l (List·Memᴰ·head refl)
 
 with-append : (kept ps qs : List ℕ) → withAll kept (ps ++ qs) ≡ withAll (withAll kept ps) qs
 unfolding withAll
@@ -160,7 +170,7 @@ with-append kept [] qs = refl
 with-append kept (l ∷ ps) qs = with-append (withLiteral kept l) ps qs
 
 matching-first : (ps : List ℕ) (p' : ℕ) (qs : List ℕ) → Negative ps → matching ps p' qs ≡ matchingFrom (withAll [] ps) p' qs
-unfolding matching matchingFrom Negative
+unfolding matching matchingFrom
 matching-first ps p' qs h = ap (λ (cs : List (List ℕ)). elim (mem p' qs) as (λ _. List (List ℕ)) [ true ↦ [] | false ↦ cs ]) (tidy-from (ps ++ map (together p') qs) ∙ premises-first [] ps (map (together p') qs) (λ x m. absurd (not-nil m)) h)
 
 -- one premise, for a move; two, for a return
@@ -168,7 +178,6 @@ pub matching-one : (p q p' : ℕ) (qs : List ℕ) → matching (premise p q) p' 
 matching-one p q p' qs = matching-first (premise p q) p' qs (premise-negative p q)
 
 pub matching-two : (p q s u p' : ℕ) (qs : List ℕ) → matching (premise p q ++ premise s u) p' qs ≡ matchingFrom (withAll (withAll [] (premise p q)) (premise s u)) p' qs
-unfolding Negative
 matching-two p q s u p' qs =
     matching-first (premise p q ++ premise s u) p' qs (λ x m. either x (append-cases (premise p q) m))
     ∙ ap (λ kept. matchingFrom kept p' qs) (with-append [] (premise p q) (premise s u))
@@ -177,36 +186,70 @@ matching-two p q s u p' qs =
     either x (inl m) = premise-negative p q x m
     either x (inr m) = premise-negative s u x m
 
--- ---- a loop over the targets: the clause, or none, that the targets to come make of the literals kept
+-- ---- the clause of literals kept and of targets that ascend: left out by one of them, or all its literals as they come
 
-pub record Matching (all : List (List ℕ)) (kept : List ℕ) (p' : ℕ) (rest : List ℕ) : Type 0 where
-  pub meets : all ≡ matchingFrom kept p' rest
+-- a state has a variable of its own with each other one
+together-apart : (p q r : ℕ) → q ≢ p → r ≢ p → q < r → together p q ≢ together p r
+together-apart p q r a b l e = go (decLt p q) (decLt p r)
+  where
+    halves : variableOf p q ≡ variableOf p r
+    halves = omega (arith, e)
 
-module _ {all : List (List ℕ)} {kept : List ℕ} {p' q : ℕ} {qs : List ℕ} (w : Matching all kept p' (q ∷ qs)) where
-  -- "some q' = p'"
-  pub match-itself : q ≡ p' → all ≡ []
-  unfolding matchingFrom mem any
-  match-itself e = w .meets ∙ rw (eq-eqb p' q (sym e), matchingFrom)
+    go : Dec (p < q) → Dec (p < r) → ⊥
+    go (yes c) (yes d) = omega (arith, variable-injective p q p r c d halves .1)
+    go (yes c) (no d) = omega arith
+    go (no c) (yes d) = omega (arith, b, variable-injective q p p r (omega (arith, a)) d (variable-sym q p ∙ halves) .0)
+    go (no c) (no d) = omega (arith, variable-injective q p r p (omega (arith, a)) (omega (arith, b)) (variable-sym q p ∙ halves ∙ variable-sym p r) .0)
 
-  match-other : q ≢ p' → all ≡ elim (mem p' qs) [ true ↦ [] | false ↦ tidyFrom kept (together p' q ∷ map (together p') qs) ]
-  unfolding matchingFrom mem any
-  match-other d = w .meets ∙ rw (ne-eqb p' q (λ e. d (sym e)), matchingFrom)
+ascending-from : {m : ℕ} {qs : List ℕ} → Ascending m qs → (q : ℕ) → List·Memᴰ q qs → m ≤ q
+ascending-from none q k = absurd (not-nil k)
+ascending-from {m} (next {q = r} {qs = rs} l up) q k = go (cases-cons k) (ascending-from up q)
+  where
+    go : (q ≡ r) ⊎ List·Memᴰ q rs → (List·Memᴰ q rs → suc r ≤ q) → m ≤ q
+    go (inl e) ih = omega arith
+    go (inr k) ih = omega (arith, ih k)
 
-  -- "a variable both ways"
-  pub match-both : q ≢ p' → mem (opposite (together p' q)) kept ≡ true → all ≡ []
-  unfolding tidyFrom
-  match-both d e = match-other d ∙ go (mem p' qs)
+-- no literal is repeated
+once-all : (p' : ℕ) {m : ℕ} (before : List ℕ) {qs : List ℕ} → Ascending m qs → ((q : ℕ) → List·Memᴰ q qs → q ≢ p') → ((q : ℕ) → List·Memᴰ q qs → mem (together p' q) before ≡ false)
+    → once before (map (together p') qs) ≡ map (together p') qs
+unfolding once
+once-all p' before none d h = refl
+once-all p' before (next {q = q} {qs = qs} l up) d h =
+    rw (h q (List·Memᴰ·head refl), once) (ap (λ ls. together p' q ∷ ls) (once-all p' (together p' q ∷ before) up (λ r m. d r (List·Memᴰ·tail m)) later))
+  where
+    later : (r : ℕ) → List·Memᴰ r qs → mem (together p' r) (together p' q ∷ before) ≡ false
+    later r m = unfold mem any in
+        rw (ne-eqb (together p' r) (together p' q) (λ e. together-apart p' q r (d q (List·Memᴰ·head refl)) (d r (List·Memᴰ·tail m)) (ascending-from up r m) (sym e))) (h r (List·Memᴰ·tail m))
+
+module _ (kept : List ℕ) (p' : ℕ) (qs : List ℕ) where
+  abbrev literals : List ℕ
+  literals = map (together p') qs
+
+  -- "Left out if some q' = p'"; "A clause with a variable both ways is left out."
+  pub matching-left : any (leaves kept p') qs ≡ true → matchingFrom kept p' qs ≡ []
+  unfolding matchingFrom leaves
+  matching-left e = let r = any-true (leaves kept p') qs e in go (r .0) (r .1) (or-true (eqb (r .0) p') (mem (opposite (together p' (r .0))) kept) (r .2))
     where
-      go : (t : Bool) → _≡_ {A = List (List ℕ)} (elim t [ true ↦ [] | false ↦ tidyFrom kept (together p' q ∷ map (together p') qs) ]) []
-      go true = refl
-      go false = rw (e, tidyFrom)
+      unless : (t : Bool) → tidyFrom kept literals ≡ [] → _≡_ {A = List (List ℕ)} (elim t [ true ↦ [] | false ↦ tidyFrom kept literals ]) []
+      unless true f = refl
+      unless false f = f
 
-  pub match-on : q ≢ p' → mem (opposite (together p' q)) kept ≡ false → Matching all (withLiteral kept (together p' q)) p' qs
-  unfolding tidyFrom matchingFrom
-  match-on d e =
-      let step : tidyFrom kept (together p' q ∷ map (together p') qs) ≡ tidyFrom (withLiteral kept (together p' q)) (map (together p') qs) = rw (e, tidyFrom) in
-      record { meets = match-other d ∙ ap (λ (cs : List (List ℕ)). elim (mem p' qs) as (λ _. List (List ℕ)) [ true ↦ [] | false ↦ cs ]) step }
+      go : (q : ℕ) → List·Memᴰ q qs → (eqb q p' ≡ true) ⊎ (mem (opposite (together p' q)) kept ≡ true) → matchingFrom kept p' qs ≡ []
+      go q m (inl f) = let g : mem p' qs ≡ true = mem-of p' qs (subst (λ (x : ℕ). List·Memᴰ x qs) (eqb-true q p' f) m) in rw (g, matchingFrom)
+      go q m (inr f) = unless (mem p' qs) (left-out kept literals (record { one = together p' q; to-come = Memᴰ·map (together p') m; other = inl (mem-true _ kept f) }))
 
-pub matched : {all : List (List ℕ)} {kept : List ℕ} {p' : ℕ} → Matching all kept p' [] → all ≡ kept ∷ []
-unfolding matchingFrom tidyFrom mem any
-matched w = w .meets
+  module _ (e : any (leaves kept p') qs ≡ false) where
+    stays : (q : ℕ) → List·Memᴰ q qs → (q ≢ p') × (mem (opposite (together p' q)) kept ≡ false)
+    unfolding leaves
+    stays q m = let f = or-false (eqb q p') (mem (opposite (together p' q)) kept) (any-false (leaves kept p') qs e q m) in ((λ g. true≢false (sym (eq-eqb q p' g) ∙ f .0)), f .1)
+
+    apart-from : (l x : ℕ) → List·Memᴰ l literals → List·Memᴰ x kept ⊎ List·Memᴰ x literals → opposite l ≢ x
+    apart-from l x m (inl k) = let r = Memᴰ·of-map (together p') qs m in λ f. mem-false (opposite (together p' (r .0))) kept (stays (r .0) (r .1) .1) x k (ap opposite (r .2) ∙ f)
+    apart-from l x m (inr k) = let r = Memᴰ·of-map (together p') qs m in let s = Memᴰ·of-map (together p') qs k in λ f. omega (arith, opposite-sign l, r .2, s .2, f)
+
+    pub matching-kept : {m : ℕ} → Negative kept → Ascending m qs → matchingFrom kept p' qs ≡ (kept ++ literals) ∷ []
+    unfolding matchingFrom
+    matching-kept n up =
+        let other : mem p' qs ≡ false = not-mem p' qs (λ y m f. stays y m .0 (sym f)) in
+        let new : once kept literals ≡ literals = once-all p' kept up (λ q m. stays q m .0) (λ q m. not-mem (together p' q) kept (λ y k f. omega (arith, n y k, f))) in
+        rw (other, matchingFrom) (written-once kept kept literals (λ x. refl) apart-from ∙ ap (λ ls. (kept ++ ls) ∷ []) new)

@@ -1,11 +1,11 @@
 -- What the code that writes the clause list is stated with: the literals of one clause, and clauses counted and written one behind the
 -- other. Only contracts of functions that write clauses cite it. Assumes nothing.
 use mathlib.Core.Path.{_≡_}
-use mathlib.Core.Bool.{true, false, _&&_}
-use mathlib.Core.List.{List, [], _∷_, _++_, map}
-use Prim.Native.Nat.{ℕ, _+_, _-_, _≤_}
+use mathlib.Core.Bool.{Bool, true, false, _&&_, _||_}
+use mathlib.Core.List.{List, [], _∷_, _++_, map, List·Memᴰ}
+use Prim.Native.Nat.{ℕ, suc, _+_, _-_, _%_, _≤_}
 use lib.ListN.{length, getD, take, drop}
-use lib.Dec.{ltb, leb}
+use lib.Dec.{eqb, ltb, leb}
 use Rattle.lists.specs.Lists.{mem, over}
 use Rattle.pairs.specs.Triangles.{together}
 use Rattle.format.specs.File.{records}
@@ -36,9 +36,22 @@ tidyFrom kept (l ∷ ls) = elim (mem (opposite l) kept) [ true ↦ [] | false �
 unfoldable pub matchingFrom : List ℕ → ℕ → List ℕ → List (List ℕ)
 matchingFrom kept p' qs = elim (mem p' qs) [ true ↦ [] | false ↦ tidyFrom kept (map (together p') qs) ]
 
+-- a target that leaves the clause out: p' itself, or one that makes a variable both ways with a literal kept
+unfoldable pub leaves : List ℕ → ℕ → ℕ → Bool
+leaves kept p' q = eqb q p' || mem (opposite (together p' q)) kept
+
+-- numbers that ascend from m on
+pub data Ascending : ℕ → List ℕ → Type 0 where
+  none : {m : ℕ} → Ascending m []
+  next : {m q : ℕ} {qs : List ℕ} → m ≤ q → Ascending (suc q) qs → Ascending m (q ∷ qs)
+
 -- the targets of records of w bytes
 abbrev pub lastBytes : ℕ → List ℕ → List ℕ
 lastBytes w s = map (λ r. getD r (w - 1) 0) (records w s)
+
+-- every literal says that a pair is not joined, as premises do
+abbrev pub Negative : List ℕ → Type 0
+Negative ls = (l : ℕ) → List·Memᴰ l ls → l % 2 ≡ 1
 
 -- the clause has these literals
 pub record Holds (c : Literals) (ls : List ℕ) : Type 0 where
@@ -58,6 +71,10 @@ state t list = record { tally = t; list = list }
 -- there are no more clauses than words
 abbrev pub Ordered : Tally → Type 0
 Ordered t = t .clauses ≤ t .words
+
+-- the counts behind a clause of n literals more, where the buffer has room for so many words; nothing changes once there are more
+unfoldable pub countedBy : Tally → ℕ → ℕ → Tally
+countedBy t n room = elim (ltb room (t .words)) [ true ↦ t | false ↦ record { write = t .write; clauses = t .clauses + 1; words = t .words + 1 + n } ]
 
 -- the buffer with words put at a place
 unfoldable pub place : ℕ → List ℕ → List ℕ → List ℕ

@@ -1,10 +1,12 @@
 // Clauses counted and written, one behind the other.
 ghost use mathlib.Core.Path.{_≡_};
 ghost use mathlib.Core.List.{[], _∷_};
-ghost use Prim.Native.Nat.{_<_, _≤_};
+ghost use mathlib.Core.Bool.{_&&_};
+ghost use Prim.Native.Nat.{_+_, _^_, _<_, _≤_};
 ghost use lib.ListN.{length};
+ghost use lib.Dec.{leb};
 ghost use Rattle.lists.specs.Lists.{over};
-ghost use Rattle.emit.specs.Emit.{literalsOf, state, Ordered, emit};
+ghost use Rattle.emit.specs.Emit.{literalsOf, state, Ordered, countedBy, emit};
 use super::literals::Literals;
 
 // What is counted so far, and whether it is written too.
@@ -14,13 +16,41 @@ pub struct Tally {
     pub words: usize,
 }
 
-// A clause's words, "its literal count, then the literals", at the front of the remaining buffer.
-fn store(clause: Literals, rest: &mut [u16])
-    requires { ⌜ (clause .n ≤ 42) × (clause .n < length (now rest)) ⌝ }
-    ensures { λ _. ⌜ now (rest .exit) ≡ over (clause .n ∷ literalsOf clause) (now (rest .entry)) ⌝ }
+// Whether a clause of n literals is written: where it is to be and where it fits.
+pub fn writes(tally: Tally, n: usize, room: usize) -> bool
+    ensures { λ r. ⌜ r ≡ (tally .write && leb (tally .words + 1 + n) room) ⌝ }
+{
+    if !tally.write {
+        return false;
+    }
+    if room < tally.words {
+        return false;
+    }
+    n < room - tally.words
+}
+
+// What is counted with a clause of n literals more. Nothing changes once there are more words than the list has room for.
+pub fn counted(tally: Tally, n: usize, room: usize) -> Tally
+    requires { ⌜ (n ≤ 42) × (room < 2 ^ 63) × Ordered tally ⌝ }
+    ensures { λ r. ⌜ r ≡ countedBy tally n room ⌝ }
+{
+    if room < tally.words {
+        return tally;
+    }
+    Tally {
+        write: tally.write,
+        clauses: tally.clauses + 1,
+        words: tally.words + 1 + n,
+    }
+}
+
+// A clause's first words, "its literal count, then the literals", at the front of the remaining buffer: the count, and the literals collected.
+pub fn store(clause: Literals, count: usize, rest: &mut [u16])
+    requires { ⌜ (clause .n ≤ 3) × (clause .n < length (now rest)) × (count ≤ 42) ⌝ }
+    ensures { λ _. ⌜ now (rest .exit) ≡ over (count ∷ literalsOf clause) (now (rest .entry)) ⌝ }
 {
     let n = clause.n;
-    rest[0] = n as u16;
+    rest[0] = count as u16;
     let mut i: usize = 0;
     'literals: while i < n {
         rest[i + 1] = clause.words[i];
@@ -28,25 +58,17 @@ fn store(clause: Literals, rest: &mut [u16])
     }
 }
 
-// One clause: it is counted, and written where it is to be and where it fits. Nothing changes once there are more words than the list has.
+// One clause, whose literals are all collected: it is counted, and written where it is to be and where it fits.
 pub fn put(clause: Literals, tally: Tally, list: &mut [u16]) -> Tally
-    requires { ⌜ (clause .n ≤ 42) × Ordered tally ⌝ }
+    requires { ⌜ (clause .n ≤ 3) × Ordered tally ⌝ }
     ensures { λ r. ⌜ state r (now (list .exit)) ≡ emit (literalsOf clause ∷ []) (state tally (now (list .entry))) ⌝ }
 {
+    let n = clause.n;
+    let room = list.len();
+    if !writes(tally, n, room) {
+        return counted(tally, n, room);
+    }
     let at = tally.words;
-    if list.len() < at {
-        return tally;
-    }
-    let end = at + 1 + clause.n;
-    let next = Tally {
-        write: tally.write,
-        clauses: tally.clauses + 1,
-        words: end,
-    };
-    if tally.write {
-        if end <= list.len() {
-            store(clause, &mut list[at..]);
-        }
-    }
-    next
+    store(clause, n, &mut list[at..]);
+    counted(tally, n, room)
 }

@@ -3,7 +3,10 @@ mod emit;
 mod literals;
 
 pub use emit::Tally;
+pub use emit::counted;
 pub use emit::put;
+pub use emit::store;
+pub use emit::writes;
 pub use literals::Literals;
 pub use literals::add_literal;
 pub use literals::contains;

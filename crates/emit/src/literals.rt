@@ -1,4 +1,4 @@
-// The literals of one clause, collected before it is written.
+// The literals of one clause that are collected before it is written.
 ghost use mathlib.Core.Path.{_≡_};
 ghost use mathlib.Core.List.{[]};
 ghost use Prim.Native.Nat.{_<_, _≤_};
@@ -9,9 +9,9 @@ ghost use Rattle.encoding.specs.Clauses.{opposite};
 ghost use Rattle.emit.specs.Emit.{literalsOf, withLiteral, Holds};
 use pairs::variable_of;
 
-// The first n words; a clause has at most 42 literals: two premises, and a target for each state.
+// The first n words: three are a clause of groups 1 and 2, two the premises of one with targets.
 pub struct Literals {
-    pub words: [u16; 42],
+    pub words: [u16; 3],
     pub n: usize,
 }
 
@@ -40,14 +40,14 @@ pub fn no_literals() -> Literals
     ensures { λ r. ⌜ Holds r [] ⌝ }
 {
     Literals {
-        words: [0u16; 42],
+        words: [0u16; 3],
         n: 0,
     }
 }
 
 // Whether a literal is among the first n words.
-pub fn contains(words: &[u16; 42], n: usize, l: u16) -> bool
-    requires { ⌜ (n ≤ 42) × (length (now words) ≡ 42) ⌝ }
+pub fn contains(words: &[u16; 3], n: usize, l: u16) -> bool
+    requires { ⌜ (n ≤ 3) × (length (now words) ≡ 3) ⌝ }
     ensures { λ r. ⌜ r ≡ mem l (take n (now (words .entry))) ⌝ }
 {
     let mut i: usize = 0;
@@ -61,9 +61,9 @@ pub fn contains(words: &[u16; 42], n: usize, l: u16) -> bool
 }
 
 // "A repeated literal is written once, at its first place": one literal more behind the first n words, and how many there are then.
-pub fn add_literal(words: &mut [u16; 42], n: usize, l: u16) -> usize
-    requires { ⌜ (n < 42) × (length (now words) ≡ 42) ⌝ }
-    ensures { λ r. ⌜ Holds (record { words = now (words .exit); n = r }) (withLiteral (take n (now (words .entry))) l) × (length (now (words .exit)) ≡ 42) ⌝ }
+pub fn add_literal(words: &mut [u16; 3], n: usize, l: u16) -> usize
+    requires { ⌜ (n < 3) × (length (now words) ≡ 3) ⌝ }
+    ensures { λ r. ⌜ Holds (record { words = now (words .exit); n = r }) (withLiteral (take n (now (words .entry))) l) × (length (now (words .exit)) ≡ 3) ⌝ }
 {
     if contains(words, n, l) {
         return n;
@@ -74,7 +74,7 @@ pub fn add_literal(words: &mut [u16; 42], n: usize, l: u16) -> usize
 
 // The same of a clause.
 pub fn with_literal(c: Literals, l: u16) -> Literals
-    requires { ⌜ c .n < 42 ⌝ }
+    requires { ⌜ c .n < 3 ⌝ }
     ensures { λ r. ⌜ Holds r (withLiteral (literalsOf c) l) ⌝ }
 {
     let mut words = c.words;

@@ -231,7 +231,8 @@ module _ (w : ℕ) (s : List ℕ) (from m : ℕ) (p : 0 < w) (h : from + m ≤ l
   cut : length (take (m * w) (drop (from * w) s)) / w ≡ m
   cut = ap (λ n. n / w) (length-take-le (m * w) (drop (from * w) s) (omega (arith, room, length-drop (from * w) s))) ∙ mul-div-cancel m p
 
-  span-records : records w (take (m * w) (drop (from * w) s)) ≡ take m (drop from (records w s))
+  -- the records from one index on, so many of them
+  pub span-records : records w (take (m * w) (drop (from * w) s)) ≡ take m (drop from (records w s))
   unfolding records
   span-records =
       ap (λ k. parts k w (take (m * w) (drop (from * w) s))) cut

@@ -1,3 +1,2 @@
-pub mod Index
 pub mod Stepping
 pub mod Ending

@@ -7,7 +7,6 @@ use Prim.Native.Nat.{ℕ, zero, suc, _+_, _*_, _/_, _%_, _-_, _^_, _<_, _≤_}
 use native.Mathlib.Omega.{arith}
 use native.Mathlib.Numerals.{add-one}
 use native.Mathlib.Nat.{add-zero}
-use native.Mathlib.Decide.{decLt}
 use lib.ListN.{length, getD, set, take, drop, drop-of-length-le, length-take}
 use lib.Seq.{drop-cons, slice, slice-empty, slice-cons, set-getD}
 use lib.Dec.{eqb}
@@ -19,8 +18,10 @@ use Rattle.limits.specs.Limits.{stateMost, symbolMost}
 use Rattle.format.specs.File.{records}
 use Rattle.reach.specs.Tops.{add}
 use Rattle.scripts.specs.Script.{Level, gains, gained, gain, byReturn}
-use Rattle.levels.specs.Levels.{Lent, placeOf, placeMost, Indexed, allGain, popped}
-use Rattle.levels.proofs.Index.{symbol-small, state-small}
+use Rattle.index.specs.Index.{Lent, placeOf, places, Indexed}
+use Rattle.levels.specs.Levels.{allGain, popped}
+use Rattle.index.proofs.Index.{symbol-small, state-small}
+use Rattle.index.proofs.Blocks.{begin-rising}
 
 -- nothing is gained by no tops
 add-none : (g : Level) (q : ℕ) {w : ℕ} → w ≡ 0 → add g q w ≡ g
@@ -107,29 +108,18 @@ module _ (gain : List ℕ → ℕ) (to a : ℕ) (rs : List (List ℕ)) (starts :
     pub inside : q ≤ n
     pub passing : Passing gain to a rs before (getD starts (q * symbolMost) 0) g
 
-module _ {w n : ℕ} {s : List ℕ} (wide : 3 ≤ w) (few : n ≤ stateMost) (h : Lent w n s) {starts : List ℕ} (x : Indexed (records w s) starts) (gain : List ℕ → ℕ) (to : ℕ) {a : ℕ} (la : a < symbolMost) (before : Level) where
+module _ {w n : ℕ} {s : List ℕ} (wide : 3 ≤ w) (few : n ≤ stateMost) (h : Lent w n s) {starts : List ℕ} (x : Indexed n (records w s) starts) (gain : List ℕ → ℕ) (to : ℕ) {a : ℕ} (la : a < symbolMost) (before : Level) where
   abbrev rs : List (List ℕ)
   rs = records w s
 
-  -- places in their order begin in their order
-  up : (y z : ℕ) → y ≤ z → z < placeMost → getD starts y 0 ≤ getD starts z 0
-  up y z l m = go (decLt (getD starts z 0) (getD starts y 0))
-    where
-      go : Dec (getD starts z 0 < getD starts y 0) → getD starts y 0 ≤ getD starts z 0
-      go (yes d) =
-          let b = x .each y (omega arith) in
-          let c = x .each z m in
-          absurd (omega (arith, b .before (getD starts z 0) d, c .behind (getD starts z 0) (omega arith) (omega (arith, d, b .within))))
-      go (no d) = omega arith
-
   -- what a record between two places is
-  low : (y k : ℕ) → y < placeMost → getD starts y 0 ≤ k → k < length rs → y ≤ placeOf (getD rs k [])
+  low : (y k : ℕ) → y ≤ places n → getD starts y 0 ≤ k → k < length rs → y ≤ placeOf (getD rs k [])
   low y k m l i = x .each y m .behind k l i
 
-  high : (y k : ℕ) → y < placeMost → k < getD starts y 0 → placeOf (getD rs k []) < y
+  high : (y k : ℕ) → y ≤ places n → k < getD starts y 0 → placeOf (getD rs k []) < y
   high y k m l = x .each y m .before k l
 
-  there : (y k : ℕ) → y < placeMost → k < getD starts y 0 → k < length rs
+  there : (y k : ℕ) → y ≤ places n → k < getD starts y 0 → k < length rs
   there y k m l = omega (arith, x .each y m .within)
 
   pub stepping : Stepping gain to a rs starts n before 0 before
@@ -150,7 +140,7 @@ module _ {w n : ℕ} {s : List ℕ} (wide : 3 ≤ w) (few : n ≤ stateMost) (h 
           record {
             inside = omega arith;
             passing =
-                skip gain to a rs before (p .passing) (up (q * symbolMost) ((q + 1) * symbolMost) (omega arith) (omega arith)) (x .each ((q + 1) * symbolMost) (omega arith) .within)
+                skip gain to a rs before (p .passing) (begin-rising x (q * symbolMost) ((q + 1) * symbolMost) (omega arith) (omega arith)) (x .each ((q + 1) * symbolMost) (omega arith) .within)
                 (λ k b c. let i = there ((q + 1) * symbolMost) k (omega arith) c in inr (z (getD rs k []) (omega (arith, low (q * symbolMost) k (omega arith) b i, high ((q + 1) * symbolMost) k (omega arith) c, symbol-small h k i))));
           }
 
@@ -158,14 +148,14 @@ module _ {w n : ℕ} {s : List ℕ} (wide : 3 ≤ w) (few : n ≤ stateMost) (h 
       pub step-by : (rule : List ℕ → ℕ) {i j : ℕ} {g' : Level} → ((r : List ℕ) → getD r 0 0 ≡ q → rule r ≡ gain r) → i ≡ getD starts (q * symbolMost + a) 0 → j ≡ getD starts (q * symbolMost + a + 1) 0 → g' ≡ allGain rule to (slice i j rs) g → Stepping gain to a rs starts n before (q + 1) g'
       step-by rule {i} {j} {g'} same d e f =
           let y = q * symbolMost in
-          let one = skip gain to a rs before (p .passing) (up y (y + a) (omega arith) (omega arith)) (x .each (y + a) (omega arith) .within)
+          let one = skip gain to a rs before (p .passing) (begin-rising x y (y + a) (omega arith) (omega arith)) (x .each (y + a) (omega arith) .within)
           (λ k b c. let i = there (y + a) k (omega arith) c in inl (λ z. omega (arith, z, low y k (omega arith) b i, high (y + a) k (omega arith) c))) in
-          let two = run gain to a rs before rule one (up (y + a) (y + a + 1) (omega arith) (omega arith)) (x .each (y + a + 1) (omega arith) .within)
+          let two = run gain to a rs before rule one (begin-rising x (y + a) (y + a + 1) (omega arith) (omega arith)) (x .each (y + a + 1) (omega arith) .within)
           (λ k b c. let i = there (y + a + 1) k (omega arith) c in let lo = low (y + a) k (omega arith) b i in let hi = high (y + a + 1) k (omega arith) c in let sm = symbol-small h k i in (omega arith, same (getD rs k []) (omega arith))) (f ∙ (λ k. allGain rule to (slice (d k) (e k) rs) g)) in
           record {
             inside = omega arith;
             passing =
-                skip gain to a rs before two (up (y + a + 1) ((q + 1) * symbolMost) (omega arith) (omega arith)) (x .each ((q + 1) * symbolMost) (omega arith) .within)
+                skip gain to a rs before two (begin-rising x (y + a + 1) ((q + 1) * symbolMost) (omega arith) (omega arith)) (x .each ((q + 1) * symbolMost) (omega arith) .within)
                 (λ k b c. let i = there ((q + 1) * symbolMost) k (omega arith) c in inl (λ z. omega (arith, z, low (y + a + 1) k (omega arith) b i, high ((q + 1) * symbolMost) k (omega arith) c)));
           }
 

@@ -8,15 +8,10 @@ ghost use Rattle.lists.specs.Bits.{hasBit};
 ghost use Rattle.format.specs.File.{records};
 ghost use Rattle.view.specs.Sections.{sectioned};
 ghost use Rattle.scripts.specs.Script.{gain, moved, returned, ended};
-ghost use Rattle.levels.specs.Levels.{Lent, Indexed, Filled, allGain, popped};
+ghost use Rattle.index.specs.Index.{Lent, Indexed};
+ghost use Rattle.levels.specs.Levels.{allGain, popped};
 use casts::wide;
-
-// An entry of an index as a number of the machine.
-fn place(x: u16) -> usize
-    ensures { λ r. ⌜ r ≡ x ⌝ }
-{
-    x as usize
-}
+use index::place;
 
 // Bit x of a word is 1.
 fn has_bit(word: u64, x: usize) -> bool
@@ -24,38 +19,6 @@ fn has_bit(word: u64, x: usize) -> bool
     ensures { λ r. ⌜ r ≡ hasBit word x ⌝ }
 {
     (word >> x) % 2 == 1
-}
-
-// Every entry from one place up to another is k.
-fn fill(starts: &mut [u16; 2561], from: usize, to: usize, k: u16)
-    requires { ⌜ (to ≤ 2561) × (to ≤ length (now starts)) ⌝ }
-    ensures { λ _. ⌜ Filled from to k (now (starts .entry)) (now (starts .exit)) ⌝ }
-{
-    let mut x = from;
-    'entries: while x < to {
-        starts[x] = k;
-        x += 1;
-    }
-}
-
-// Where the records of each state and symbol begin, in one pass.
-pub fn starts_of(section: &[u8], width: usize) -> [u16; 2561]
-    requires { ⌜ (3 ≤ width) × Lent width 40 (now section) ⌝ }
-    ensures { λ r. ⌜ Indexed (records width (now (section .entry))) r ⌝ }
-{
-    let mut starts = [0u16; 2561];
-    let count = section.len() / width;
-    let mut x: usize = 0;
-    let mut k: usize = 0;
-    'records: while k < count {
-        let at = k * width;
-        let place = wide(section[at]) * 64 + wide(section[at + 1]);
-        fill(&mut starts, x, place + 1, k as u16);
-        x = place + 1;
-        k += 1;
-    }
-    fill(&mut starts, x, 2561, k as u16);
-    starts
 }
 
 // The targets of the moves from one index up to another gain the tops of w.
@@ -116,7 +79,7 @@ pub fn moved(
     call: bool,
     level: &[u64; 40],
 ) -> [u64; 40]
-    requires { ⌜ (n ≤ 40) × (a < 64) × Lent 3 n (now section) × Indexed (records 3 (now section)) (now starts) ⌝ }
+    requires { ⌜ (n ≤ 40) × (a < 64) × Lent 3 n (now section) × Indexed n (records 3 (now section)) (now starts) ⌝ }
     ensures { λ r. ⌜ r ≡ moved (records 3 (now (section .entry))) a call (now (level .entry)) ⌝ }
 {
     let mut words = [0u64; 40];
@@ -147,7 +110,7 @@ pub fn returned(
     level: &[u64; 40],
     below: &[u64; 40],
 ) -> [u64; 40]
-    requires { ⌜ (n ≤ 40) × (a < 64) × Lent 4 n (now section) × Indexed (records 4 (now section)) (now starts) ⌝ }
+    requires { ⌜ (n ≤ 40) × (a < 64) × Lent 4 n (now section) × Indexed n (records 4 (now section)) (now starts) ⌝ }
     ensures { λ r. ⌜ r ≡ returned (records 4 (now (section .entry))) a (now (level .entry)) (now (below .entry)) ⌝ }
 {
     let mut words = [0u64; 40];

@@ -15,13 +15,10 @@ use Rattle.format.specs.Reading.{before, ascendFrom, ascend}
 use Rattle.format.proofs.Order.{before-transitive, ascend-rest}
 use Rattle.format.proofs.Bytes.{records-wide}
 use Rattle.keyed.specs.Spans.{startsWith}
+use Rattle.emit.specs.Emit.{Ascending}
+use Rattle.emit.specs.Emit.Ascending.{none, next}
 
--- numbers that ascend from m on
-data Rising : ℕ → List ℕ → Type 0 where
-  none : {m : ℕ} → Rising m []
-  next : {m q : ℕ} {qs : List ℕ} → m ≤ q → Rising (suc q) qs → Rising m (q ∷ qs)
-
-rising-few : (n : ℕ) {m : ℕ} {qs : List ℕ} → Rising m qs → m ≤ n → ((q : ℕ) → List·Memᴰ q qs → q < n) → m + length qs ≤ n
+rising-few : (n : ℕ) {m : ℕ} {qs : List ℕ} → Ascending m qs → m ≤ n → ((q : ℕ) → List·Memᴰ q qs → q < n) → m + length qs ≤ n
 rising-few n none h k = omega arith
 rising-few n (next l r) h k = let e = rising-few n r (k _ (List·Memᴰ·head refl)) (λ q m. k q (List·Memᴰ·tail m)) in omega arith
 
@@ -64,7 +61,7 @@ module _ (key : List ℕ) where
   abbrev Wide : List (List ℕ) → Type 0
   Wide rs = (r : List ℕ) → List·Memᴰ r rs → length r ≡ suc (length key)
 
-  behind : (r : List ℕ) (rs : List (List ℕ)) → length r ≡ suc (length key) → startsWith key r ≡ true → Wide rs → ascendFrom r rs ≡ true → Rising (suc (target key r)) (map (target key) (keep (startsWith key) rs))
+  behind : (r : List ℕ) (rs : List (List ℕ)) → length r ≡ suc (length key) → startsWith key r ≡ true → Wide rs → ascendFrom r rs ≡ true → Ascending (suc (target key r)) (map (target key) (keep (startsWith key) rs))
   unfolding keep ascendFrom
   behind r [] w c h e = none
   behind r (s ∷ rs) w c h e =
@@ -72,17 +69,18 @@ module _ (key : List ℕ) where
       let p = and-true (before r s) (ascendFrom s rs) e in
       go (startsWith key s) refl (targets-ascend key r s w l c) (λ d. behind s rs l d (λ t m. h t (List·Memᴰ·tail m)) (p .1)) (behind r rs w c (λ t m. h t (List·Memᴰ·tail m)) (ascend-skip r s rs e)) (p .0)
     where
-      go : (t : Bool) → startsWith key s ≡ t → (startsWith key s ≡ true → before r s ≡ true → target key r < target key s) → (startsWith key s ≡ true → Rising (suc (target key s)) (map (target key) (keep (startsWith key) rs)))
-          → Rising (suc (target key r)) (map (target key) (keep (startsWith key) rs)) → before r s ≡ true → Rising (suc (target key r)) (map (target key) (keep (startsWith key) (s ∷ rs)))
+      go : (t : Bool) → startsWith key s ≡ t → (startsWith key s ≡ true → before r s ≡ true → target key r < target key s) → (startsWith key s ≡ true → Ascending (suc (target key s)) (map (target key) (keep (startsWith key) rs)))
+          → Ascending (suc (target key r)) (map (target key) (keep (startsWith key) rs)) → before r s ≡ true → Ascending (suc (target key r)) (map (target key) (keep (startsWith key) (s ∷ rs)))
       go true d lt up skip b = rw (d, keep) (next (lt d b) (up d))
       go false d lt up skip b = rw (d, keep) skip
 
-  rising : (rs : List (List ℕ)) → Wide rs → ascend rs ≡ true → Rising 0 (map (target key) (keep (startsWith key) rs))
+  -- they ascend
+  pub rising : (rs : List (List ℕ)) → Wide rs → ascend rs ≡ true → Ascending 0 (map (target key) (keep (startsWith key) rs))
   unfolding keep ascend
   rising [] h e = none
   rising (r ∷ rs) h e = go (startsWith key r) refl (λ c. behind r rs (h r (List·Memᴰ·head refl)) c (λ t m. h t (List·Memᴰ·tail m)) e) (rising rs (λ t m. h t (List·Memᴰ·tail m)) (ascend-rest r rs e))
     where
-      go : (t : Bool) → startsWith key r ≡ t → (startsWith key r ≡ true → Rising (suc (target key r)) (map (target key) (keep (startsWith key) rs))) → Rising 0 (map (target key) (keep (startsWith key) rs)) → Rising 0 (map (target key) (keep (startsWith key) (r ∷ rs)))
+      go : (t : Bool) → startsWith key r ≡ t → (startsWith key r ≡ true → Ascending (suc (target key r)) (map (target key) (keep (startsWith key) rs))) → Ascending 0 (map (target key) (keep (startsWith key) rs)) → Ascending 0 (map (target key) (keep (startsWith key) (r ∷ rs)))
       go true d up skip = rw (d, keep) (next zero-le (up d))
       go false d up skip = rw (d, keep) skip
 

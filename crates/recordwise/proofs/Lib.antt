@@ -1,3 +1,4 @@
 pub mod Few
 pub mod Moving
+pub mod Walking
 pub mod Returning

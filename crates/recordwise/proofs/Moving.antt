@@ -1,29 +1,31 @@
 -- The clauses of one record and one state, and of a whole record, by the bytes that the code reads. Assumes nothing.
-use mathlib.Core.Path.{_≡_, sym, ap, _∙_}
+use mathlib.Core.Path.{_≡_, sym, ap, _∙_, subst}
 use mathlib.Core.Logic.{_≢_}
 use mathlib.Core.Bool.{Bool, true, false}
-use mathlib.Core.List.{List, [], _∷_, map}
-use Prim.Native.Nat.{ℕ, _+_, _-_, _≤_}
+use mathlib.Core.List.{List, [], _∷_, map, List·Memᴰ, List·Memᴰ·not-nil as not-nil}
+use Prim.Native.Nat.{ℕ, _+_, _-_, _≤_, _<_}
 use native.Mathlib.Omega.{arith}
 use native.Mathlib.Nat.{add-zero}
 use lib.ListN.{length, getD, take, drop, length-take}
 use lib.Dec.{eqb}
 use borrow.Author.Tests.{eq-eqb, ne-eqb}
 use Rattle.lists.specs.Lists.{gather, upto, keep, same}
-use Rattle.limits.specs.Limits.{stateMost}
+use Rattle.limits.specs.Limits.{stateMost, symbolMost}
 use Rattle.pairs.specs.Triangles.{apart}
 use Rattle.format.specs.File.{records}
 use Rattle.format.specs.Language.{targets}
+use Rattle.format.proofs.Bytes.{records-wide}
 use Rattle.keyed.specs.Spans.{startsWith}
 use Rattle.tops.proofs.Loops.{record-byte}
 use Rattle.encoding.specs.Clauses.{premise, moveClause}
 use Rattle.emit.specs.declared.literals.Literals.{Literals}
-use Rattle.emit.specs.Emit.{literalsOf, withAll, Holds, matchingFrom, lastBytes, State, emit}
-use Rattle.recordwise.specs.Sorted.{Sorted}
-use Rattle.emit.proofs.Tidying.{matching-one}
+use Rattle.emit.specs.Emit.{literalsOf, withAll, Negative, Holds, matchingFrom, Ascending, lastBytes, State, emit}
+use Rattle.index.specs.Index.{Lent}
+use Rattle.emit.proofs.Tidying.{premise-negative, with-negative, matching-one}
+use Rattle.targets.specs.Targets.{Premised}
 use Rattle.targets.proofs.Targeting.{with-length}
-use Rattle.emit.proofs.Stepping.{Along, along-on}
-use Rattle.recordwise.proofs.Few.{few-targets}
+use Rattle.emit.proofs.Stepping.{Along, along-here, along-on}
+use Rattle.recordwise.proofs.Few.{rising, few-targets}
 
 -- ---- premises are few
 
@@ -35,6 +37,14 @@ premise-more c {d} p q h = go (eqb p q) (h .count)
     go true e = omega (arith, length-take (c .n) (c .words))
     go false e = omega (arith, with-length (literalsOf c) (apart p q), length-take (c .n) (c .words))
 
+-- ---- premises are negative
+
+pub none-odd : {none : Literals} → Holds none [] → Negative (literalsOf none)
+none-odd z l m = absurd (not-nil (subst (λ (ls : List ℕ). List·Memᴰ l ls) (z .same) m))
+
+pub premise-odd : (c : Literals) {d : Literals} (p q : ℕ) → Negative (literalsOf c) → Holds d (withAll (literalsOf c) (premise p q)) → Negative (literalsOf d)
+premise-odd c p q n h l m = with-negative (literalsOf c) (premise p q) n (premise-negative p q) l (subst (λ (ls : List ℕ). List·Memᴰ l ls) (h .same) m)
+
 -- ---- a move
 
 module _ (s : List ℕ) (p a p' q : ℕ) where
@@ -43,8 +53,14 @@ module _ (s : List ℕ) (p a p' q : ℕ) where
   move-self t e = sym (rw (eq-eqb q p e, moveClause))
 
   module _ (found : List ℕ) {none c : Literals} (f : records 3 found ≡ keep (startsWith (q ∷ a ∷ [])) (records 3 s)) (z : Holds none []) (h : Holds c (withAll (literalsOf none) (premise p q))) where
-    pub move-room : Sorted 3 s → c .n + length (records 3 found) ≤ 42
-    move-room o = omega (arith, premise-more none p q h, z .count, ap length f, few-targets (q ∷ a ∷ []) stateMost s (o .ascends) (λ r m. o .names .states r m 2 (omega arith) (omega arith)))
+    pub move-premised : Lent 3 stateMost s → Premised 3 found c
+    move-premised o = record {
+      some-width = omega arith;
+      few = omega (arith, ap length f, few-targets (q ∷ a ∷ []) stateMost s (o .in-order) (λ r m. o .states r m 2 (omega arith) (omega arith)));
+      two = omega (arith, premise-more none p q h, z .count);
+      negative = premise-odd none p q (none-odd z) h;
+      ascending = subst (λ (rs : List (List ℕ)). Ascending 0 (map (λ r. getD r 2 0) rs)) (sym f) (rising (q ∷ a ∷ []) (records 3 s) (records-wide 3 s) (o .in-order));
+    }
 
     pub move-other : (t : State) {next : State} → q ≢ p → next ≡ emit (matchingFrom (literalsOf c) p' (lastBytes 3 found)) t → next ≡ emit (moveClause (records 3 s) p a p' q) t
     unfolding moveClause targets startsWith
@@ -54,6 +70,10 @@ module _ (s : List ℕ) (p a p' q : ℕ) where
         ∙ (λ i. emit (matchingFrom (literals i) p' (map (λ r. getD r 2 0) (f i))) t)
         ∙ ap (λ cs. emit cs t) (sym (matching-one p q p' (targets (records 3 s) (q ∷ a ∷ []))))
         ∙ sym (rw (ne-eqb q p d, moveClause))
+
+-- the symbol of the record at a place
+pub symbol-few : {g : List ℕ → List (List ℕ)} {w n : ℕ} {s : List ℕ} {all : List (List ℕ)} {start : State} {at : ℕ} {now : State} → Along g w s all start at now → 1 < w → w ≤ length s - at → Lent w n s → getD s (at + 1) 0 < symbolMost
+symbol-few {w = w} {s = s} {at = at} i p h o = let k = o .symbols (take w (drop at s)) (along-here i (omega arith) h) in omega (arith, record-byte w s at 1 p)
 
 -- the clauses of the record at a place
 pub move-turn : (n : ℕ) {s : List ℕ} {all : List (List ℕ)} {start : State} {at : ℕ} {now next : State}

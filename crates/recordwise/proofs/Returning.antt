@@ -1,8 +1,8 @@
 -- The clauses of returns: one return with one state and one top, the tops of a state in ascending order, and a whole record by the bytes that the
 -- code reads. Assumes nothing.
-use mathlib.Core.Path.{_≡_, refl, sym, ap, _∙_}
+use mathlib.Core.Path.{_≡_, refl, sym, ap, _∙_, subst}
 use mathlib.Core.Logic.{_≢_}
-use mathlib.Core.Bool.{Bool, true, false, _&&_}
+use mathlib.Core.Bool.{Bool, true, false, _&&_, true≢false}
 use mathlib.Core.List.{List, [], _∷_, _++_, map}
 use Prim.Native.Nat.{ℕ, _+_, _-_, _^_, _≤_, _<_}
 use native.Mathlib.Omega.{arith}
@@ -11,26 +11,30 @@ use lib.ListN.{length, getD, take, drop}
 use lib.Pow.{pow-pos}
 use lib.Count.{trailingZeros}
 use lib.Dec.{eqb}
-use Rattle.lists.specs.Lists.{gather, keep, upto}
+use Rattle.lists.specs.Lists.{gather, keep, upto, same}
 use Rattle.lists.specs.Bits.{hasBit, has}
 use Rattle.lists.proofs.Bits.{no-bit}
+use Rattle.lists.proofs.Members.{and-true, and-of}
 use Rattle.lists.proofs.Lowest.{LowestBit, trailing-lowest, keep-none, keep-lowest, bit-le}
 use Rattle.limits.specs.Limits.{stateMost}
 use Rattle.format.specs.File.{records}
 use Rattle.format.specs.Language.{targets}
+use Rattle.format.proofs.Bytes.{records-wide}
 use Rattle.keyed.specs.Spans.{startsWith}
 use Rattle.reach.specs.Tops.{live}
 use Rattle.tops.proofs.Loops.{record-byte}
-use Rattle.encoding.specs.Clauses.{premise, returnClause, topStates}
+use Rattle.encoding.specs.Clauses.{premise, matching, returnClause, topStates}
 use Rattle.emit.specs.declared.literals.Literals.{Literals}
 use Rattle.recordwise.specs.declared.returns.Return.{Return}
-use Rattle.emit.specs.Emit.{literalsOf, withAll, Holds, matchingFrom, lastBytes, State, Ordered, emit}
-use Rattle.recordwise.specs.Sorted.{Sorted, returnOf, liveRecord, returnClausesBy}
+use Rattle.emit.specs.Emit.{literalsOf, withAll, Holds, matchingFrom, Ascending, lastBytes, State, Ordered, emit}
+use Rattle.targets.specs.Targets.{Premised}
+use Rattle.index.specs.Index.{Lent}
+use Rattle.recordwise.specs.Returns.{returnOf, liveRecord, returnClausesBy}
 use Rattle.emit.proofs.Emitting.{Coming, coming, come-on, come-as, come-all, come}
 use Rattle.emit.proofs.Stepping.{Along, along-all, along-here, along-on}
 use Rattle.emit.proofs.Tidying.{matching-two}
-use Rattle.recordwise.proofs.Few.{few-targets}
-use Rattle.recordwise.proofs.Moving.{premise-more}
+use Rattle.recordwise.proofs.Few.{rising, few-targets}
+use Rattle.recordwise.proofs.Moving.{premise-more, none-odd, premise-odd}
 
 -- ---- one clause
 
@@ -41,10 +45,14 @@ module _ (s : List ℕ) (x : Return) (q u : ℕ) where
 
   module _ (found : List ℕ) {none c d : Literals} (f : records 4 found ≡ keep (startsWith (q ∷ x .symbol ∷ u ∷ [])) (records 4 s))
       (z : Holds none []) (h : Holds c (withAll (literalsOf none) (premise (x .from) q))) (k : Holds d (withAll (literalsOf c) (premise (x .under) u))) where
-    pub return-room : Sorted 4 s → d .n + length (records 4 found) ≤ 42
-    return-room o =
-        omega
-        (arith, premise-more none (x .from) q h, premise-more c (x .under) u k, z .count, ap length f, few-targets (q ∷ x .symbol ∷ u ∷ []) stateMost s (o .ascends) (λ r m. o .names .states r m 3 (omega arith) (omega arith)))
+    pub return-premised : Lent 4 stateMost s → Premised 4 found d
+    return-premised o = record {
+      some-width = omega arith;
+      few = omega (arith, ap length f, few-targets (q ∷ x .symbol ∷ u ∷ []) stateMost s (o .in-order) (λ r m. o .states r m 3 (omega arith) (omega arith)));
+      two = omega (arith, premise-more none (x .from) q h, premise-more c (x .under) u k, z .count);
+      negative = premise-odd c (x .under) u (premise-odd none (x .from) q (none-odd z) h) k;
+      ascending = subst (λ (rs : List (List ℕ)). Ascending 0 (map (λ r. getD r 3 0) rs)) (sym f) (rising (q ∷ x .symbol ∷ u ∷ []) (records 4 s) (records-wide 4 s) (o .in-order));
+    }
 
     pub return-other : (t : State) {next : State} {b : Bool} → b ≡ (eqb q (x .from) && eqb u (x .under)) → b ≡ false → next ≡ emit (matchingFrom (literalsOf d) (x .to) (lastBytes 4 found)) t → next ≡ emit (returnOf (records 4 s) x q u) t
     unfolding returnClause targets startsWith
@@ -68,7 +76,7 @@ module _ (g : ℕ → List (List ℕ)) (n : ℕ) where
 
 module _ {g : ℕ → List (List ℕ)} {n : ℕ} {all : List (List ℕ)} {start : State} {rest : ℕ} {now : State} (w : Toward g n all start rest now) where
   module _ {u : ℕ} (d : rest ≢ 0) (e : u ≡ trailingZeros 64 rest) where
-    low : LowestBit rest u
+    pub low : LowestBit rest u
     low = rw e (trailing-lowest 64 rest (w .small) d .1)
 
     -- what is left is less
@@ -93,10 +101,44 @@ module _ {g : ℕ → List (List ℕ)} {n : ℕ} {all : List (List ℕ)} {start 
 
 -- ---- one record
 
+-- what starts with three starts with the first two
+starts-shorter : (q a u : ℕ) (r : List ℕ) → startsWith (q ∷ a ∷ u ∷ []) r ≡ true → startsWith (q ∷ a ∷ []) r ≡ true
+unfolding startsWith same
+starts-shorter q a u [] e = absurd (true≢false (sym e))
+starts-shorter q a u (x ∷ []) e = absurd (true≢false (sym (and-true (eqb q x) false e .1)))
+starts-shorter q a u (x ∷ y ∷ []) e = absurd (true≢false (sym (and-true (eqb a y) false (and-true (eqb q x) (eqb a y && false) e .1) .1)))
+starts-shorter q a u (x ∷ y ∷ z ∷ r) e =
+    let p = and-true (eqb q x) (same (a ∷ u ∷ []) (y ∷ z ∷ [])) e in
+    and-of (p .0) (and-of (and-true (eqb a y) (same (u ∷ []) (z ∷ [])) (p .1) .0) refl)
+
+keep-within : (f g : List ℕ → Bool) (rs : List (List ℕ)) → ((r : List ℕ) → f r ≡ true → g r ≡ true) → keep f (keep g rs) ≡ keep f rs
+unfolding keep
+keep-within f g [] h = refl
+keep-within f g (r ∷ rs) h = go (f r) (g r) refl refl (keep-within f g rs h)
+  where
+    go : (t v : Bool) → f r ≡ t → g r ≡ v → keep f (keep g rs) ≡ keep f rs → keep f (keep g (r ∷ rs)) ≡ keep f (r ∷ rs)
+    go true true a b ih = rw (b, keep, a, keep) (ap (λ ss. r ∷ ss) ih)
+    go true false a b ih = absurd (true≢false (sym (h r a) ∙ b))
+    go false true a b ih = rw (b, keep, a, keep) ih
+    go false false a b ih = rw (b, keep, a, keep) ih
+
+-- the clause by a part that has all the records that it is about is the one by all records
+of-part : (s part : List ℕ) (x : Return) (q u : ℕ) (g : List ℕ → Bool) → ((r : List ℕ) → startsWith (q ∷ x .symbol ∷ u ∷ []) r ≡ true → g r ≡ true) → records 4 part ≡ keep g (records 4 s) → returnOf (records 4 part) x q u ≡ returnOf (records 4 s) x q u
+unfolding returnClause targets startsWith
+of-part s part x q u g h e =
+    let own = startsWith (q ∷ x .symbol ∷ u ∷ []) in
+    let f : keep own (records 4 part) ≡ keep own (records 4 s) = ap (keep own) e ∙ keep-within own g (records 4 s) h in
+    λ i. elim (eqb q (x .from) && eqb u (x .under)) as (λ _. List (List ℕ)) [ true ↦ [] | false ↦ matching (premise (x .from) q ++ premise (x .under) u) (x .to) (map (λ r. getD r 3 0) (f i)) ]
+
+-- by the returns over the top
+pub of-top : (s part : List ℕ) (x : Return) (q u : ℕ) → records 4 part ≡ keep (startsWith (q ∷ x .symbol ∷ u ∷ [])) (records 4 s) → (t : State) {next : State} → next ≡ emit (returnOf (records 4 part) x q u) t → next ≡ emit (returnOf (records 4 s) x q u) t
+of-top s part x q u e t f = f ∙ ap (λ cs. emit cs t) (of-part s part x q u (startsWith (q ∷ x .symbol ∷ u ∷ [])) (λ r h. h) e)
+
 -- the tops of a state are those of its word, which the code reads at i
-pub of-word : (g : ℕ → List (List ℕ)) (f : List ℕ) (n q : ℕ) {i : ℕ} (t : State) {next : State} → i ≡ q → next ≡ emit (gather g (keep (hasBit (getD f i 0)) (upto n))) t → next ≡ emit (gather g (topStates f n q)) t
+pub of-word : (s part : List ℕ) (x : Return) (q : ℕ) → records 4 part ≡ keep (startsWith (q ∷ x .symbol ∷ [])) (records 4 s) → (f : List ℕ) (n : ℕ) {i : ℕ} (t : State) {next : State} → i ≡ q
+    → next ≡ emit (gather (λ u. returnOf (records 4 part) x q u) (keep (hasBit (getD f i 0)) (upto n))) t → next ≡ emit (gather (λ u. returnOf (records 4 s) x q u) (topStates f n q)) t
 unfolding topStates has
-of-word g f n q t e h = h ∙ ap (λ k. emit (gather g (keep (hasBit (getD f k 0)) (upto n))) t) e
+of-word s part x q d f n t e h = h ∙ (λ j. emit (gather (λ u. of-part s part x q u (startsWith (q ∷ x .symbol ∷ [])) (starts-shorter q (x .symbol) u) d j) (keep (hasBit (getD f (e j) 0)) (upto n))) t)
 
 module _ (rs : List (List ℕ)) (f : List ℕ) (n : ℕ) (x : Return) (t : State) {b : Bool} (e : b ≡ has f (x .from) (x .under)) where
   pub dead : b ≡ false → t ≡ emit (liveRecord rs f n x) t
@@ -130,11 +172,11 @@ module _ {s : List ℕ} {g : List ℕ → List (List ℕ)} {all : List (List ℕ
   first : getD (take 4 (drop at s)) 0 0 ≡ getD s at 0
   first = record-byte 4 s at 0 (omega arith) ∙ ap (λ k. getD s k 0) (add-zero at)
 
-  pub from-few : Sorted 4 s → getD s at 0 < stateMost
-  from-few o = let k = o .names .states (take 4 (drop at s)) (along-here i (omega arith) h) 0 (omega arith) (omega arith) in omega (arith, first)
+  pub from-few : Lent 4 stateMost s → getD s at 0 < stateMost
+  from-few o = let k = o .states (take 4 (drop at s)) (along-here i (omega arith) h) 0 (omega arith) (omega arith) in omega (arith, first)
 
-  pub under-few : Sorted 4 s → getD s (at + 2) 0 < stateMost
-  under-few o = let k = o .names .states (take 4 (drop at s)) (along-here i (omega arith) h) 2 (omega arith) (omega arith) in omega (arith, record-byte 4 s at 2 (omega arith))
+  pub under-few : Lent 4 stateMost s → getD s (at + 2) 0 < stateMost
+  under-few o = let k = o .states (take 4 (drop at s)) (along-here i (omega arith) h) 2 (omega arith) (omega arith) in omega (arith, record-byte 4 s at 2 (omega arith))
 
   pub fields-here : record { from = getD s at 0; symbol = getD s (at + 1) 0; under = getD s (at + 2) 0; to = getD s (at + 3) 0 } ≡ fieldsOf (take 4 (drop at s))
   fields-here = λ j. record { from = sym first j; symbol = sym (record-byte 4 s at 1 (omega arith)) j; under = sym (record-byte 4 s at 2 (omega arith)) j; to = sym (record-byte 4 s at 3 (omega arith)) j }

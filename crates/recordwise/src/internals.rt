@@ -1,20 +1,23 @@
 // The clauses of internals and calls: groups 3 and 4 of the list.
 ghost use mathlib.Core.Path.{_≡_};
+ghost use Prim.Native.Nat.{_<_, _≤_};
 ghost use Rattle.lists.specs.Lists.{gather, upto};
 ghost use Rattle.format.specs.File.{records};
 ghost use Rattle.encoding.specs.Clauses.{moveClause, moveClauses};
 ghost use Rattle.emit.specs.Emit.{state, Ordered, emit};
-ghost use Rattle.recordwise.specs.Sorted.{Sorted};
+ghost use Rattle.index.specs.Index.{Lent, Indexed, Placed};
+use casts::wide;
 use emit::Tally;
 use emit::no_literals;
-use keyed::move_key;
-use keyed::starting;
+use index::block;
+use index::starts_of;
 use targets::matched;
 use targets::with_premise;
 
 // The clause of a record (p, a, p') and a state q.
 fn move_clause(
     section: &[u8],
+    starts: &[u16; 2561],
     p: u8,
     a: u8,
     target: u8,
@@ -22,13 +25,13 @@ fn move_clause(
     tally: Tally,
     list: &mut [u16],
 ) -> Tally
-    requires { ⌜ Sorted 3 (now section) × Ordered tally ⌝ }
+    requires { ⌜ Lent 3 40 (now section) × Placed (records 3 (now section)) (now starts) q a × (q < 40) × (a < 64) × Ordered tally ⌝ }
     ensures { λ r. ⌜ state r (now (list .exit)) ≡ emit (moveClause (records 3 (now (section .entry))) p a target q) (state tally (now (list .entry))) ⌝ }
 {
     if q == p {
         return tally;
     }
-    let found = starting(section, 3, move_key(q, a));
+    let found = block(section, 3, starts, q, a);
     let premises = with_premise(no_literals(), p, q);
     matched(found, 3, target, premises, tally, list)
 }
@@ -36,6 +39,7 @@ fn move_clause(
 // "each q other than p ascending"
 fn move_record(
     section: &[u8],
+    starts: &[u16; 2561],
     p: u8,
     a: u8,
     target: u8,
@@ -43,13 +47,13 @@ fn move_record(
     tally: Tally,
     list: &mut [u16],
 ) -> Tally
-    requires { ⌜ Sorted 3 (now section) × Ordered tally ⌝ }
+    requires { ⌜ Lent 3 40 (now section) × Indexed count (records 3 (now section)) (now starts) × (count ≤ 40) × (a < 64) × Ordered tally ⌝ }
     ensures { λ r. ⌜ state r (now (list .exit)) ≡ emit (gather (λ q. moveClause (records 3 (now (section .entry))) p a target q) (upto count)) (state tally (now (list .entry))) ⌝ }
 {
     let mut at = tally;
     let mut q: u8 = 0;
     'states: while q < count {
-        at = move_clause(section, p, a, target, q, at, list);
+        at = move_clause(section, starts, p, a, target, q, at, list);
         q += 1;
     }
     at
@@ -57,9 +61,10 @@ fn move_record(
 
 // 3. "For each internal record (p, a, p') in file order"; 4. "The same for calls." No further once the list is too short.
 pub fn moves(section: &[u8], count: u8, tally: Tally, list: &mut [u16]) -> Tally
-    requires { ⌜ Sorted 3 (now section) × Ordered tally ⌝ }
+    requires { ⌜ Lent 3 count (now section) × (count ≤ 40) × Ordered tally ⌝ }
     ensures { λ r. ⌜ state r (now (list .exit)) ≡ emit (moveClauses (records 3 (now (section .entry))) count) (state tally (now (list .entry))) ⌝ }
 {
+    let starts = starts_of(section, 3, wide(count));
     let mut so_far = tally;
     let mut at: usize = 0;
     'records: while 3 <= section.len() - at {
@@ -68,6 +73,7 @@ pub fn moves(section: &[u8], count: u8, tally: Tally, list: &mut [u16]) -> Tally
         }
         so_far = move_record(
             section,
+            &starts,
             section[at],
             section[at + 1],
             section[at + 2],

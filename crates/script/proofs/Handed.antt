@@ -1,7 +1,7 @@
 -- A read table's sections as they are handed on. Assumes nothing.
-use mathlib.Core.Path.{_≡_, refl, ap, _∙_, subst}
-use mathlib.Core.Bool.{Bool, true, false}
-use mathlib.Core.List.{List, [], _∷_, List·Memᴰ}
+use mathlib.Core.Path.{_≡_, refl, ap, _∙_}
+use mathlib.Core.Bool.{Bool, false}
+use mathlib.Core.List.{List, [], _∷_}
 use mathlib.Core.Option.{Option, none, some}
 use Prim.Native.Nat.{ℕ, zero, suc, _≤_}
 use native.Mathlib.Omega.{arith}
@@ -11,21 +11,16 @@ use Rattle.lists.specs.Lists.{firstFailed}
 use Rattle.lists.proofs.Refusals.{passed}
 use Rattle.limits.specs.Limits.{symbolMost}
 use Rattle.limits.proofs.Within.{limits-within}
-use Rattle.format.specs.File.{Table, tableOf, records}
-use Rattle.format.specs.Limits.{returnLimit}
-use Rattle.format.specs.Reading.{ascend}
-use Rattle.format.specs.Language.{count}
+use Rattle.format.specs.File.{Table, tableOf}
 use Rattle.format.specs.declared.Starts.{Starts}
 use Rattle.format.proofs.Bytes.{read-well-formed}
 use Rattle.format.proofs.Passed.{formed-tested}
-use Rattle.format.proofs.Facts.{Fit, internals-fit, calls-fit, returns-fit, most-states}
 use Rattle.view.specs.Sections.{sectioned, partOf, HasRead}
 use Rattle.view.specs.declared.Section.the-variants.{Symbols, States, Internals, Calls, Returns}
 use Rattle.view.proofs.Parts.{symbols-read, states-read, internals-read, calls-read, returns-read}
 use Rattle.reach.specs.Tops.{startWords}
 use Rattle.scripts.specs.Script.{Levels, behind, ended, reads, started, scriptTests}
-use Rattle.script.specs.Parts.{LentParts, Fits, sectionsRead}
-use Rattle.levels.specs.Levels.{Lent}
+use Rattle.script.specs.Parts.{Fits, sectionsRead}
 
 -- what is read does not hang on the version
 module _ (v u : ℕ) (symbols states internals calls returns : List ℕ) where
@@ -57,31 +52,8 @@ module _ (v u : ℕ) (symbols states internals calls returns : List ℕ) where
   unfolding started startWords sectioned
   version-read w = version-levels w _
 
--- a section's records, by the table's
-lent : {t : Table} {kind w n : ℕ} {rs : List (List ℕ)} {section : List ℕ} → n ≡ count t → length (t .symbols) ≤ symbolMost → records w section ≡ rs → ascend rs ≡ true → length rs ≤ returnLimit → Fit t kind w rs → Lent w n section
-lent e most f up few fit =
-    record {
-      in-order = ap ascend f ∙ up;
-      few = omega (arith, ap length f, few);
-      states = λ r m i d k. omega (arith, e, fit .states r (subst (λ xs. List·Memᴰ r xs) f m) i d k);
-      symbols = λ r m. omega (arith, most, fit .symbol r (subst (λ xs. List·Memᴰ r xs) f m) .0);
-    }
-
 module _ (b : List ℕ) {s : Starts} (h : HasRead b s) {symbols states internals calls returns : List ℕ}
     (e0 : symbols ≡ partOf b s Symbols) (e1 : states ≡ partOf b s States) (e2 : internals ≡ partOf b s Internals) (e3 : calls ≡ partOf b s Calls) (e4 : returns ≡ partOf b s Returns) where
-  pub parts-sections : LentParts states internals calls returns
-  parts-sections =
-      let wf = read-well-formed (h .limits) b (h .known .readable) in
-      let c = formed-tested wf in
-      let all = ap length (states-read (h .known) e1) in
-      let most : length (tableOf b .symbols) ≤ symbolMost = omega (arith, c .symbols-few, limits-within (wf .limits) .symbols) in
-      record {
-        few = omega (arith, all, most-states wf);
-        internals-lent = lent all most (internals-read (h .known) e2) (c .internals-ascend) (omega (arith, c .internals-few)) (internals-fit wf);
-        calls-lent = lent all most (calls-read (h .known) e3) (c .calls-ascend) (omega (arith, c .calls-few)) (calls-fit wf);
-        returns-lent = lent all most (returns-read (h .known) e4) (c .returns-ascend) (c .returns-few) (returns-fit wf);
-      }
-
   -- a table that was read has at most 64 symbols
   pub parts-symbols : length symbols ≤ symbolMost
   parts-symbols =

@@ -1,20 +1,11 @@
--- What the functions of src/ are stated with: the sections of a table that was read, and a script that is not refused. Assumes nothing.
+-- What the functions of src/ are stated with: a script that is not refused, and its answer by the sections of a table. Assumes nothing.
 use mathlib.Core.Path.{_≡_}
 use mathlib.Core.Bool.{Bool, true, false}
 use mathlib.Core.List.{List}
-use Prim.Native.Nat.{ℕ, _≤_}
+use Prim.Native.Nat.{ℕ}
 use lib.ListN.{length, getD}
-use Rattle.limits.specs.Limits.{stateMost}
 use Rattle.view.specs.Sections.{sectioned}
-use Rattle.levels.specs.Levels.{Lent}
 use Rattle.scripts.specs.Script.{reads, started, symbolsFit, tooDeep}
-
--- at most 40 states, and such records
-pub record LentParts (states internals calls returns : List ℕ) : Type 0 where
-  pub few : length states ≤ stateMost
-  pub internals-lent : Lent 3 (length states) internals
-  pub calls-lent : Lent 3 (length states) calls
-  pub returns-lent : Lent 4 (length states) returns
 
 -- a script to which neither 30 nor 31 applies
 pub record Fits (symbols w : List ℕ) : Type 0 where

@@ -7,16 +7,17 @@ ghost use Rattle.limits.specs.Limits.{standard};
 ghost use Rattle.format.specs.File.{tableOf};
 ghost use Rattle.view.specs.Sections.{HasRead};
 ghost use Rattle.scripts.specs.Script.{scriptTests, answerBy, scriptOf, ScriptSays};
-ghost use Rattle.script.specs.Parts.{LentParts, Fits, sectionsRead};
+ghost use Rattle.index.specs.Index.{LentParts};
+ghost use Rattle.script.specs.Parts.{Fits, sectionsRead};
 ghost use Rattle.scripts.specs.Demands.{ScriptExact};
 use casts::wide;
 use depths::script_number;
 use format::Reading;
 use format::Starts;
+use index::starts_of;
 use levels::ended;
 use levels::moved;
 use levels::returned;
-use levels::starts_of;
 use limits::Limits;
 use scripts::Read;
 use view::Section;
@@ -34,9 +35,9 @@ fn reads(
     ensures { λ r. ⌜ r ≡ sectionsRead (now (symbols .entry)) (now (states .entry)) (now (internals .entry)) (now (calls .entry)) (now (returns .entry)) (now (script .entry)) ⌝ }
 {
     let n = states.len();
-    let moves = starts_of(internals, 3);
-    let opens = starts_of(calls, 3);
-    let closes = starts_of(returns, 4);
+    let moves = starts_of(internals, 3, n);
+    let opens = starts_of(calls, 3, n);
+    let closes = starts_of(returns, 4, n);
     let mut level = [0u64; 40];
     initials::start_words(states, &mut level);
     let mut levels = [[0u64; 40]; 64];

@@ -57,11 +57,10 @@ pub fn looks_apart(states: &[u8], tally: Tally, list: &mut [u16]) -> Tally
 fn three(a: u16, b: u16, c: u16) -> Literals
     ensures { λ r. ⌜ Holds r (a ∷ b ∷ c ∷ []) ⌝ }
 {
-    let mut words = [0u16; 42];
-    words[0] = a;
-    words[1] = b;
-    words[2] = c;
-    Literals { words, n: 3 }
+    Literals {
+        words: [a, b, c],
+        n: 3,
+    }
 }
 
 // "pq and qs give ps; pq and ps give qs; ps and qs give pq"

@@ -25,7 +25,7 @@ moves-requires c κs =
     let c7 = c3 .before .before .before .before in
     let c14 = c7 .before .before .before .before .before .before .before in
     let the-pre = c14 .pre in
-    (the-pre .0 .internals-sorted, ordered-by _ _ (c3 .closure .ensures) (ordered-by _ _ (c7 .looks-apart .ensures) (the-pre .1)))
+    (the-pre .0 .internals-lent, omega (arith, the-pre .0 .few), ordered-by _ _ (c3 .closure .ensures) (ordered-by _ _ (c7 .looks-apart .ensures) (the-pre .1)))
 
 moves-requires-2 : tie.Need-moves-requires-2
 moves-requires-2 c κs =
@@ -34,7 +34,7 @@ moves-requires-2 c κs =
     let c11 = c7 .before .before .before .before in
     let c18 = c11 .before .before .before .before .before .before .before in
     let the-pre = c18 .pre in
-    (the-pre .0 .calls-sorted, ordered-by _ _ (c3 .moves .ensures) (ordered-by _ _ (c7 .closure .ensures) (ordered-by _ _ (c11 .looks-apart .ensures) (the-pre .1))))
+    (the-pre .0 .calls-lent, omega (arith, the-pre .0 .few), ordered-by _ _ (c3 .moves .ensures) (ordered-by _ _ (c7 .closure .ensures) (ordered-by _ _ (c11 .looks-apart .ensures) (the-pre .1))))
 
 live-returns-requires : tie.Need-live-returns-requires
 live-returns-requires c κs =
@@ -44,7 +44,7 @@ live-returns-requires c κs =
     let c15 = c11 .before .before .before .before in
     let c22 = c15 .before .before .before .before .before .before .before in
     let the-pre = c22 .pre in
-    (the-pre .0 .returns-sorted, the-pre .0 .few, ordered-by _ _ (c3 .moves2 .ensures) (ordered-by _ _ (c7 .moves .ensures) (ordered-by _ _ (c11 .closure .ensures) (ordered-by _ _ (c15 .looks-apart .ensures) (the-pre .1)))))
+    (the-pre .0 .returns-lent, the-pre .0 .few, ordered-by _ _ (c3 .moves2 .ensures) (ordered-by _ _ (c7 .moves .ensures) (ordered-by _ _ (c11 .closure .ensures) (ordered-by _ _ (c15 .looks-apart .ensures) (the-pre .1)))))
 
 same-length : tie.Need-same-length
 same-length c = search needs

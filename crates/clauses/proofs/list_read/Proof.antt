@@ -1,5 +1,6 @@
 -- `clauses::list_read` meets its contract: the parts handed on are the file's sections. Assumes nothing.
-use Rattle.clauses.proofs.Whole.{parts-ready, parts-listed}
+use Rattle.index.proofs.Parts.{parts-lent}
+use Rattle.clauses.proofs.Whole.{parts-listed}
 use borrow.Author.Needs.{needs}
 use Rattle.clauses.proofs.list_read.Statement.{statement}
 use Rattle.clauses.proofs.list_read.Tie as tie
@@ -23,7 +24,7 @@ list-sections-requires c κs =
     let c3 = c2 .before in
     let c4 = c3 .before in
     let c7 = c4 .before .before .before in
-    parts-ready (c7 .pre)
+    parts-lent (c7 .args .table .now) (c7 .pre .read)
     (c4 .part .ensures) (c3 .part2 .ensures) (c2 .part3 .ensures) (c1 .part4 .ensures)
 
 same-length : tie.Need-same-length

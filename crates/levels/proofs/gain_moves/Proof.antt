@@ -8,7 +8,7 @@ use Rattle.reach.specs.Tops.{add}
 use Prim.Native.Nat.{_-_}
 use Rattle.format.specs.File.{records}
 use Rattle.levels.proofs.Stepping.{Running, running, run-on, run-end}
-use Rattle.levels.proofs.Index.{record-there, byte-at, state-small}
+use Rattle.index.proofs.Index.{record-there, byte-at, state-small}
 use Rattle.levels.proofs.gain_moves.Statement.{statement}
 use Rattle.levels.proofs.gain_moves.Tie as tie
 

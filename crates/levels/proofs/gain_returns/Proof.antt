@@ -11,7 +11,7 @@ use Prim.Native.Nat.{_-_}
 use Rattle.format.specs.File.{records}
 use Rattle.levels.specs.Levels.{popped}
 use Rattle.levels.proofs.Stepping.{Running, running, run-on, run-end, popped-yes, popped-no}
-use Rattle.levels.proofs.Index.{record-there, byte-at, state-small}
+use Rattle.index.proofs.Index.{record-there, byte-at, state-small}
 use Rattle.levels.proofs.gain_returns.Statement.{statement}
 use Rattle.levels.proofs.gain_returns.Tie as tie
 

@@ -8,7 +8,7 @@ use Prim.Native.Nat.{_-_}
 use lib.ListN.{getD}
 use Rattle.format.specs.File.{records}
 use Rattle.scripts.specs.Script.{gain, moved}
-use Rattle.levels.proofs.Index.{lent-more}
+use Rattle.index.proofs.Index.{lent-more}
 use Rattle.levels.proofs.Stepping.{Stepping, stepping, step-over, step-by, stepped-all}
 use Rattle.levels.proofs.moved.Statement.{statement}
 use Rattle.levels.proofs.moved.Tie as tie

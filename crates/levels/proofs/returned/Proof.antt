@@ -9,7 +9,7 @@ use lib.ListN.{getD}
 use Rattle.format.specs.File.{records}
 use Rattle.scripts.specs.Script.{byReturn, returned}
 use Rattle.levels.specs.Levels.{popped}
-use Rattle.levels.proofs.Index.{lent-more}
+use Rattle.index.proofs.Index.{lent-more}
 use Rattle.levels.proofs.Stepping.{Stepping, stepping, step-over, step-by, stepped-all, popped-same, popped-none}
 use Rattle.levels.proofs.returned.Statement.{statement}
 use Rattle.levels.proofs.returned.Tie as tie

@@ -1,6 +1,7 @@
 -- `script::read_known` meets its contract. Assumes nothing.
 use borrow.Author.Needs.{needs}
-use Rattle.script.proofs.Handed.{parts-sections, parts-symbols, parts-read, tests-fit}
+use Rattle.script.proofs.Handed.{parts-symbols, parts-read, tests-fit}
+use Rattle.index.proofs.Parts.{parts-lent}
 use Rattle.scripts.proofs.Answers.{answered, refused}
 use Rattle.scripts.specs.Script.{scriptTests}
 use Rattle.scripts.specs.declared.Read.the-variants.{Refused}
@@ -50,7 +51,7 @@ reads-requires c κs =
     let states = c3 .part2 .ensures in
     let internals = c2 .part3 .ensures in
     let calls = c1 .part4 .ensures in (
-      parts-sections _ (s .pre) symbols states internals calls (c .part5 .ensures),
+      parts-lent _ (s .pre .known) states internals calls (c .part5 .ensures),
       parts-symbols _ (s .pre) symbols states internals calls (c .part5 .ensures),
       tests-fit _ _ (sym (c5 .script-number .ensures) ∙ c4 .if1 .left),
     )

@@ -6,7 +6,6 @@ use mathlib.Core.Bool.{true, false}
 use mathlib.Core.List.{[]}
 use Rattle.format.specs.File.{records}
 use Rattle.scripts.specs.Script.{moved, returned, started, ended}
-use Rattle.levels.proofs.Index.{lent-more}
 use Rattle.script.proofs.Walking.{Walking, walking, walked, walked-open, room, walk-internal, walk-call, walk-none, walk-return}
 use Rattle.depths.proofs.Depths.{symbol-inside}
 use Rattle.script.specs.Parts.{sectionsRead}
@@ -26,17 +25,17 @@ abbrev μ-script : tie.MeasureT-script
 starts-of-requires : tie.Need-starts-of-requires Inv-script μ-script
 starts-of-requires c κs =
     let the-pre = c .before .before .before .before .before .before .pre in
-    (omega arith, lent-more (the-pre .0 .internals-lent) (the-pre .0 .few))
+    (omega arith, the-pre .0 .few, the-pre .0 .internals-lent)
 
 starts-of-requires-2 : tie.Need-starts-of-requires-2 Inv-script μ-script
 starts-of-requires-2 c κs =
     let the-pre = c .before .before .before .before .before .before .before .pre in
-    (omega arith, lent-more (the-pre .0 .calls-lent) (the-pre .0 .few))
+    (omega arith, the-pre .0 .few, the-pre .0 .calls-lent)
 
 starts-of-requires-3 : tie.Need-starts-of-requires-3 Inv-script μ-script
 starts-of-requires-3 c κs =
     let the-pre = c .before .before .before .before .before .before .before .before .pre in
-    (omega arith, lent-more (the-pre .0 .returns-lent) (the-pre .0 .few))
+    (omega arith, the-pre .0 .few, the-pre .0 .returns-lent)
 
 slice-aggregate-start-words : tie.Need-slice-aggregate-start-words Inv-script μ-script
 slice-aggregate-start-words c = search needs

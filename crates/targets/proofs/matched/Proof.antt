@@ -1,121 +1,123 @@
--- `targets::matched` meets its contract: the targets so far are in the clause. Assumes nothing.
-use Prim.Native.Nat.{_-_}
+-- `targets::matched` meets its contract: the clause is left out, or counted and written. Assumes nothing.
+use mathlib.Core.Path.{_≡_, refl}
+use Prim.Native.Nat.{_+_, _/_, _≤_}
 use native.Mathlib.Omega.{arith}
-use mathlib.Core.Path.{_≡_}
-use lib.ListN.{length, take}
+use lib.ListN.{length}
 use borrow.Author.Needs.{needs}
-use Rattle.emit.specs.Emit.{matchingFrom, lastBytes}
+use borrow.Author.Tests.{not-true, not-false}
 use Rattle.emit.proofs.Collecting.{whole}
-use Rattle.targets.proofs.Targeting.{Targeting, targeting, room, target-itself, target-both, target-on, targets-done}
+use Rattle.emit.proofs.Emitting.{put-unwritten, put-stored, put-room}
+use Rattle.targets.specs.Targets.{Counted}
+use Rattle.targets.proofs.Targeting.{clause, found-counted, clause-left, clause-long, clause-put}
 use Rattle.targets.proofs.matched.Statement.{statement}
 use Rattle.targets.proofs.matched.Tie as tie
 
-abbrev Inv-targets : tie.InvT-targets
-Inv-targets found width target tally list words₀ n₀ at₀ words n at = Targeting found width target (matchingFrom (take n₀ words₀) target (lastBytes width found)) (record { words = words; n = n }) at × (length words ≡ 42)
+three-words : (c : tie.Start) → length (c .args .premises .words) ≡ 3
+three-words c = whole (c .args .premises .words) (c .good .1 .1 .1 .0 .1 .1 .0 .1 .0 .1)
 
-abbrev μ-targets : tie.MeasureT-targets
-μ-targets found width target tally list words₀ n₀ at₀ words n at = length found - at
+many : (c : tie.Start) → Counted (c .args .width) (c .args .found .now) (length (c .args .found .now) / c .args .width)
+many c = found-counted (c .args .premises) (three-words c) (c .pre .0 .two) (c .args .target) (c .pre .0) refl
 
-targets-holds : tie.Need-targets-holds Inv-targets μ-targets
-targets-holds c =
-    let a = c .before .before .before in
-    (targeting _ _ _ _ (a .pre .0) (a .pre .1), whole (a .args .premises .words) (a .good .1 .1 .1 .0 .1 .1 .0 .1 .0 .1))
+abbrev start : tie.After-writes → tie.Start
+start c = c .before .before .before .before .before .before
 
-sub-targets : tie.Need-sub-targets Inv-targets μ-targets
-sub-targets c = search needs
+-- it is written, and fits
+fits : (c : tie.Else2) → start (c .before) .args .tally .words + 1 + (start (c .before) .args .premises .n + length (start (c .before) .args .found .now) / start (c .before) .args .width) ≤ length (start (c .before) .args .list .now)
+fits c = let a = start (c .before) .args in put-room (a .tally) (clause (a .premises) (three-words (start (c .before))) (start (c .before) .pre .0 .two) (a .target) (start (c .before) .pre .0)) (a .list .now) _ (c .before .writes .ensures) (not-false _ (c .if2 .left))
 
-add-next : tie.Need-add-next Inv-targets μ-targets
-add-next c = search needs
+div-count : tie.Need-div-count
+div-count c = search needs
 
-sub-q : tie.Need-sub-q Inv-targets μ-targets
-sub-q c = search needs
+left-out-requires : tie.Need-left-out-requires
+left-out-requires c κs = (many (c .before .before), c .before .before .pre .0 .two)
 
-shared-slice-read-q : tie.Need-shared-slice-read-q Inv-targets μ-targets
-shared-slice-read-q c = search needs
+returns : tie.Need-returns
+returns c =
+    let a = c .before .before .before .before in
+    clause-left (a .args .premises) (three-words a) (a .pre .0 .two) (a .args .target) (a .pre .0) _ (c .before .left-out .ensures) (c .if1 .taken)
 
-returns : tie.Need-returns Inv-targets μ-targets
-returns c = target-itself (c .before .before .before .targets .inv .0) (c .before .before .targets-test .taken) _ (c .if1 .taken)
+add-n : tie.Need-add-n
+add-n c = let a = c .before .before .before .before .before in omega (arith, many a .few, a .pre .0 .two)
 
-joined-requires : tie.Need-joined-requires Inv-targets μ-targets
-joined-requires c κs = search needs
+writes-requires : tie.Need-writes-requires
+writes-requires c κs = search needs
 
-opposed-requires : tie.Need-opposed-requires Inv-targets μ-targets
-opposed-requires c κs = search needs
+counted-requires : tie.Need-counted-requires
+counted-requires c κs =
+    let a = start (c .before) in
+    let few = many a .few in
+    let two = a .pre .0 .two in
+    search needs
 
-contains-requires : tie.Need-contains-requires Inv-targets μ-targets
-contains-requires c κs =
-    let c5 = c .before .before .before .before .before in
-    let c6 = c5 .before in
-    let w = c6 .targets .inv in
-    let h = room (w .0) (c5 .targets-test .taken) in
-    (omega arith, w .1)
-
-returns-2 : tie.Need-returns-2 Inv-targets μ-targets
+returns-2 : tie.Need-returns-2
 returns-2 c =
-    let c1 = c .before in
-    let c3 = c1 .before .before in
-    let c4 = c3 .before in
-    let c5 = c4 .before in
-    let c7 = c5 .before .before in
-    let c8 = c7 .before in
-    target-both (c8 .targets .inv .0) (c7 .targets-test .taken) (c5 .if1 .left) (c4 .joined .ensures) (c3 .opposed .ensures) _ (c1 .contains .ensures) (c .if2 .taken)
+    let w = c .before .before in
+    let l = w .before .before .before in
+    let a = start w in
+    let p = a .args .premises in
+    let t = a .args .target in
+    let o = a .pre .0 in
+    clause-put p (three-words a) (o .two) t o _ (l .left-out .ensures) (w .before .before .if1 .left)
+    (put-unwritten _ _ _ (clause-long p (three-words a) (o .two) t o (many a)) (w .writes .ensures) (c .counted .ensures) (not-true _ (c .before .if2 .taken)))
 
-add-literal-requires : tie.Need-add-literal-requires Inv-targets μ-targets
-add-literal-requires c κs =
-    let c8 = c .before .before .before .before .before .before .before .before in
-    let c9 = c8 .before in
-    let w = c9 .targets .inv in
-    (room (w .0) (c8 .targets-test .taken), w .1)
+mul-store-clause : tie.Need-mul-store-clause
+mul-store-clause c = let f = fits c in search needs
 
-targets-less : tie.Need-targets-less Inv-targets μ-targets
-targets-less c = search needs
+sub-store-clause : tie.Need-sub-store-clause
+sub-store-clause c = let f = fits c in search needs
 
-targets-again : tie.Need-targets-again Inv-targets μ-targets
-targets-again c =
-    let c2 = c .before .before in
-    let c3 = c2 .before in
-    let c5 = c3 .before .before in
-    let c6 = c5 .before in
-    let c7 = c6 .before in
-    let c9 = c7 .before .before in
-    let c10 = c9 .before in
-    (target-on (c10 .targets .inv .0) (c9 .targets-test .taken) (c7 .if1 .left) (c6 .joined .ensures) (c5 .opposed .ensures) (c3 .contains .ensures) (c2 .if2 .left) (c .add-literal .ensures .0), c .add-literal .ensures .1)
+part-store-clause-start : tie.Need-part-store-clause-start
+part-store-clause-start c = let f = fits c in search needs
 
-put-requires : tie.Need-put-requires Inv-targets μ-targets
-put-requires c κs =
-    let c2 = c .before .before in
-    let c6 = c2 .before .before .before .before in
-    (omega (arith, c2 .targets .inv .0 .few), c6 .pre .2)
+part-store-clause-end : tie.Need-part-store-clause-end
+part-store-clause-end c = search needs
 
-same-length : tie.Need-same-length Inv-targets μ-targets
+store-clause-requires : tie.Need-store-clause-requires
+store-clause-requires c κs =
+    let e = c .before in
+    let a = start (e .before) in
+    let f = fits e in
+    (many a, a .pre .0 .two, search needs)
+
+counted-requires-2 : tie.Need-counted-requires-2
+counted-requires-2 c κs =
+    let a = start (c .before .before .before .before .before) in
+    let few = many a .few in
+    let two = a .pre .0 .two in
+    search needs
+
+same-length : tie.Need-same-length
 same-length c = search needs
 
-returns-3 : tie.Need-returns-3 Inv-targets μ-targets
+returns-3 : tie.Need-returns-3
 returns-3 c =
-    let c2 = c .before .before in
-    let c4 = c2 .before .before in
-    let c5 = c4 .before in
-    targets-done (c5 .targets .inv .0) _ (c4 .targets-test .left) (c2 .put .ensures)
+    let s = c .before .before .before in
+    let e = s .before .before in
+    let w = e .before in
+    let l = w .before .before .before in
+    let a = start w in
+    let p = a .args .premises in
+    let t = a .args .target in
+    let o = a .pre .0 in
+    clause-put p (three-words a) (o .two) t o _ (l .left-out .ensures) (w .before .before .if1 .left)
+    (put-stored _ _ _ (clause-long p (three-words a) (o .two) t o (many a)) (w .writes .ensures) (c .counted2 .ensures) (not-false _ (e .if2 .left)) (s .store-clause .ensures))
 
 pub matched-spec : {M : Type 1} → statement M
 matched-spec =
     tie.close
     (tie.spec
-    Inv-targets
-    μ-targets
-    targets-holds
-    sub-targets
-    add-next
-    sub-q
-    shared-slice-read-q
+    div-count
+    left-out-requires
     returns
-    joined-requires
-    opposed-requires
-    contains-requires
+    add-n
+    writes-requires
+    counted-requires
     returns-2
-    add-literal-requires
-    targets-less
-    targets-again
-    put-requires
+    mul-store-clause
+    sub-store-clause
+    part-store-clause-start
+    part-store-clause-end
+    store-clause-requires
+    counted-requires-2
     same-length
     returns-3)

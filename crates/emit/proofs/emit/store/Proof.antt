@@ -9,10 +9,10 @@ use Rattle.emit.proofs.emit.store.Statement.{statement}
 use Rattle.emit.proofs.emit.store.Tie as tie
 
 abbrev Inv-literals : tie.InvT-literals
-Inv-literals rest₀ clause n i₀ rest i = Storing n (clause .words) rest₀ rest i
+Inv-literals count rest₀ clause n i₀ rest i = Storing count n (clause .words) rest₀ rest i
 
 abbrev μ-literals : tie.MeasureT-literals
-μ-literals rest₀ clause n i₀ rest i = n - i
+μ-literals count rest₀ clause n i₀ rest i = n - i
 
 -- src/emit.rt:23:15
 cast-rest : tie.Need-cast-rest Inv-literals μ-literals
@@ -25,9 +25,9 @@ slice-write-rest c = search needs
 -- src/emit.rt:25:5
 literals-holds : tie.Need-literals-holds Inv-literals μ-literals
 literals-holds c =
-    let e : length (c .args .t1 .words) ≡ 42 = whole (c .args .t1 .words) (c .good .0 .1 .1 .0 .1 .0 .1) in
+    let e : length (c .args .t1 .words) ≡ 3 = whole (c .args .t1 .words) (c .good .0 .1 .1 .0 .1 .0 .1) in
     let k : c .args .t1 .n ≤ length (c .args .t1 .words) = omega (arith, c .pre .0) in
-    storing _ _ (c .args .rest .now) k (c .pre .1)
+    storing _ _ _ (c .args .rest .now) k (c .pre .1)
 
 -- src/emit.rt:26:23
 mul-rest : tie.Need-mul-rest Inv-literals μ-literals

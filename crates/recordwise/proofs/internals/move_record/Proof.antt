@@ -1,25 +1,30 @@
 -- `recordwise::internals::move_record` meets its contract: the states so far have their clauses. Assumes nothing.
 use Prim.Native.Nat.{_-_}
+use native.Mathlib.Omega.{arith}
 use borrow.Author.Needs.{needs}
 use Rattle.lists.specs.Lists.{gather, upto}
 use Rattle.format.specs.File.{records}
 use Rattle.encoding.specs.Clauses.{moveClause}
 use Rattle.emit.specs.Emit.{state}
 use Rattle.emit.proofs.Stepping.{Over, over-all, over-on, over-done}
+use Rattle.index.proofs.Blocks.{placed}
 use Rattle.recordwise.proofs.internals.move_record.Statement.{statement}
 use Rattle.recordwise.proofs.internals.move_record.Tie as tie
 
 abbrev Inv-states : tie.InvT-states
-Inv-states section p a target count list₀ at₀ q₀ list at q = Over (λ q. moveClause (records 3 section) p a target q) count (gather (λ q. moveClause (records 3 section) p a target q) (upto count)) (state at₀ list₀) q (state at list)
+Inv-states section starts p a target count list₀ at₀ q₀ list at q = Over (λ q. moveClause (records 3 section) p a target q) count (gather (λ q. moveClause (records 3 section) p a target q) (upto count)) (state at₀ list₀) q (state at list)
 
 abbrev μ-states : tie.MeasureT-states
-μ-states section p a target count list₀ at₀ q₀ list at q = count - q
+μ-states section starts p a target count list₀ at₀ q₀ list at q = count - q
 
 states-holds : tie.Need-states-holds Inv-states μ-states
-states-holds c = over-all _ _ _ (c .before .before .pre .1)
+states-holds c = over-all _ _ _ (c .before .before .pre .4)
 
 move-clause-requires : tie.Need-move-clause-requires Inv-states μ-states
-move-clause-requires c κs = (c .before .before .before .before .before .pre .0, c .before .before .states .inv .coming .ordered)
+move-clause-requires c κs =
+    let i = c .before in
+    let p = i .before .before .before .before .pre in
+    (p .0, placed (p .1) (i .states-test .taken) (p .3), omega (arith, i .states-test .taken, p .2), p .3, i .before .states .inv .coming .ordered)
 
 add-q : tie.Need-add-q Inv-states μ-states
 add-q c = search needs

@@ -1,5 +1,6 @@
 -- `recordwise::internals::moves` meets its contract: the records so far have their clauses. Assumes nothing.
 use Prim.Native.Nat.{_-_}
+use native.Mathlib.Omega.{arith}
 use lib.ListN.{length, getD}
 use borrow.Author.Needs.{needs}
 use Rattle.lists.specs.Lists.{gather, upto}
@@ -8,19 +9,27 @@ use Rattle.encoding.specs.Clauses.{moveClause, moveClauses}
 use Rattle.emit.specs.Emit.{state}
 use Rattle.emit.proofs.Emitting.{come-full}
 use Rattle.emit.proofs.Stepping.{Along, along-all, along-done}
-use Rattle.recordwise.proofs.Moving.{move-turn}
+use Rattle.index.proofs.Index.{lent-more}
+use Rattle.index.proofs.Blocks.{indexed-by}
+use Rattle.recordwise.proofs.Moving.{symbol-few, move-turn}
 use Rattle.recordwise.proofs.internals.moves.Statement.{statement}
 use Rattle.recordwise.proofs.internals.moves.Tie as tie
 
 abbrev Inv-records : tie.InvT-records
-Inv-records section count list₀ so-far₀ at₀ list so-far at = Along (λ r. gather (λ q. moveClause (records 3 section) (getD r 0 0) (getD r 1 0) (getD r 2 0) q) (upto count)) 3 section (moveClauses (records 3 section) count) (state so-far₀ list₀) at (state so-far list)
+Inv-records section count list₀ starts so-far₀ at₀ list so-far at = Along (λ r. gather (λ q. moveClause (records 3 section) (getD r 0 0) (getD r 1 0) (getD r 2 0) q) (upto count)) 3 section (moveClauses (records 3 section) count) (state so-far₀ list₀) at (state so-far list)
 
 abbrev μ-records : tie.MeasureT-records
-μ-records section count list₀ so-far₀ at₀ list so-far at = length section - at
+μ-records section count list₀ starts so-far₀ at₀ list so-far at = length section - at
+
+wide-requires : tie.Need-wide-requires Inv-records μ-records
+wide-requires c κs = search needs
+
+starts-of-requires : tie.Need-starts-of-requires Inv-records μ-records
+starts-of-requires c κs = let p = c .before .before .before .pre in (omega arith, omega (arith, c .wide .ensures, p .1), lent-more (p .0) (omega (arith, c .wide .ensures)))
 
 records-holds : tie.Need-records-holds Inv-records μ-records
 unfolding moveClauses
-records-holds c = along-all _ _ _ _ (c .before .before .pre .1)
+records-holds c = along-all _ _ _ _ (c .before .before .before .before .pre .2)
 
 sub-records : tie.Need-sub-records Inv-records μ-records
 sub-records c = search needs
@@ -48,9 +57,13 @@ shared-slice-read-move-record-3 c = search needs
 
 move-record-requires : tie.Need-move-record-requires Inv-records μ-records
 move-record-requires c κs =
-    let c7 = c .before .before .before .before .before .before .before in
-    let c10 = c7 .before .before .before in
-    (c10 .pre .0, c7 .records .inv .coming .ordered)
+    let i = c .before .before .before .before .before .before .before in
+    let r = i .before in
+    let o = r .before in
+    let p = o .before .before .before .before .pre in
+    let l = lent-more (p .0) (p .1) in
+    let x = indexed-by (o .before .wide .ensures) (o .starts-of .ensures) in
+    (l, x, p .1, symbol-few (r .records .inv) (omega arith) (i .records-test .taken) l, r .records .inv .coming .ordered)
 
 add-at : tie.Need-add-at Inv-records μ-records
 add-at c = search needs
@@ -61,10 +74,9 @@ records-less c = search needs
 records-again : tie.Need-records-again Inv-records μ-records
 records-again c =
     let c2 = c .before .before in
-    let c9 = c2 .before .before .before .before .before .before .before in
-    let c10 = c9 .before in
-    let c13 = c10 .before .before .before in
-    move-turn (c13 .args .count) (c10 .records .inv) (c9 .records-test .taken) (c2 .move-record .ensures)
+    let i = c2 .before .before .before .before .before .before .before .before in
+    let r = i .before in
+    move-turn (r .before .before .before .before .before .args .count) (r .records .inv) (i .records-test .taken) (c2 .move-record .ensures)
 
 same-length-2 : tie.Need-same-length-2 Inv-records μ-records
 same-length-2 c = c .before .records .inv .coming .long
@@ -78,6 +90,8 @@ moves-spec =
     (tie.spec
     Inv-records
     μ-records
+    wide-requires
+    starts-of-requires
     records-holds
     sub-records
     same-length

@@ -5,21 +5,30 @@ use lib.ListN.{length}
 use borrow.Author.Needs.{needs}
 use Rattle.format.specs.File.{records}
 use Rattle.emit.specs.Emit.{state}
-use Rattle.recordwise.specs.Sorted.{liveRecord, returnClausesBy}
+use Rattle.recordwise.specs.Returns.{liveRecord, returnClausesBy}
 use Rattle.emit.proofs.Emitting.{come-full}
 use Rattle.emit.proofs.Stepping.{Along, along-done}
+use Rattle.index.proofs.Index.{lent-more}
+use Rattle.index.proofs.Blocks.{indexed-by}
+use Rattle.recordwise.proofs.Moving.{symbol-few}
 use Rattle.recordwise.proofs.Returning.{fieldsOf, return-all, from-few, under-few, return-turn}
 use Rattle.recordwise.proofs.returns.live_returns.Statement.{statement}
 use Rattle.recordwise.proofs.returns.live_returns.Tie as tie
 
 abbrev Inv-records : tie.InvT-records
-Inv-records section tops count list₀ so-far₀ at₀ list so-far at = Along (λ r. liveRecord (records 4 section) tops count (fieldsOf r)) 4 section (returnClausesBy tops (records 4 section) count) (state so-far₀ list₀) at (state so-far list)
+Inv-records section tops count list₀ starts so-far₀ at₀ list so-far at = Along (λ r. liveRecord (records 4 section) tops count (fieldsOf r)) 4 section (returnClausesBy tops (records 4 section) count) (state so-far₀ list₀) at (state so-far list)
 
 abbrev μ-records : tie.MeasureT-records
-μ-records section tops count list₀ so-far₀ at₀ list so-far at = length section - at
+μ-records section tops count list₀ starts so-far₀ at₀ list so-far at = length section - at
+
+wide-requires : tie.Need-wide-requires Inv-records μ-records
+wide-requires c κs = search needs
+
+starts-of-requires : tie.Need-starts-of-requires Inv-records μ-records
+starts-of-requires c κs = let p = c .before .before .before .pre in (omega arith, omega (arith, c .wide .ensures, p .1), lent-more (p .0) (omega (arith, c .wide .ensures)))
 
 records-holds : tie.Need-records-holds Inv-records μ-records
-records-holds c = return-all _ _ _ _ (c .before .before .pre .2)
+records-holds c = return-all _ _ _ _ (c .before .before .before .before .pre .2)
 
 sub-records : tie.Need-sub-records Inv-records μ-records
 sub-records c = search needs
@@ -30,36 +39,39 @@ same-length c = c .before .before .before .records .inv .coming .long
 returns : tie.Need-returns Inv-records μ-records
 returns c = come-full (c .before .before .before .records .inv .coming) (c .if1 .taken)
 
-shared-slice-read-t13 : tie.Need-shared-slice-read-t13 Inv-records μ-records
-shared-slice-read-t13 c = search needs
+shared-slice-read-t16 : tie.Need-shared-slice-read-t16 Inv-records μ-records
+shared-slice-read-t16 c = search needs
 
-add-t10 : tie.Need-add-t10 Inv-records μ-records
-add-t10 c = search needs
+add-t13 : tie.Need-add-t13 Inv-records μ-records
+add-t13 c = search needs
 
-shared-slice-read-t15 : tie.Need-shared-slice-read-t15 Inv-records μ-records
-shared-slice-read-t15 c = search needs
+shared-slice-read-t18 : tie.Need-shared-slice-read-t18 Inv-records μ-records
+shared-slice-read-t18 c = search needs
 
-add-t9 : tie.Need-add-t9 Inv-records μ-records
-add-t9 c = search needs
-
-shared-slice-read-t17 : tie.Need-shared-slice-read-t17 Inv-records μ-records
-shared-slice-read-t17 c = search needs
-
-add-t18 : tie.Need-add-t18 Inv-records μ-records
-add-t18 c = search needs
+add-t12 : tie.Need-add-t12 Inv-records μ-records
+add-t12 c = search needs
 
 shared-slice-read-t20 : tie.Need-shared-slice-read-t20 Inv-records μ-records
 shared-slice-read-t20 c = search needs
 
+add-t21 : tie.Need-add-t21 Inv-records μ-records
+add-t21 c = search needs
+
+shared-slice-read-t23 : tie.Need-shared-slice-read-t23 Inv-records μ-records
+shared-slice-read-t23 c = search needs
+
 live-record-requires : tie.Need-live-record-requires Inv-records μ-records
 live-record-requires c κs =
-    let c7 = c .before .before .before .before .before .before .before in
-    let c8 = c7 .before in
-    let c11 = c8 .before .before .before in
-    let the-records-test = c7 .records-test in
-    let the-records = c8 .records in
-    let the-pre = c11 .pre in
-    let u = under-few (the-records .inv) (the-records-test .taken) (the-pre .0) in (the-pre .0, from-few (the-records .inv) (the-records-test .taken) (the-pre .0), omega arith, the-pre .1, the-records .inv .coming .ordered)
+    let i = c .before .before .before .before .before .before .before .before in
+    let r = i .before in
+    let w = r .records .inv in
+    let t = i .records-test .taken in
+    let o = r .before in
+    let p = o .before .before .before .before .pre in
+    let l = lent-more (p .0) (p .1) in
+    let x = indexed-by (o .before .wide .ensures) (o .starts-of .ensures) in
+    let u = under-few w t l in
+    (l, x, from-few w t l, symbol-few w (omega arith) t l, omega arith, p .1, w .coming .ordered)
 
 add-at : tie.Need-add-at Inv-records μ-records
 add-at c = search needs
@@ -70,11 +82,10 @@ records-less c = search needs
 records-again : tie.Need-records-again Inv-records μ-records
 records-again c =
     let c2 = c .before .before in
-    let c10 = c2 .before .before .before .before .before .before .before .before in
-    let c11 = c10 .before in
-    let c14 = c11 .before .before .before in
-    let the-args = c14 .args in
-    return-turn (the-args .tops .now) (the-args .count) (c11 .records .inv) (c10 .records-test .taken) (c2 .live-record .ensures)
+    let i = c2 .before .before .before .before .before .before .before .before .before in
+    let r = i .before in
+    let the-args = r .before .before .before .before .before .args in
+    return-turn (the-args .tops .now) (the-args .count) (r .records .inv) (i .records-test .taken) (c2 .live-record .ensures)
 
 same-length-2 : tie.Need-same-length-2 Inv-records μ-records
 same-length-2 c = c .before .records .inv .coming .long
@@ -88,17 +99,19 @@ live-returns-spec =
     (tie.spec
     Inv-records
     μ-records
+    wide-requires
+    starts-of-requires
     records-holds
     sub-records
     same-length
     returns
-    shared-slice-read-t13
-    add-t10
-    shared-slice-read-t15
-    add-t9
-    shared-slice-read-t17
-    add-t18
+    shared-slice-read-t16
+    add-t13
+    shared-slice-read-t18
+    add-t12
     shared-slice-read-t20
+    add-t21
+    shared-slice-read-t23
     live-record-requires
     add-at
     records-less

@@ -1,9 +1,9 @@
--- `levels::fill` meets its contract. Assumes nothing.
+-- `index::fill` meets its contract. Assumes nothing.
 use borrow.Author.Needs.{needs}
 use Prim.Native.Nat.{_-_}
-use Rattle.levels.proofs.Index.{Filling, filling, fill-on, filled}
-use Rattle.levels.proofs.fill.Statement.{statement}
-use Rattle.levels.proofs.fill.Tie as tie
+use Rattle.index.proofs.Index.{Filling, filling, fill-on, filled}
+use Rattle.index.proofs.fill.Statement.{statement}
+use Rattle.index.proofs.fill.Tie as tie
 
 abbrev Inv-entries : tie.InvT-entries
 Inv-entries starts₀ from to k x₀ starts x = Filling from to k starts₀ starts x

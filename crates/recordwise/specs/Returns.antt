@@ -1,23 +1,34 @@
--- What the clauses of the records are stated with. Only contracts of functions that write clauses cite it. Assumes nothing.
+-- What the clauses of returns are stated with. Only contracts of functions that write clauses cite it. Assumes nothing.
 use mathlib.Core.Path.{_≡_}
 use mathlib.Core.Bool.{true, false}
-use mathlib.Core.List.{List, []}
-use Prim.Native.Nat.{ℕ}
-use lib.ListN.{getD}
+use mathlib.Core.List.{List, [], List·Memᴰ}
+use Prim.Native.Nat.{ℕ, _<_, _≤_}
+use lib.ListN.{length, getD}
 use Rattle.lists.specs.Lists.{gather, keep, upto}
 use Rattle.lists.specs.Bits.{has}
 use Rattle.limits.specs.Limits.{stateMost}
 use Rattle.format.specs.File.{records}
-use Rattle.format.specs.Reading.{ascend}
+use Rattle.keyed.specs.Spans.{startsWith}
 use Rattle.reach.specs.Tops.{live}
-use Rattle.tops.specs.Steps.{StateRecords}
 use Rattle.encoding.specs.Clauses.{returnClause, topStates}
+use Rattle.index.specs.Index.{Lent}
 use Rattle.recordwise.specs.declared.returns.Return.{Return}
 
--- a section of records of w bytes that ascend and that name states
-pub record Sorted (w : ℕ) (s : List ℕ) : Type 0 where
-  pub ascends : ascend (records w s) ≡ true
-  pub names : StateRecords w stateMost s
+-- returns that all start with a key
+pub record Starting (key s : List ℕ) : Type 0 where
+  pub lent : Lent 4 stateMost s
+  pub each : (r : List ℕ) → List·Memᴰ r (records 4 s) → startsWith key r ≡ true
+
+-- a return's stack state
+abbrev pub under : List ℕ → ℕ
+under r = getD r 2 0
+
+-- from one record on, k is the first whose stack state is not below u; their count where there is none
+pub record Reached (rs : List (List ℕ)) (from u k : ℕ) : Type 0 where
+  pub begun : from ≤ k
+  pub within : k ≤ length rs
+  pub below : (j : ℕ) → from ≤ j → j < k → under (getD rs j []) < u
+  pub there : k < length rs → u ≤ under (getD rs k [])
 
 -- group 5: the clause of a return, a state and a top
 abbrev pub returnOf : List (List ℕ) → Return → ℕ → ℕ → List (List ℕ)

@@ -1,4 +1,4 @@
--- `levels::starts_of` meets its contract. Assumes nothing.
+-- `index::starts_of` meets its contract. Assumes nothing.
 use borrow.Author.Needs.{needs}
 use Prim.Native.Nat.{_+_, _*_, _<_}
 use native.Mathlib.Omega.{arith}
@@ -6,20 +6,20 @@ use mathlib.Core.Path.{_≡_, refl}
 use mathlib.Core.List.{[]}
 use lib.ListN.{getD}
 use Rattle.format.proofs.Bytes.{length-records}
-use Rattle.levels.specs.Levels.{placeOf}
-use Rattle.levels.proofs.Index.{byte-first, symbol-small, state-small}
+use Rattle.index.specs.Index.{placeOf}
+use Rattle.index.proofs.Index.{byte-first, symbol-small, state-small}
 use Prim.Native.Nat.{_-_, _/_}
 use lib.ListN.{length}
 use Rattle.format.specs.File.{records}
-use Rattle.levels.proofs.Index.{Indexing, indexing, indexed, place-room, index-on, record-there, byte-at}
-use Rattle.levels.proofs.starts_of.Statement.{statement}
-use Rattle.levels.proofs.starts_of.Tie as tie
+use Rattle.index.proofs.Index.{Indexing, indexing, indexed, place-room, index-on, record-there, byte-at}
+use Rattle.index.proofs.starts_of.Statement.{statement}
+use Rattle.index.proofs.starts_of.Tie as tie
 
 abbrev Inv-records : tie.InvT-records
-Inv-records section width starts₀ count x₀ k₀ starts x k = Indexing (records width section) starts x k
+Inv-records section width n starts₀ count x₀ k₀ starts x k = Indexing (records width section) starts x k
 
 abbrev μ-records : tie.MeasureT-records
-μ-records section width starts₀ count x₀ k₀ starts x k = length section / width - k
+μ-records section width n starts₀ count x₀ k₀ starts x k = length section / width - k
 
 div-count : tie.Need-div-count Inv-records μ-records
 div-count c = omega (arith, c .before .pre .0)
@@ -59,7 +59,7 @@ mul-place c =
     let there = record-there (s .args .width) (s .args .section .now) k l in
     let wide = s .pre .0 in
     let first = byte-first (s .args .width) (s .args .section .now) k l (omega arith) in
-    let state = state-small (s .pre .1) k l 0 (λ z. omega arith) (omega arith) in
+    let state = state-small (s .pre .2) k l 0 (λ z. omega arith) (omega arith) in
     let e = c .wide .ensures in
     search needs
 
@@ -96,9 +96,9 @@ add-place c =
     let there = record-there (s .args .width) (s .args .section .now) k l in
     let wide = s .pre .0 in
     let first = byte-first (s .args .width) (s .args .section .now) k l (omega arith) in
-    let state = state-small (s .pre .1) k l 0 (λ z. omega arith) (omega arith) in
+    let state = state-small (s .pre .2) k l 0 (λ z. omega arith) (omega arith) in
     let second = byte-at (s .args .width) (s .args .section .now) k l 1 (omega arith) in
-    let symbol = symbol-small (s .pre .1) k l in
+    let symbol = symbol-small (s .pre .2) k l in
     let e : the-wide .result * 64 + c .wide2 .result ≡ placeOf (getD (records (s .args .width) (s .args .section .now)) k []) = omega (arith, the-wide .ensures, c .wide2 .ensures) in
     search needs
 
@@ -113,9 +113,9 @@ add-fill c =
     let there = record-there (s .args .width) (s .args .section .now) k l in
     let wide = s .pre .0 in
     let first = byte-first (s .args .width) (s .args .section .now) k l (omega arith) in
-    let state = state-small (s .pre .1) k l 0 (λ z. omega arith) (omega arith) in
+    let state = state-small (s .pre .2) k l 0 (λ z. omega arith) (omega arith) in
     let second = byte-at (s .args .width) (s .args .section .now) k l 1 (omega arith) in
-    let symbol = symbol-small (s .pre .1) k l in
+    let symbol = symbol-small (s .pre .2) k l in
     let e : the-wide .result * 64 + the-wide2 .result ≡ placeOf (getD (records (s .args .width) (s .args .section .now)) k []) = omega (arith, the-wide .ensures, the-wide2 .ensures) in
     search needs
 
@@ -127,7 +127,7 @@ cast-fill c =
     let l : k < length (records (s .args .width) (s .args .section .now)) = omega (arith, i .records-test .taken, length-records (s .args .width) (s .args .section .now)) in
     let there = record-there (s .args .width) (s .args .section .now) k l in
     let wide = s .pre .0 in
-    let few = s .pre .1 .few in
+    let few = s .pre .2 .few in
     search needs
 
 fill-requires : tie.Need-fill-requires Inv-records μ-records
@@ -141,12 +141,12 @@ fill-requires c κs =
     let there = record-there (s .args .width) (s .args .section .now) k l in
     let wide = s .pre .0 in
     let first = byte-first (s .args .width) (s .args .section .now) k l (omega arith) in
-    let state = state-small (s .pre .1) k l 0 (λ z. omega arith) (omega arith) in
+    let state = state-small (s .pre .2) k l 0 (λ z. omega arith) (omega arith) in
     let second = byte-at (s .args .width) (s .args .section .now) k l 1 (omega arith) in
-    let symbol = symbol-small (s .pre .1) k l in
+    let symbol = symbol-small (s .pre .2) k l in
     let e : the-wide .result * 64 + the-wide2 .result ≡ placeOf (getD (records (s .args .width) (s .args .section .now)) k []) = omega (arith, the-wide .ensures, the-wide2 .ensures) in
-    let room = place-room wide (s .pre .1) (i .before .records .inv) l e in
-    (room, omega (arith, room, i .before .records .inv .long))
+    let room = place-room wide (s .pre .1) (s .pre .2) (i .before .records .inv) l e in
+    (omega (arith, room), omega (arith, room, i .before .records .inv .long))
 
 add-x : tie.Need-add-x Inv-records μ-records
 add-x c =
@@ -159,9 +159,9 @@ add-x c =
     let there = record-there (s .args .width) (s .args .section .now) k l in
     let wide = s .pre .0 in
     let first = byte-first (s .args .width) (s .args .section .now) k l (omega arith) in
-    let state = state-small (s .pre .1) k l 0 (λ z. omega arith) (omega arith) in
+    let state = state-small (s .pre .2) k l 0 (λ z. omega arith) (omega arith) in
     let second = byte-at (s .args .width) (s .args .section .now) k l 1 (omega arith) in
-    let symbol = symbol-small (s .pre .1) k l in
+    let symbol = symbol-small (s .pre .2) k l in
     let e : the-wide .result * 64 + the-wide2 .result ≡ placeOf (getD (records (s .args .width) (s .args .section .now)) k []) = omega (arith, the-wide .ensures, the-wide2 .ensures) in
     search needs
 
@@ -196,20 +196,26 @@ records-again c =
     let there = record-there (s .args .width) (s .args .section .now) k l in
     let wide = s .pre .0 in
     let first = byte-first (s .args .width) (s .args .section .now) k l (omega arith) in
-    let state = state-small (s .pre .1) k l 0 (λ z. omega arith) (omega arith) in
+    let state = state-small (s .pre .2) k l 0 (λ z. omega arith) (omega arith) in
     let second = byte-at (s .args .width) (s .args .section .now) k l 1 (omega arith) in
-    let symbol = symbol-small (s .pre .1) k l in
+    let symbol = symbol-small (s .pre .2) k l in
     let e : the-wide .result * 64 + the-wide2 .result ≡ placeOf (getD (records (s .args .width) (s .args .section .now)) k []) = omega (arith, the-wide .ensures, the-wide2 .ensures) in
-    index-on wide (s .pre .1) (i .before .records .inv) l e (c .fill .ensures)
+    index-on wide (s .pre .1) (s .pre .2) (i .before .records .inv) l e (c .fill .ensures)
+
+mul-fill : tie.Need-mul-fill Inv-records μ-records
+mul-fill c = let few = c .before .before .before .before .pre .1 in search needs
+
+add-fill-2 : tie.Need-add-fill-2 Inv-records μ-records
+add-fill-2 c = let few = c .before .before .before .before .pre .1 in search needs
 
 cast-fill-2 : tie.Need-cast-fill-2 Inv-records μ-records
 cast-fill-2 c =
     let inside = c .before .before .records .inv .inside in
-    let few = c .before .before .before .before .pre .1 .few in
+    let few = c .before .before .before .before .pre .2 .few in
     search needs
 
 fill-requires-2 : tie.Need-fill-requires-2 Inv-records μ-records
-fill-requires-2 c κs = (omega arith, omega (arith, c .before .before .records .inv .long))
+fill-requires-2 c κs = let few = c .before .before .before .before .pre .1 in (omega arith, omega (arith, c .before .before .records .inv .long))
 
 returns : tie.Need-returns Inv-records μ-records
 returns c =
@@ -242,6 +248,8 @@ starts-of-spec =
     add-k
     records-less
     records-again
+    mul-fill
+    add-fill-2
     cast-fill-2
     fill-requires-2
     returns)

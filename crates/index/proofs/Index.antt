@@ -18,7 +18,7 @@ use Rattle.format.proofs.Bytes.{records-wide, length-records}
 use Rattle.format.proofs.Order.{first-cases, ascend-before}
 use Rattle.keyed.proofs.Spanning.{record-inside}
 use Rattle.tops.proofs.Loops.{record-byte}
-use Rattle.levels.specs.Levels.{Lent, placeOf, placeMost, Begins, Indexed, Filled}
+use Rattle.index.specs.Index.{Lent, placeOf, places, Begins, Indexed, Filled}
 
 -- ---- a record's bytes
 
@@ -128,13 +128,12 @@ module _ {from to k : ℕ} {old new : List ℕ} {x : ℕ} (p : Filling from to k
 
 pub record Indexing (rs : List (List ℕ)) (starts : List ℕ) (x k : ℕ) : Type 0 where
   pub inside : k ≤ length rs
-  pub long : length starts ≡ placeMost
-  pub room : x ≤ placeMost
+  pub long : length starts ≡ places stateMost + 1
   pub passed : (j : ℕ) → j < k → placeOf (getD rs j []) < x
   pub made : (y : ℕ) → y < x → Begins rs y (getD starts y 0)
 
-pub indexing : (rs : List (List ℕ)) (starts : List ℕ) → length starts ≡ placeMost → Indexing rs starts 0 0
-indexing rs starts e = record { inside = omega arith; long = e; room = omega arith; passed = λ j l. absurd (omega arith); made = λ y l. absurd (omega arith) }
+pub indexing : (rs : List (List ℕ)) (starts : List ℕ) → length starts ≡ places stateMost + 1 → Indexing rs starts 0 0
+indexing rs starts e = record { inside = omega arith; long = e; passed = λ j l. absurd (omega arith); made = λ y l. absurd (omega arith) }
 
 module _ {rs : List (List ℕ)} {starts : List ℕ} {x k : ℕ} (p : Indexing rs starts x k) where
   -- what the entries from x on begin with: no record before the one at k reaches x, and those from it on reach z
@@ -149,12 +148,12 @@ module _ {rs : List (List ℕ)} {starts : List ℕ} {x k : ℕ} (p : Indexing rs
       go (no d) = rw (f .inside y (omega arith) l) (here (omega arith))
 
   -- all records are passed
-  pub indexed : {new : List ℕ} → length rs ≤ k → Filled x placeMost k starts new → Indexed rs new
-  indexed l f = record { each = made-on f (λ j a b. absurd (omega (arith, a, b))) }
+  pub indexed : {n : ℕ} {new : List ℕ} → length rs ≤ k → Filled x (places n + 1) k starts new → Indexed n rs new
+  indexed l f = record { each = λ y m. made-on f (λ j a b. absurd (omega (arith, a, b))) y (omega arith) }
 
-module _ {w : ℕ} {s : List ℕ} (wide : 3 ≤ w) (h : Lent w stateMost s) {starts : List ℕ} {x k : ℕ} (p : Indexing (records w s) starts x k) (l : k < length (records w s)) where
+module _ {w n : ℕ} {s : List ℕ} (wide : 3 ≤ w) (few : n ≤ stateMost) (h : Lent w n s) {starts : List ℕ} {x k : ℕ} (p : Indexing (records w s) starts x k) (l : k < length (records w s)) where
   module _ {place : ℕ} (e : place ≡ placeOf (getD (records w s) k [])) where
-    pub place-room : place + 1 ≤ placeMost
+    pub place-room : place + 1 ≤ places stateMost
     place-room = omega (arith, e, symbol-small h k l, state-small h k l 0 (λ z. omega arith) (omega arith))
 
     pub index-on : {new : List ℕ} → Filled x (place + 1) k starts new → Indexing (records w s) new (place + 1) (k + 1)
@@ -162,7 +161,6 @@ module _ {w : ℕ} {s : List ℕ} (wide : 3 ≤ w) (h : Lent w stateMost s) {sta
         record {
           inside = omega arith;
           long = f .long ∙ p .long;
-          room = place-room;
           passed = λ j m. omega (arith, e, rises wide h j k (omega arith) l);
           made = made-on p f (λ j a b. omega (arith, e, rises wide h k j a b));
         }
