@@ -2,7 +2,7 @@
 
 use crate::inputs::Input;
 use crate::report::{self, Row};
-use crate::stages::{Buffers, Call, Stage, STAGES};
+use crate::stages::{Buffers, Call, STAGES};
 use std::hint::black_box;
 use std::path::Path;
 use std::process::Command;
@@ -27,14 +27,16 @@ pub fn one(name: &str, side: &str) {
     }
 }
 
-/// The instructions of a stage for each of its inputs: callgrind writes a file at the end of each call.
-fn count(stage: &Stage, side: &str, inputs: usize, folder: &Path) -> Vec<f64> {
-    let out = folder.join(format!("{}.{side}", stage.name));
+/// The instructions of each call of a function, in their order: this program runs under callgrind, which writes a file at the end of each call. Memory is
+/// cleared by plain stores: callgrind counts the machine's one instruction for it byte by byte.
+pub fn of_calls(function: &str, arguments: &[&str], calls: usize, out: &Path) -> Vec<f64> {
     let status = Command::new("valgrind")
-        .args(["--quiet", "--tool=callgrind", "--toggle-collect=*::counted", "--dump-after=*::counted"])
+        .env("GLIBC_TUNABLES", "glibc.cpu.x86_rep_stosb_threshold=1000000000")
+        .args(["--quiet", "--tool=callgrind"])
+        .args(["toggle-collect", "dump-after"].map(|option| format!("--{option}={function}")))
         .arg(format!("--callgrind-out-file={}", out.display()))
         .arg(std::env::current_exe().expect("this program's path"))
-        .args(["one", stage.name, side])
+        .args(arguments)
         .status();
     assert!(status.expect("valgrind is there").success());
     let total = |i: usize| {
@@ -42,7 +44,7 @@ fn count(stage: &Stage, side: &str, inputs: usize, folder: &Path) -> Vec<f64> {
         let line = file.lines().find_map(|l| l.strip_prefix("totals: ")).expect("a line of totals");
         line.parse().expect("a number")
     };
-    (1..=inputs).map(total).collect()
+    (1..=calls).map(total).collect()
 }
 
 /// Counts each stage on each of its inputs; callgrind's files go to a folder.
@@ -51,7 +53,10 @@ pub fn print(folder: &str) {
     let mut rows = Vec::new();
     for stage in &STAGES {
         let inputs = stage.inputs();
-        let [ours, theirs] = ["library", "plain"].map(|side| count(stage, side, inputs.len(), Path::new(folder)));
+        let [ours, theirs] = ["library", "plain"].map(|side| {
+            let out = Path::new(folder).join(format!("{}.{side}", stage.name));
+            of_calls("*::counted", &["one", stage.name, side], inputs.len(), &out)
+        });
         for ((input, library), plain) in inputs.into_iter().zip(ours).zip(theirs) {
             rows.push(Row { stage: stage.name, label: input.label, library, plain });
         }

@@ -1,11 +1,12 @@
 //! The comparison of two tables, on its own inputs: small ones, and such as make it slow within 24 states and 32 symbols.
 
+use crate::instructions::of_calls;
 use crate::plain;
 use basilvault_tests::flat;
 use basilvault_tests::random::{self, Random};
 use basilvault_tests::reference::Table;
 use std::hint::black_box;
-use std::process::Command;
+use std::path::Path;
 use std::time::Instant;
 
 /// Two tables and what they are.
@@ -148,23 +149,6 @@ pub fn one(side: &str) {
     }
 }
 
-/// The instructions of each input.
-fn count(side: &str, inputs: usize, folder: &str) -> Vec<f64> {
-    let out = format!("{folder}/fit.{side}");
-    let status = Command::new("valgrind")
-        .args(["--quiet", "--tool=callgrind", "--toggle-collect=*pairs::counted", "--dump-after=*pairs::counted"])
-        .arg(format!("--callgrind-out-file={out}"))
-        .arg(std::env::current_exe().expect("this program's path"))
-        .args(["fit-one", side])
-        .status();
-    assert!(status.expect("valgrind is there").success());
-    let total = |i: usize| {
-        let file = std::fs::read_to_string(format!("{out}.{i}")).expect("callgrind's file");
-        file.lines().find_map(|l| l.strip_prefix("totals: ")).expect("a line of totals").parse().expect("a number")
-    };
-    (1..=inputs).map(total).collect()
-}
-
 /// Milliseconds of a call: the least of some.
 fn milliseconds(side: &str, pair: &Pair) -> f64 {
     let once = || {
@@ -179,7 +163,7 @@ fn milliseconds(side: &str, pair: &Pair) -> f64 {
 pub fn print(folder: &str) {
     std::fs::create_dir_all(folder).expect("a folder for callgrind's files");
     let pairs = pairs();
-    let [ours, theirs] = ["library", "plain"].map(|side| count(side, pairs.len(), folder));
+    let [ours, theirs] = ["library", "plain"].map(|side| of_calls("*pairs::counted", &["fit-one", side], pairs.len(), &Path::new(folder).join(format!("fit.{side}"))));
     println!("| tables | answer | library ms | plain ms | library Ir | plain Ir | ratio of Ir |");
     println!("| --- | --- | --- | --- | --- | --- | --- |");
     for (pair, (library, plain)) in pairs.iter().zip(ours.into_iter().zip(theirs)) {

@@ -58,6 +58,11 @@ fn same<T: PartialEq + std::fmt::Debug>(what: &str, table: &[u8], ours: T, their
     }
 }
 
+/// How an operation is called at these limits: with them, and at the standard ones without them too.
+fn ways(l: Limits) -> &'static [bool] {
+    if l == STANDARD { &[true, false] } else { &[true] }
+}
+
 /// A buffer length around what is needed: shorter, equal, longer, or none.
 fn around(r: &mut Random, need: usize) -> usize {
     match r.below(5) {
@@ -70,9 +75,8 @@ fn around(r: &mut Random, need: usize) -> usize {
 
 fn compare_read(l: Limits, b: &[u8], c: &mut Counts) {
     let theirs = reference::read(l, b).map(|s| s.map(|x| x as u64));
-    same("read", b, flat(basilvault::read_within(l, b)), theirs);
-    if l == STANDARD {
-        same("read, no limits given", b, flat(basilvault::read(b)), theirs);
+    for &within in ways(l) {
+        same("read", b, flat(if within { basilvault::read_within(l, b) } else { basilvault::read(b) }), theirs);
     }
     c.add("read", theirs);
 }
@@ -84,20 +88,22 @@ fn compare_tops(l: Limits, b: &[u8], c: &mut Counts) {
         v[40] = k as u64;
         v
     });
-    same("tops", b, flat(basilvault::tops_within(l, b)), theirs);
-    if l == STANDARD {
-        same("tops, no limits given", b, flat(basilvault::tops(b)), theirs);
+    for &within in ways(l) {
+        same("tops", b, flat(if within { basilvault::tops_within(l, b) } else { basilvault::tops(b) }), theirs);
     }
     c.add("tops", theirs);
 }
 
 fn compare_clauses(r: &mut Random, l: Limits, b: &[u8], c: &mut Counts) {
     let need = reference::parse(l, b).map(|(t, _)| reference::words_of(&reference::clause_list(&t)).len()).unwrap_or(9);
-    let mut ours = vec![0xbeefu16; around(r, need)];
-    let mut theirs = ours.clone();
-    let a = flat(if l == STANDARD { basilvault::clauses(b, &mut ours) } else { basilvault::clauses_within(l, b, &mut ours) });
+    let fresh = vec![0xbeefu16; around(r, need)];
+    let mut theirs = fresh.clone();
     let e = reference::clauses(l, b, &mut theirs).map(|(x, y)| [x as u64, y as u64]);
-    same("clauses", b, (a, ours), (e, theirs));
+    for &within in ways(l) {
+        let mut ours = fresh.clone();
+        let a = flat(if within { basilvault::clauses_within(l, b, &mut ours) } else { basilvault::clauses(b, &mut ours) });
+        same("clauses", b, (a, &ours), (e, &theirs));
+    }
     c.add("clauses", e);
     if let Ok((t, _)) = reference::parse(l, b) {
         let counts = basilvault::read_within(l, b).expect("a readable table").counts(b.len());
@@ -110,20 +116,24 @@ fn compare_clauses(r: &mut Random, l: Limits, b: &[u8], c: &mut Counts) {
 }
 
 fn compare_search(r: &mut Random, l: Limits, words: &[u16], variables: usize, budget: u64, c: &mut Counts) {
-    let mut ours = vec![0x77u8; around(r, variables)];
-    let mut theirs = ours.clone();
-    let a = flat(if l == STANDARD { basilvault::search(words, variables, budget, &mut ours) } else { basilvault::search_within(l, words, variables, budget, &mut ours) });
+    let fresh = vec![0x77u8; around(r, variables)];
+    let mut theirs = fresh.clone();
     let e = reference::search(l, words, variables, budget, &mut theirs).map(|k| [k]);
-    if (a, &ours) != (e, &theirs) {
-        panic!("search differs: {a:?} {ours:?} against {e:?} {theirs:?}; variables {variables}, budget {budget}, words {words:?}");
+    for &within in ways(l) {
+        let mut ours = fresh.clone();
+        let a = flat(if within { basilvault::search_within(l, words, variables, budget, &mut ours) } else { basilvault::search(words, variables, budget, &mut ours) });
+        if (a, &ours) != (e, &theirs) {
+            panic!("search differs: {a:?} {ours:?} against {e:?} {theirs:?}; variables {variables}, budget {budget}, words {words:?}");
+        }
     }
     c.add("search", e);
 }
 
 fn compare_map(r: &mut Random, l: Limits, b: &[u8], m: &[u8], c: &mut Counts) {
     let e = reference::check(l, b, m).map(|k| [k as u64]);
-    let a = flat(if l == STANDARD { basilvault::check(b, m) } else { basilvault::check_within(l, b, m) });
-    same("check", b, a, e);
+    for &within in ways(l) {
+        same("check", b, flat(if within { basilvault::check_within(l, b, m) } else { basilvault::check(b, m) }), e);
+    }
     c.add("check", e);
     let need = match (reference::parse(l, b), e) {
         (Ok((t, _)), Ok(_)) => {
@@ -135,11 +145,14 @@ fn compare_map(r: &mut Random, l: Limits, b: &[u8], m: &[u8], c: &mut Counts) {
         }
         _ => b.len(),
     };
-    let mut ours = vec![0x55u8; around(r, need)];
-    let mut theirs = ours.clone();
-    let a = flat(if l == STANDARD { basilvault::quotient(b, m, &mut ours) } else { basilvault::quotient_within(l, b, m, &mut ours) });
+    let fresh = vec![0x55u8; around(r, need)];
+    let mut theirs = fresh.clone();
     let e = reference::quotient(l, b, m, &mut theirs).map(|k| [k as u64]);
-    same("quotient", b, (a, ours), (e, theirs));
+    for &within in ways(l) {
+        let mut ours = fresh.clone();
+        let a = flat(if within { basilvault::quotient_within(l, b, m, &mut ours) } else { basilvault::quotient(b, m, &mut ours) });
+        same("quotient", b, (a, &ours), (e, &theirs));
+    }
     c.add("quotient", e);
 }
 
@@ -149,8 +162,9 @@ fn compare_uses(r: &mut Random, l: Limits, b: &[u8], m: &[u8], lines: &[u8], c: 
         v[..40].copy_from_slice(&sums);
         v
     });
-    let a = flat(if l == STANDARD { basilvault::uses(b, m, lines) } else { basilvault::uses_within(l, b, m, lines) });
-    same("uses", b, a, e);
+    for &within in ways(l) {
+        same("uses", b, flat(if within { basilvault::uses_within(l, b, m, lines) } else { basilvault::uses(b, m, lines) }), e);
+    }
     c.add("uses", e);
     // the lines in another order
     let mut turned: Vec<&[u8]> = lines.chunks_exact(5).collect();
@@ -163,10 +177,12 @@ fn compare_uses(r: &mut Random, l: Limits, b: &[u8], m: &[u8], lines: &[u8], c: 
 
 fn compare_choose(l: Limits, b: &[u8], first: &[u8], second: &[u8], c: &mut Counts) {
     let e = reference::choose(l, b, first, second).map(|which| [u64::from(which)]);
-    let a = if l == STANDARD { basilvault::choose(b, first, second) } else { basilvault::choose_within(l, b, first, second) };
     // the lent map itself, not one with the same bytes
     let which = |map: &[u8]| [first, second].iter().position(|lent| std::ptr::eq(*lent, map)).map_or(0, |i| i as u64 + 1);
-    same("choose", b, flat(a.map(which)), e);
+    for &within in ways(l) {
+        let a = if within { basilvault::choose_within(l, b, first, second) } else { basilvault::choose(b, first, second) };
+        same("choose", b, flat(a.map(which)), e);
+    }
     c.add("choose", e);
     if let Ok([which]) = e {
         c.add(["the first map chosen", "the second map chosen"][which as usize - 1], Ok(()));
@@ -175,11 +191,14 @@ fn compare_choose(l: Limits, b: &[u8], first: &[u8], second: &[u8], c: &mut Coun
 
 fn compare_generate(r: &mut Random, l: Limits, load: Load, c: &mut Counts) {
     let need = reference::generated(l, load).map_or(9, |t| t.bytes().len());
-    let mut ours = vec![0x33u8; around(r, need)];
-    let mut theirs = ours.clone();
-    let a = flat(if l == STANDARD { basilvault::generate(load, &mut ours) } else { basilvault::generate_within(l, load, &mut ours) });
+    let fresh = vec![0x33u8; around(r, need)];
+    let mut theirs = fresh.clone();
     let e = reference::generate(l, load, &mut theirs).map(|k| [k as u64]);
-    assert!((a, &ours) == (e, &theirs), "generate differs: {a:?} against {e:?} for {load:?} at {l:?}");
+    for &within in ways(l) {
+        let mut ours = fresh.clone();
+        let a = flat(if within { basilvault::generate_within(l, load, &mut ours) } else { basilvault::generate(load, &mut ours) });
+        assert!((a, &ours) == (e, &theirs), "generate differs: {a:?} against {e:?} for {load:?} at {l:?}");
+    }
     c.add("generate", e);
 }
 
@@ -196,8 +215,10 @@ fn generated(r: &mut Random, most: usize) -> Table {
 fn compare_script(r: &mut Random, l: Limits, t: &Table, b: &[u8], c: &mut Counts) {
     let script = random::script(r, t);
     let e = reference::script(l, b, &script).map(|yes| [u64::from(yes)]);
-    let a = flat(if l == STANDARD { basilvault::script(b, &script) } else { basilvault::script_within(l, b, &script) });
-    same("script", b, (&script, a), (&script, e));
+    for &within in ways(l) {
+        let a = flat(if within { basilvault::script_within(l, b, &script) } else { basilvault::script(b, &script) });
+        same("script", b, (&script, a), (&script, e));
+    }
     c.add("script", e);
     if let (Ok([yes]), Ok((t, _))) = (e, reference::parse(l, b)) {
         c.add(["script: no", "script: yes"][yes as usize], Ok(()));
@@ -209,11 +230,14 @@ fn compare_script(r: &mut Random, l: Limits, t: &Table, b: &[u8], c: &mut Counts
 
 fn compare_records(r: &mut Random, l: Limits, b: &[u8], m: &[u8], c: &mut Counts) {
     let need = reference::parse(l, b).map_or(9, |(t, _)| t.internals.len() + t.calls.len() + t.returns.len());
-    let mut ours = vec![0x22u8; around(r, need)];
-    let mut theirs = ours.clone();
-    let a = flat(if l == STANDARD { basilvault::records(b, m, &mut ours) } else { basilvault::records_within(l, b, m, &mut ours) });
+    let fresh = vec![0x22u8; around(r, need)];
+    let mut theirs = fresh.clone();
     let e = reference::records(l, b, m, &mut theirs).map(|x| x.map(|k| k as u64));
-    same("records", b, (a, ours), (e, theirs));
+    for &within in ways(l) {
+        let mut ours = fresh.clone();
+        let a = flat(if within { basilvault::records_within(l, b, m, &mut ours) } else { basilvault::records(b, m, &mut ours) });
+        same("records", b, (a, &ours), (e, &theirs));
+    }
     c.add("records", e);
     if let Ok([_, _, folded, dead]) = e {
         if folded > 0 && dead > 0 {
@@ -253,17 +277,17 @@ fn row(answer: basilvault::Result<Reduced>) -> [u64; 8] {
 }
 
 /// The values of a season as C has them, also those past the count, with buffers of these lengths.
-fn season_values(l: Limits, tables: &[u8], lengths: &[u64], guesses: u64, [list, maps, out]: [usize; 3]) -> Result<Vec<u64>, u8> {
+fn season_values(l: Limits, within: bool, tables: &[u8], lengths: &[u64], guesses: u64, [list, maps, out]: [usize; 3]) -> Result<Vec<u64>, u8> {
     let (mut list, mut maps, mut out, mut values) = (vec![0u16; list], vec![0u8; maps], vec![0u8; out], vec![7u64; 64]);
     let (t, c, k) = (tables.len(), lengths.len(), values.len());
     let [n, m, o] = [list.len(), maps.len(), out.len()];
     let (tables, lengths, values_at) = (tables.as_ptr(), lengths.as_ptr(), values.as_mut_ptr());
     let (list, maps, out) = (list.as_mut_ptr(), maps.as_mut_ptr(), out.as_mut_ptr());
     let number = unsafe {
-        if l == STANDARD {
-            raw::basilvault_season(tables, t, lengths, c, guesses, list, n, maps, m, out, o, values_at, k)
-        } else {
+        if within {
             raw::basilvault_season_within(l.states, l.symbols, tables, t, lengths, c, guesses, list, n, maps, m, out, o, values_at, k)
+        } else {
+            raw::basilvault_season(tables, t, lengths, c, guesses, list, n, maps, m, out, o, values_at, k)
         }
     };
     if number == 0 { Ok(values) } else { Err(number as u8) }
@@ -272,21 +296,23 @@ fn season_values(l: Limits, tables: &[u8], lengths: &[u64], guesses: u64, [list,
 fn compare_season(r: &mut Random, l: Limits, c: &mut Counts) {
     let (tables, lengths) = random::season(r, 6);
     let guesses = if r.chance(70) { r.below(20) as u64 } else { u64::MAX };
-    let mut list = vec![0xabcdu16; around(r, 400)];
-    let mut maps = vec![0x66u8; around(r, 25)];
-    let mut out = vec![0x44u8; around(r, tables.len())];
-    let (mut list2, mut maps2, mut out2) = (list.clone(), maps.clone(), out.clone());
-    let a = if l == STANDARD {
-        basilvault::season(&tables, &lengths, guesses, &mut list, &mut maps, &mut out)
-    } else {
-        basilvault::season_within(l, &tables, &lengths, guesses, &mut list, &mut maps, &mut out)
-    };
-    let in_c = season_values(l, &tables, &lengths, guesses, [list2.len(), maps2.len(), out2.len()]);
-    let e = reference::season(l, &tables, &lengths, guesses, &mut list2, &mut maps2, &mut out2);
+    let fresh = (vec![0xabcdu16; around(r, 400)], vec![0x66u8; around(r, 25)], vec![0x44u8; around(r, tables.len())]);
+    let mut theirs = fresh.clone();
+    let e = reference::season(l, &tables, &lengths, guesses, &mut theirs.0, &mut theirs.1, &mut theirs.2);
     let rows = |answers: Vec<basilvault::Result<Reduced>>| answers.into_iter().map(row).collect::<Vec<_>>();
     let expected = e.map(|x| x[..lengths.len()].to_vec());
-    same("season", &tables, (a.map(rows).map_err(Refusal::number), list, maps, out), (expected, list2, maps2, out2));
-    same("season's values", &tables, in_c, e.map(|x| x.concat()));
+    for &within in ways(l) {
+        let mut ours = fresh.clone();
+        let (list, maps, out) = (&mut ours.0, &mut ours.1, &mut ours.2);
+        let a = if within {
+            basilvault::season_within(l, &tables, &lengths, guesses, list, maps, out)
+        } else {
+            basilvault::season(&tables, &lengths, guesses, list, maps, out)
+        };
+        same("season", &tables, (a.map(rows).map_err(Refusal::number), &ours), (expected.clone(), &theirs));
+        let in_c = season_values(l, within, &tables, &lengths, guesses, [fresh.0.len(), fresh.1.len(), fresh.2.len()]);
+        same("season's values", &tables, in_c, e.map(|x| x.concat()));
+    }
     c.add("season", e);
     for answer in e.into_iter().flatten().take(lengths.len()) {
         c.add(if answer[7] == 1 { "season, a table spent" } else { "season, a table" }, if answer[0] == 0 { Ok(()) } else { Err(answer[0] as u8) });
@@ -369,13 +395,19 @@ fn compare_reduce(r: &mut Random, l: Limits, b: &[u8], c: &mut Counts) {
         Err(_) => (9, 4),
     };
     let ample = r.chance(70);
-    let mut list = vec![0xabcdu16; if ample { words + r.below(9) } else { around(r, words) }];
-    let mut map = vec![0x66u8; if ample { states + r.below(4) } else { around(r, states) }];
-    let mut out = vec![0x44u8; if ample { b.len() + r.below(20) } else { around(r, b.len()) }];
-    let (mut list2, mut map2, mut out2) = (list.clone(), map.clone(), out.clone());
-    let a = flat(if l == STANDARD { basilvault::reduce(b, budget, &mut list, &mut map, &mut out) } else { basilvault::reduce_within(l, b, budget, &mut list, &mut map, &mut out) });
-    let e = reference::reduce(l, b, budget, &mut list2, &mut map2, &mut out2);
-    same("reduce", b, (a, list, &map, &out), (e.map(|x| x.values()), list2, &map2, &out2));
+    let list = vec![0xabcdu16; if ample { words + r.below(9) } else { around(r, words) }];
+    let map = vec![0x66u8; if ample { states + r.below(4) } else { around(r, states) }];
+    let out = vec![0x44u8; if ample { b.len() + r.below(20) } else { around(r, b.len()) }];
+    let fresh = (list, map, out);
+    let mut theirs = fresh.clone();
+    let e = reference::reduce(l, b, budget, &mut theirs.0, &mut theirs.1, &mut theirs.2);
+    for &within in ways(l) {
+        let mut ours = fresh.clone();
+        let (list, map, out) = (&mut ours.0, &mut ours.1, &mut ours.2);
+        let a = flat(if within { basilvault::reduce_within(l, b, budget, list, map, out) } else { basilvault::reduce(b, budget, list, map, out) });
+        same("reduce", b, (a, &ours), (e.map(|x| x.values()), &theirs));
+    }
+    let (_, map, out) = theirs;
     c.add("reduce", e);
     if let (Ok(v), Ok((t, _))) = (e, parsed) {
         if v.spent {
