@@ -1,18 +1,17 @@
 -- Laws for asking a clause: what is seen of it is what is seen of the literals still to come, with the unset literal met so far. Assumes nothing.
-use mathlib.Core.Path.{_≡_, refl, sym, ap, _∙_}
+use mathlib.Core.Path.{_≡_, refl, sym, _∙_}
 use mathlib.Core.Bool.{Bool, true, false, _||_}
 use mathlib.Core.List.{List, [], _∷_, _++_, append-nil, List·Memᴰ, List·Memᴰ·head, List·Memᴰ·tail}
 use Prim.Native.Nat.{ℕ, zero, suc, _+_, _-_, _/_, _≤_, _<_}
 use native.Mathlib.Numerals.{add-one}
 use native.Mathlib.Omega.{arith}
 use lib.ListN.{length, getD, take, drop}
-use lib.Seq.{slice, slice-empty, slice-cons, take-length}
+use lib.Seq.{slice, slice-empty, slice-cons, length-slice, getD-take, getD-drop}
 use Rattle.lists.specs.Lists.{any, keep}
 use Rattle.lists.proofs.Members.{any-of, getD-mem}
 use Rattle.cnf.specs.Search.{isRight, isUnset, Seen, broken, forcing, quiet, byUnset, seen}
 use Rattle.cnf.proofs.Found.{right-is, unset-is}
-use Rattle.asking.specs.declared.Asked.{Asked}
-use Rattle.asking.specs.Asked.{clauseAt, Over, seenOf, Told}
+use Rattle.asking.specs.Asked.{clauseAt, Over}
 use Rattle.asking.proofs.Walking.{clause-words}
 
 -- what is seen of a clause, by whether a literal is right and by the unset ones
@@ -66,9 +65,6 @@ seen-by v c p q = go (any (isRight v) c) ∙ λ i. seenBy (p i) (q i)
     go false = refl
 
 module _ (v : List ℕ) where
-  from-right : (ks : List ℕ) (l : ℕ) (c : List ℕ) → isRight v l ≡ true → seenFrom v ks (l ∷ c) ≡ quiet
-  from-right ks l c e = rw (any-cons, e)
-
   from-unset : (l : ℕ) (c : List ℕ) → isUnset v l ≡ true → seenFrom v [] (l ∷ c) ≡ seenFrom v (l ∷ []) c
   from-unset l c e = rw (any-cons, unset-not-right v l e, keep-cons v l c e)
 
@@ -101,6 +97,10 @@ pub record SeenSoFar (ws v : List ℕ) (first end at unset last : ℕ) : Type 0 
 pub within : (ws v : List ℕ) (first end : ℕ) → first ≤ end → end ≤ length ws → Over (slice first end ws) (length v) → SeenSoFar ws v first end first 0 0
 within ws v first end h k o = record { started = omega arith; inside = h; ends = k; few = omega arith; below = o; meets = seen-by v (slice first end ws) refl refl }
 
+-- a clause holds by the literal at a place
+pub holds-at : (c v : List ℕ) (i : ℕ) → i < length c → isRight v (getD c i 0) ≡ true → any (isRight v) c ≡ true
+holds-at c v i h e = any-of (isRight v) c (getD c i 0) (getD-mem c i 0 h) e
+
 module _ {ws v : List ℕ} {first end at unset last : ℕ} (w : SeenSoFar ws v first end at unset last) where
   -- all literals are passed
   all-passed : at ≡ end → seen v (slice first end ws) ≡ byUnset (oneOf unset last)
@@ -122,8 +122,12 @@ module _ {ws v : List ℕ} {first end at unset last : ℕ} (w : SeenSoFar ws v f
     rest-below : Over (slice (at + 1) end ws) (length v)
     rest-below l m = w .below l (rw cons-at (List·Memᴰ·tail m))
 
-    pub sees-right : isRight v (getD ws at 0) ≡ true → quiet ≡ seen v (slice first end ws)
-    sees-right e = sym (w .meets ∙ rw (cons-at, from-right v (oneOf unset last) (getD ws at 0) (slice (at + 1) end ws) e))
+    -- it is right
+    pub holds-by : isRight v (getD ws at 0) ≡ true → any (isRight v) (slice first end ws) ≡ true
+    holds-by e =
+        let place : first + (at - first) ≡ at = omega (arith, w .started) in
+        let here : getD (slice first end ws) (at - first) 0 ≡ getD ws at 0 = getD-drop first (take end ws) (at - first) 0 ∙ rw place (getD-take end ws at 0 (omega (arith, w .inside))) in
+        holds-at (slice first end ws) v (at - first) (omega (arith, length-slice first end ws (w .ends), w .started, w .inside)) (rw here e)
 
     pub sees-second : unset ≡ 1 → isUnset v (getD ws at 0) ≡ true → quiet ≡ seen v (slice first end ws)
     sees-second u e = sym (w .meets ∙ rw (cons-at, u, from-second v last (getD ws at 0) (slice (at + 1) end ws) e))
@@ -151,21 +155,6 @@ module _ {ws v : List ℕ} {first end at unset last : ℕ} (w : SeenSoFar ws v f
           meets = w .meets ∙ rw (cons-at, from-wrong v (oneOf unset last) (getD ws at 0) (slice (at + 1) end ws) u r);
         }
 
--- where none was unset, it does not matter which was the last
-pub last-any : {ws v : List ℕ} {first end at last : ℕ} (other : ℕ) → SeenSoFar ws v first end at 0 last → SeenSoFar ws v first end at 0 other
-last-any other w = record { started = w .started; inside = w .inside; ends = w .ends; few = w .few; below = w .below; meets = w .meets }
-
--- all words are one clause
-module _ (c v : List ℕ) where
-  pub holds-at : (i : ℕ) → i < length c → isRight v (getD c i 0) ≡ true → any (isRight v) c ≡ true
-  holds-at i h e = any-of (isRight v) c (getD c i 0) (getD-mem c i 0 h) e
-
-  pub within-all : Over c (length v) → SeenSoFar c v 0 (length c) 0 0 0
-  within-all h = within c v 0 (length c) (omega arith) (omega arith) (rw (take-length c) h)
-
-  pub seen-all : {s : Seen} → s ≡ seen v (slice 0 (length c) c) → s ≡ seen v c
-  seen-all e = e ∙ ap (seen v) (take-length c)
-
 -- ---- a literal that tells
 
 pub right-tells : (v c : List ℕ) (l : ℕ) → List·Memᴰ l c → isRight v l ≡ true → quiet ≡ seen v c
@@ -177,9 +166,3 @@ right-tells v c l m e = sym (seen-by v c (any-of (isRight v) c l m e) refl)
 module _ (ws : List ℕ) (at : ℕ) {k : ℕ} (e : k ≡ getD ws at 0) where
   pub lent-over : (n : ℕ) → Over (clauseAt ws at) n → Over (take (at + 1 + k - (at + 1)) (drop (at + 1) ws)) n
   lent-over n h = rw (clause-words ws at e) h
-
-  pub lent-seen : (v : List ℕ) {r a : Asked} → seenOf r ≡ seen v (take (at + 1 + k - (at + 1)) (drop (at + 1) ws)) → r ≡ a → seenOf a ≡ seen v (clauseAt ws at)
-  lent-seen v {r} q p = rw (clause-words ws at e, p) at q
-
-  pub lent-told : (v : List ℕ) {r a : Asked} → Told v (take (at + 1 + k - (at + 1)) (drop (at + 1) ws)) r → r ≡ a → Told v (clauseAt ws at) a
-  lent-told v h p = rw (clause-words ws at e, p) at h

@@ -300,7 +300,7 @@ fn solve_sifted(
     ensures { λ r. ⌜ EndsWith (searchTried (withTriangles (now (list .entry)) n) (length (now (values .entry))) budget) (r .ending) (now (values .exit)) (r .ceiling) ⌝ }
 {
     let mut left = [0u16; 4096];
-    let s = sift(list, n, table, values, trail, joined, apart, &mut left);
+    let s = sift(list, n, table, values, trail, joined, apart, 0, &mut left);
     if s.broken {
         return End {
             ending: Ending::Absent(0),

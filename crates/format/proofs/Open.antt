@@ -1,14 +1,15 @@
--- A table accepts no word that leaves something open, by the bytes of its symbols (document 02, (iv)). Assumes nothing.
+-- A table accepts no word that leaves something open, and none ends in a mark, by the bytes of its symbols (document 02, (iv) and (v)).
+-- Assumes nothing.
 use mathlib.Core.Path.{_≡_, refl}
 use mathlib.Core.List.{List, [], _∷_, map}
 use Prim.Native.Nat.{ℕ}
 use native.Mathlib.Omega.{arith}
-use Rattle.vpa.specs.Automata.{openBehind, openAfter}
-use Rattle.vpa.proofs.Calls.{Kinded, accepted-closed}
+use Rattle.vpa.specs.Automata.{EndsIn, openBehind, openAfter}
+use Rattle.vpa.proofs.Calls.{Kinded, accepted-closed, ends-closed}
 use Rattle.limits.specs.declared.Limits.{Limits}
 use Rattle.format.specs.File.{Table, tableOf}
 use Rattle.format.specs.Reading.{Readable, WellFormed}
-use Rattle.format.specs.Language.{automaton, kindOf, LeavesOpen, AcceptsWord}
+use Rattle.format.specs.Language.{automaton, automatonOf, kindOf, LeavesOpen, AcceptsWord}
 use Rattle.format.proofs.Bytes.{read-well-formed}
 use Rattle.format.proofs.Facts.{internals-fit, calls-fit, returns-fit}
 
@@ -22,6 +23,9 @@ moves-kinded wf = record {
 
 pub open-refused : (L : Limits) (b : List ℕ) → Readable L b → (w : List ℕ) → LeavesOpen b w → ¬ AcceptsWord b w
 open-refused L b e w o h = absurd (omega (arith, o, accepted-closed (automaton (tableOf b)) (kindOf (tableOf b)) (moves-kinded (read-well-formed L b e)) h))
+
+pub open-unmarked : (L : Limits) (b : List ℕ) → Readable L b → (w : List ℕ) → LeavesOpen b w → (k : ℕ) → ¬ EndsIn (automatonOf b) k w
+open-unmarked L b e w o k h = absurd (omega (arith, o, ends-closed (automaton (tableOf b)) (kindOf (tableOf b)) (moves-kinded (read-well-formed L b e)) h))
 
 -- nothing, a call, a call that is closed, a return that closes nothing, a call behind one, two calls and a return; by the symbols of table T
 abbrev words : List (List ℕ)

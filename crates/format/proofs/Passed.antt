@@ -3,7 +3,7 @@
 use mathlib.Core.Path.{_≡_, refl, sym, subst, _∙_}
 use mathlib.Core.Logic.{_⊎_, inl, inr}
 use mathlib.Core.Bool.{Bool, true, false}
-use mathlib.Core.List.{List, _∷_, List·Memᴰ}
+use mathlib.Core.List.{List, [], _∷_, List·Memᴰ}
 use Prim.Native.Nat.{ℕ, _-_, _%_, _≤_}
 use native.Mathlib.Omega.{arith}
 use lib.ListN.{length}
@@ -12,13 +12,24 @@ use borrow.Author.Tests.{eqb-true, leb-true, eq-eqb, le-leb}
 use Rattle.lists.specs.Lists.{any, all, firstFailed}
 use Rattle.lists.proofs.Members.{and-true, and-of, all-true, all-of}
 use Rattle.lists.proofs.Refusals.{passed, passes, fails, failed-within, none-failed, no-test, says}
-use Rattle.limits.specs.Limits.{limitsFit}
+use Rattle.limits.specs.Limits.{limitsFit, standard}
 use Rattle.limits.specs.declared.Limits.{Limits}
 use Rattle.format.specs.Limits.{longest, moveLimit, returnLimit}
 use Rattle.format.specs.File.{Table, trailer, distance, version, tableOf}
-use Rattle.format.specs.Reading.{lengthFits, versionFits, distancesFit, countsFit, stateByteMost, bytesFit, isInitial, startFits, recordFits, recordsFit, ascend, orderFits, tableTests, readNumber, Readable, startsOf, readOf, readingNumber, readingValues, ReadSays, WellFormed}
+use Rattle.format.specs.Reading.{lengthFits, versionFits, distancesFit, countsFit, stateByteMost, bytesFit, isInitial, startFits, recordFits, recordsFit, before, ascendFrom, ascend, orderFits, tableTests, readNumber, Readable, startsOf, readOf, readingNumber, readingValues, ReadSays, WellFormed}
 use Rattle.format.specs.declared.Reading.{Reading}
 use Rattle.format.specs.declared.Reading.the-variants.{Sections, Refused}
+
+-- ---- the first refusal that applies is given
+
+-- two equal internals whose symbol is past the count
+abbrev twice : Table
+twice = record { version = 1; symbols = []; states = 1 ∷ []; internals = (0 ∷ 0 ∷ 0 ∷ []) ∷ (0 ∷ 0 ∷ 0 ∷ []) ∷ []; calls = []; returns = [] }
+
+-- 39 before 1, of no bytes at limits of no state; 7 before 8
+first-given : readNumber (record { states = 0; symbols = 32 }) [] ∷ firstFailed (tableTests standard twice) ∷ [] ≡ 39 ∷ 7 ∷ []
+unfolding any all firstFailed limitsFit lengthFits countsFit stateByteMost bytesFit isInitial startFits recordFits recordsFit before ascendFrom ascend orderFits tableTests readNumber
+first-given = refl
 
 -- ---- what it says that bytes are readable
 

@@ -1,3 +1,2 @@
 pub mod Attending
-pub mod Passing
 pub mod Settling

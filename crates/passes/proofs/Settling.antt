@@ -76,8 +76,8 @@ module _ {cs ds : List (List ℕ)} {v₀ t₀ v t : List ℕ} {start at count : 
           omega
           (arith, worked-length (i .ready) (i .worked), settle-values, worked-count drain-ready (d .worked), worked-count pass-ready (p .worked), p .worked .grown .counted)
 
-      pub settle-broken : isBroken′ ≡ true → Settles (cs ++ ds) v₀ t₀ start u r isBroken′ more
-      settle-broken e = drained-settles (i .ready) (drained-broken all-worked e)
+      pub settle-broken : isBroken′ ≡ true → Settles (cs ++ ds) v₀ t₀ start u r true more
+      settle-broken e = drained-settles (i .ready) (drained-broken (rw e at all-worked) refl)
 
       -- what the pass has set
       room : mid ≤ length s
@@ -86,13 +86,13 @@ module _ {cs ds : List (List ℕ)} {v₀ t₀ v t : List ℕ} {start at count : 
       pub settle-more : isBroken′ ≡ false → Settling cs ds v₀ t₀ start u r mid more
       settle-more e = record {
         ready = i .ready;
-        worked = subst (λ (b : Bool). Worked (cs ++ ds) v₀ t₀ start u r b more) e all-worked;
+        worked = rw e at all-worked;
         queue = worked-queue pass-ready (p .worked) (d .at-rest quiet);
       }
 
       -- the pass set nothing
-      pub settle-rest : isBroken′ ≡ false → more ≡ mid → Settles (cs ++ ds) v₀ t₀ start u r isBroken′ more
-      settle-rest e q = drained-settles (i .ready) (record { worked = all-worked; at-rest = λ _ c m. pick c (append-cases cs m) })
+      pub settle-rest : isBroken′ ≡ false → more ≡ mid → Settles (cs ++ ds) v₀ t₀ start u r false more
+      settle-rest e q = drained-settles (i .ready) (record { worked = rw e at all-worked; at-rest = λ _ c m. pick c (append-cases cs m) })
         where
           none : p .worked .grown .new ≡ []
           none = empty (p .worked .grown .new) size

@@ -1,4 +1,4 @@
--- Laws for the first pass: every clause passed has a right literal, or its place is put down. Assumes nothing.
+-- Laws for a pass that puts down places: every clause passed has a right literal, or its place is put down. Assumes nothing.
 use mathlib.Core.Path.{_≡_, refl, sym, ap, _∙_, subst}
 use mathlib.Core.Logic.{_⊎_, inl, inr, _≢_}
 use mathlib.Core.Bool.{true, false, true≢false}
@@ -11,15 +11,17 @@ use lib.Seq.{take-suc-set}
 use Rattle.lists.specs.Lists.{any}
 use Rattle.lists.proofs.Members.{any-true, any-of}
 use Rattle.cnf.specs.Clauses.{clausesIn, whole, Right}
-use Rattle.cnf.specs.Search.{isRight, broken, forcing, seen}
+use Rattle.cnf.specs.Search.{isRight, broken, forcing, quiet, seen}
 use Rattle.cnf.specs.Closing.{_⊑_}
 use Rattle.cnf.proofs.Found.{right-is, right-of}
 use Rattle.asking.specs.Asked.{clauseAt}
 use Rattle.sifting.specs.Sift.{StandsAt, Sifts}
-use Rattle.rows.specs.Trail.{Ready, Worked}
+use Rattle.rows.specs.Trail.{Ready}
 use Rattle.rows.specs.Rows.{Forced}
-use Rattle.asking.proofs.Walking.{Before, before-first, before-next, end-inside, none-left, clause-in, clause-cases}
-use Rattle.rows.proofs.Working.{worked-none, worked-broken, worked-store, forced-literal}
+use Rattle.asking.proofs.Walking.{end-inside, none-left, clause-in, clause-cases}
+use Rattle.asking.proofs.Asking.{right-tells}
+use Rattle.sifting.proofs.Passing.{Passing, passing, pass-end, pass-broken, pass-quiet, pass-stored}
+use Rattle.rows.proofs.Working.{forced-literal}
 
 -- ---- a right literal stays right
 
@@ -40,33 +42,36 @@ abbrev Kept : List ℕ → List ℕ → List ℕ → Type 0
 Kept ws ps c = (p : ℕ) × List·Memᴰ p ps × (clauseAt ws p ≡ c)
 
 -- before the clause at `at`: v₀ and t₀ were the values and the trail where the pass began
-pub record Sifting (ws v₀ t₀ v t room : List ℕ) (count kept at : ℕ) : Type 0 where
-  pub before : Before ws at
-  pub worked : Worked (clausesIn ws) v₀ t₀ 0 v t false count
+pub record Sifting (ws v₀ t₀ : List ℕ) (start : ℕ) (v t room : List ℕ) (count kept at : ℕ) : Type 0 where
+  pub passing : Passing ws v₀ t₀ start v t count at
   pub few : kept ≤ at
   pub stand : kept ≤ length room → (p : ℕ) → List·Memᴰ p (take kept room) → StandsAt ws p
   pub passed : kept ≤ length room → (c : List ℕ) → List·Memᴰ c (clausesIn ws) → List·Memᴰ c (clausesIn (drop at ws)) ⊎ ((any (isRight v) c ≡ true) ⊎ Kept ws (take kept room) c)
 
-module _ {ws v₀ t₀ : List ℕ} (ready : Ready (clausesIn ws) v₀ t₀ 0) where
-  pub sifting : (room : List ℕ) → whole ws ≡ true → Sifting ws v₀ t₀ v₀ t₀ room 0 0 0
-  sifting room w = record { before = before-first w; worked = worked-none ready; few = omega arith; stand = λ h p m. absurd (not-nil m); passed = λ h c m. inl m }
+-- in the clause nothing is put down yet
+pub sift-same : {ws v₀ t₀ v t room room′ : List ℕ} {start count kept kept′ at : ℕ} → Sifting ws v₀ t₀ start v t room count kept at → kept′ ≡ kept → room′ ≡ room → Sifting ws v₀ t₀ start v t room′ count kept′ at
+sift-same i p q = rw (p, q) i
 
-  module _ {v t room : List ℕ} {count kept at : ℕ} (i : Sifting ws v₀ t₀ v t room count kept at) where
+module _ {ws v₀ t₀ : List ℕ} {start : ℕ} (ready : Ready (clausesIn ws) v₀ t₀ start) where
+  pub sifting : (room : List ℕ) → whole ws ≡ true → Sifting ws v₀ t₀ start v₀ t₀ room start 0 0
+  sifting room w = record { passing = passing ready w; few = omega arith; stand = λ h p m. absurd (not-nil m); passed = λ h c m. inl m }
+
+  module _ {v t room : List ℕ} {count kept at : ℕ} (i : Sifting ws v₀ t₀ start v t room count kept at) where
     -- all clauses are passed
-    pub sift-end : length ws ≤ at → Sifts ws v₀ t₀ v t room false count kept
-    sift-end h = record { worked = i .worked; left = λ _ k. record { places = i .stand k; each = λ c m. go c (i .passed k c m) } }
+    pub sift-end : length ws ≤ at → Sifts ws v₀ t₀ start v t room false count kept
+    sift-end h = record { pass = pass-end ready (i .passing) h; left = λ _ k. record { places = i .stand k; each = λ c m. go c (i .passed k c m) } }
       where
         go : (c : List ℕ) → List·Memᴰ c (clausesIn (drop at ws)) ⊎ ((any (isRight v) c ≡ true) ⊎ Kept ws (take kept room) c) → (any (isRight v) c ≡ true) ⊎ Kept ws (take kept room) c
         go c (inl m) = absurd (none-left ws at h c m)
         go c (inr s) = s
 
     module _ (h : at < length ws) where
-      pub sift-broken : broken ≡ seen v (clauseAt ws at) → Sifts ws v₀ t₀ v t room true count kept
-      sift-broken e = record { worked = worked-broken ready (i .worked) (clause-in (i .before) h) e; left = λ b. absurd (true≢false b) }
+      pub sift-broken : broken ≡ seen v (clauseAt ws at) → Sifts ws v₀ t₀ start v t room true count kept
+      sift-broken e = record { pass = pass-broken ready (i .passing) h e; left = λ b. absurd (true≢false b) }
 
       -- the clause is passed, and no place is put down
-      on : {v′ t′ : List ℕ} {count′ : ℕ} → Worked (clausesIn ws) v₀ t₀ 0 v′ t′ false count′ → v ⊑ v′ → any (isRight v′) (clauseAt ws at) ≡ true → Sifting ws v₀ t₀ v′ t′ room count′ kept (at + 1 + getD ws at 0)
-      on {v′} p x e = record { before = before-next (i .before) h; worked = p; few = omega (arith, i .few); stand = i .stand; passed = λ k c m. go k c (i .passed k c m) }
+      on : {v′ t′ : List ℕ} {count′ : ℕ} → Passing ws v₀ t₀ start v′ t′ count′ (at + 1 + getD ws at 0) → v ⊑ v′ → any (isRight v′) (clauseAt ws at) ≡ true → Sifting ws v₀ t₀ start v′ t′ room count′ kept (at + 1 + getD ws at 0)
+      on {v′} p x e = record { passing = p; few = omega (arith, i .few); stand = i .stand; passed = λ k c m. go k c (i .passed k c m) }
         where
           pick : (k : kept ≤ length room) (c : List ℕ) → (c ≡ clauseAt ws at) ⊎ List·Memᴰ c (clausesIn (drop (at + 1 + getD ws at 0) ws))
               → List·Memᴰ c (clausesIn (drop (at + 1 + getD ws at 0) ws)) ⊎ ((any (isRight v′) c ≡ true) ⊎ Kept ws (take kept room) c)
@@ -75,46 +80,47 @@ module _ {ws v₀ t₀ : List ℕ} (ready : Ready (clausesIn ws) v₀ t₀ 0) wh
 
           go : (k : kept ≤ length room) (c : List ℕ) → List·Memᴰ c (clausesIn (drop at ws)) ⊎ ((any (isRight v) c ≡ true) ⊎ Kept ws (take kept room) c)
               → List·Memᴰ c (clausesIn (drop (at + 1 + getD ws at 0) ws)) ⊎ ((any (isRight v′) c ≡ true) ⊎ Kept ws (take kept room) c)
-          go k c (inl m) = pick k c (clause-cases (i .before) h c m)
+          go k c (inl m) = pick k c (clause-cases (i .passing .before) h c m)
           go k c (inr (inl q)) = inr (inl (any-more c x q))
           go k c (inr (inr q)) = inr (inr q)
 
-      pub sift-holding : any (isRight v) (clauseAt ws at) ≡ true → Sifting ws v₀ t₀ v t room count kept (at + 1 + getD ws at 0)
-      sift-holding e = on (i .worked) (record { keeps = λ x k. refl }) e
+      pub sift-holding : any (isRight v) (clauseAt ws at) ≡ true → Sifting ws v₀ t₀ start v t room count kept (at + 1 + getD ws at 0)
+      sift-holding e =
+          let r = any-true (isRight v) (clauseAt ws at) e in
+          on (pass-quiet ready (i .passing) h (right-tells v (clauseAt ws at) (r .0) (r .1) (r .2))) (record { keeps = λ x k. refl }) e
 
-      pub sift-forced : {l n more : ℕ} {v′ t′ joined apart : List ℕ} → forcing l ≡ seen v (clauseAt ws at) → Forced n v t count l v′ t′ joined apart more → Sifting ws v₀ t₀ v′ t′ room more kept (at + 1 + getD ws at 0)
+      pub sift-forced : {l n more : ℕ} {v′ t′ joined apart : List ℕ} → forcing l ≡ seen v (clauseAt ws at) → Forced n v t count l v′ t′ joined apart more → Sifting ws v₀ t₀ start v′ t′ room more kept (at + 1 + getD ws at 0)
       sift-forced {l} {v′ = v′} e f =
-          let m = clause-in (i .before) h in
-          let own = forced-literal ready (i .worked) m e f in
-          on (worked-store ready (i .worked) m e f) (own .extends) (any-of (isRight v′) (clauseAt ws at) l (own .has) (right-of v′ l (own .right)))
+          let own = forced-literal ready (i .passing .worked) (clause-in (i .passing .before) h) e f in
+          on (pass-stored ready (i .passing) h e f) (own .extends) (any-of (isRight v′) (clauseAt ws at) l (own .has) (right-of v′ l (own .right)))
 
       -- the clause stays: its place is put down where there is room
-      pub sift-kept : {room′ : List ℕ} → length room′ ≡ length room → (kept < length room → room′ ≡ set room kept at) → Sifting ws v₀ t₀ v t room′ count (kept + 1) (at + 1 + getD ws at 0)
-      sift-kept {room′} q put = record {
-        before = before-next (i .before) h;
-        worked = i .worked;
-        few = omega (arith, i .few);
-        stand = λ k p m. stands p (append-cases (take kept room) (subst (λ (l : List ℕ). List·Memᴰ p l) (more k) m)) (omega (arith, q));
-        passed = λ k c m. go k c (i .passed (omega (arith, q)) c m);
-      }
-        where
-          more : kept + 1 ≤ length room′ → take (kept + 1) room′ ≡ take kept room ++ (at ∷ [])
-          more k = rw (put (omega (arith, q)), add-one) (take-suc-set room kept at (omega (arith, q)))
+      module _ (e : quiet ≡ seen v (clauseAt ws at)) where
+        pub sift-kept : {room′ : List ℕ} → length room′ ≡ length room → (kept < length room → room′ ≡ set room kept at) → Sifting ws v₀ t₀ start v t room′ count (kept + 1) (at + 1 + getD ws at 0)
+        sift-kept {room′} q put = record {
+          passing = pass-quiet ready (i .passing) h e;
+          few = omega (arith, i .few);
+          stand = λ k p m. stands p (append-cases (take kept room) (subst (λ (l : List ℕ). List·Memᴰ p l) (more k) m)) (omega (arith, q));
+          passed = λ k c m. go k c (i .passed (omega (arith, q)) c m);
+        }
+          where
+            more : kept + 1 ≤ length room′ → take (kept + 1) room′ ≡ take kept room ++ (at ∷ [])
+            more k = rw (put (omega (arith, q)), add-one) (take-suc-set room kept at (omega (arith, q)))
 
-          stands : (p : ℕ) → List·Memᴰ p (take kept room) ⊎ List·Memᴰ p (at ∷ []) → kept ≤ length room → StandsAt ws p
-          stands p (inl m) k = i .stand k p m
-          stands p (inr m) k = subst (StandsAt ws) (sym (eq-of-singleton m)) (record { starts = h; ends = end-inside (i .before) h; clause = clause-in (i .before) h })
+            stands : (p : ℕ) → List·Memᴰ p (take kept room) ⊎ List·Memᴰ p (at ∷ []) → kept ≤ length room → StandsAt ws p
+            stands p (inl m) k = i .stand k p m
+            stands p (inr m) k = subst (StandsAt ws) (sym (eq-of-singleton m)) (record { starts = h; ends = end-inside (i .passing .before) h; clause = clause-in (i .passing .before) h })
 
-          pick : (k : kept + 1 ≤ length room′) (c : List ℕ) → (c ≡ clauseAt ws at) ⊎ List·Memᴰ c (clausesIn (drop (at + 1 + getD ws at 0) ws))
-              → List·Memᴰ c (clausesIn (drop (at + 1 + getD ws at 0) ws)) ⊎ ((any (isRight v) c ≡ true) ⊎ Kept ws (take (kept + 1) room′) c)
-          pick k c (inl e) = inr (inr (at, rw (more k) (Memᴰ·append-right (take kept room) (List·Memᴰ·head refl)), sym e))
-          pick k c (inr m) = inl m
+            pick : (k : kept + 1 ≤ length room′) (c : List ℕ) → (c ≡ clauseAt ws at) ⊎ List·Memᴰ c (clausesIn (drop (at + 1 + getD ws at 0) ws))
+                → List·Memᴰ c (clausesIn (drop (at + 1 + getD ws at 0) ws)) ⊎ ((any (isRight v) c ≡ true) ⊎ Kept ws (take (kept + 1) room′) c)
+            pick k c (inl p) = inr (inr (at, rw (more k) (Memᴰ·append-right (take kept room) (List·Memᴰ·head refl)), sym p))
+            pick k c (inr m) = inl m
 
-          go : (k : kept + 1 ≤ length room′) (c : List ℕ) → List·Memᴰ c (clausesIn (drop at ws)) ⊎ ((any (isRight v) c ≡ true) ⊎ Kept ws (take kept room) c)
-              → List·Memᴰ c (clausesIn (drop (at + 1 + getD ws at 0) ws)) ⊎ ((any (isRight v) c ≡ true) ⊎ Kept ws (take (kept + 1) room′) c)
-          go k c (inl m) = pick k c (clause-cases (i .before) h c m)
-          go k c (inr (inl e)) = inr (inl e)
-          go k c (inr (inr p)) = inr (inr (p .0, rw (more k) (Memᴰ·append-left (at ∷ []) (p .1)), p .2))
+            go : (k : kept + 1 ≤ length room′) (c : List ℕ) → List·Memᴰ c (clausesIn (drop at ws)) ⊎ ((any (isRight v) c ≡ true) ⊎ Kept ws (take kept room) c)
+                → List·Memᴰ c (clausesIn (drop (at + 1 + getD ws at 0) ws)) ⊎ ((any (isRight v) c ≡ true) ⊎ Kept ws (take (kept + 1) room′) c)
+            go k c (inl m) = pick k c (clause-cases (i .passing .before) h c m)
+            go k c (inr (inl p)) = inr (inl p)
+            go k c (inr (inr p)) = inr (inr (p .0, rw (more k) (Memᴰ·append-left (at ∷ []) (p .1)), p .2))
 
-      pub sift-put : {room′ : List ℕ} → room′ ≡ set room kept at → Sifting ws v₀ t₀ v t room′ count (kept + 1) (at + 1 + getD ws at 0) × (length room′ ≡ length room)
-      sift-put e = let l = ap length e ∙ length-set room kept at in (sift-kept l (λ _. e), l)
+        pub sift-put : {room′ : List ℕ} → room′ ≡ set room kept at → Sifting ws v₀ t₀ start v t room′ count (kept + 1) (at + 1 + getD ws at 0) × (length room′ ≡ length room)
+        sift-put p = let l = ap length p ∙ length-set room kept at in (sift-kept l (λ _. p), l)

@@ -1,4 +1,4 @@
--- The first pass: a clause that has a right literal holds for good, and the places of the others are put down. Assumes nothing.
+-- A pass over a list: a clause that has a right literal holds for good, and the places of the others are put down. Assumes nothing.
 use mathlib.Core.Path.{_≡_}
 use mathlib.Core.Logic.{_⊎_}
 use mathlib.Core.Bool.{Bool, true, false}
@@ -9,7 +9,7 @@ use Rattle.lists.specs.Lists.{any}
 use Rattle.cnf.specs.Clauses.{clausesIn}
 use Rattle.cnf.specs.Search.{isRight}
 use Rattle.asking.specs.Asked.{clauseAt}
-use Rattle.rows.specs.Trail.{Worked}
+use Rattle.rows.specs.Trail.{OnePass}
 
 -- a clause of the list stands at the place
 pub record StandsAt (ws : List ℕ) (p : ℕ) : Type 0 where
@@ -22,7 +22,7 @@ pub record Left (ws v ps : List ℕ) : Type 0 where
   pub places : (p : ℕ) → List·Memᴰ p ps → StandsAt ws p
   pub each : (c : List ℕ) → List·Memᴰ c (clausesIn ws) → (any (isRight v) c ≡ true) ⊎ ((p : ℕ) × List·Memᴰ p ps × (clauseAt ws p ≡ c))
 
--- the first pass, from values of which none is set: where there was room, the first `kept` places are those of the clauses left
-pub record Sifts (ws v t : List ℕ) (w s room : List ℕ) (isBroken : Bool) (count kept : ℕ) : Type 0 where
-  pub worked : Worked (clausesIn ws) v t 0 w s isBroken count
+-- a pass, from values of which the first `start` of the trail are set: where there was room, the first `kept` places are those of the clauses left
+pub record Sifts (ws v t : List ℕ) (start : ℕ) (w s room : List ℕ) (isBroken : Bool) (count kept : ℕ) : Type 0 where
+  pub pass : OnePass (clausesIn ws) v t start w s isBroken count
   pub left : isBroken ≡ false → kept ≤ length room → Left ws w (take kept room)

@@ -1,27 +1,28 @@
-// The first pass over a list.
+// The scan of the clauses of a list.
 ghost use mathlib.Core.Path.{_≡_};
 ghost use mathlib.Core.Bool.{true};
-ghost use Prim.Native.Nat.{_≤_};
+ghost use Prim.Native.Nat.{_≤_, _<_};
 ghost use lib.ListN.{length};
 ghost use Rattle.cnf.specs.Clauses.{clausesIn, whole};
 ghost use Rattle.pairs.specs.Entries.{PairTable};
 ghost use Rattle.rows.specs.Rows.{Rows};
 ghost use Rattle.rows.specs.Trail.{Ready};
 ghost use Rattle.sifting.specs.Sift.{Sifts};
-use asking::Asked;
-use asking::ask;
+use asking::is_right;
+use asking::is_unset;
 use rows::force;
 use rows::wide;
 
-// Whether a clause is broken, how many variables are set, and how many clauses are left.
+// Whether a clause is broken, how many variables are set, and how many clauses neither hold nor force.
 pub struct Sifted {
     pub broken: bool,
     pub count: usize,
     pub kept: usize,
 }
 
-// The first pass over the clauses: sets what is forced as it meets it, and puts down the places of the clauses that neither hold nor force, as many as
-// there is room for.
+// One pass over the clauses, which sets what is forced as it meets it and is left at a clause whose literals are all false. It puts down the places
+// of the clauses that neither hold nor force, as many as there is room for. In a clause that starts at `place`, `at` is its end, where the
+// next one starts, and `i` the place of the next literal.
 pub fn sift(
     list: &[u16],
     n: u8,
@@ -30,48 +31,54 @@ pub fn sift(
     trail: &mut [u16],
     joined: &mut [u64; 40],
     apart: &mut [u64; 40],
+    start: usize,
     places: &mut [u16],
 ) -> Sifted
-    requires { ⌜ (whole (now list) ≡ true) × (length (now list) ≤ 65536) ⌝ }
-    requires { ⌜ Ready (clausesIn (now list)) (now values) (now trail) 0 ⌝ }
+    requires { ⌜ (whole (now list) ≡ true) × (0 < length (now places) → length (now list) ≤ 65536) ⌝ }
+    requires { ⌜ Ready (clausesIn (now list)) (now values) (now trail) start ⌝ }
     requires { ⌜ PairTable (now table) × Rows n (now values) (now joined) (now apart) ⌝ }
-    ensures { λ r. ⌜ Sifts (now (list .entry)) (now (values .entry)) (now (trail .entry)) (now (values .exit)) (now (trail .exit)) (now (places .exit)) (r .broken) (r .count) (r .kept) ⌝ }
+    ensures { λ r. ⌜ Sifts (now (list .entry)) (now (values .entry)) (now (trail .entry)) start (now (values .exit)) (now (trail .exit)) (now (places .exit)) (r .broken) (r .count) (r .kept) ⌝ }
     ensures rows { λ r. ⌜ Rows n (now (values .exit)) (now (joined .exit)) (now (apart .exit)) ⌝ }
 {
-    let mut count: usize = 0;
+    let mut broken = false;
+    let mut count = start;
     let mut kept: usize = 0;
     let mut at: usize = 0;
     'clauses: while at < list.len() {
-        let start = at;
-        let first = start + 1;
-        at = first + wide(list[start]);
-        let said = ask(&list[first..at], values);
-        match said {
-            Asked::Holding => {
-                continue 'clauses;
-            }
-            Asked::Broken => {
-                return Sifted {
-                    broken: true,
-                    count,
-                    kept,
-                };
-            }
-            Asked::Forcing(l) => {
-                count = force(n, table, l, values, trail, joined, apart, count);
-                continue 'clauses;
-            }
-            Asked::Open => {
-                if kept < places.len() {
-                    places[kept] = start as u16;
+        let place = at;
+        let mut i = place + 1;
+        at = i + wide(list[place]);
+        let mut unset: usize = 0;
+        let mut last: u16 = 0;
+        'literals: loop {
+            if i == at {
+                if unset == 0 {
+                    broken = true;
+                    break 'clauses;
                 }
-                kept += 1;
+                break 'literals;
+            }
+            let l = list[i];
+            if is_right(values, l) {
                 continue 'clauses;
             }
+            if is_unset(values, l) {
+                if unset == 1 {
+                    if kept < places.len() {
+                        places[kept] = place as u16;
+                    }
+                    kept += 1;
+                    continue 'clauses;
+                }
+                unset = 1;
+                last = l;
+            }
+            i += 1;
         }
+        count = force(n, table, last, values, trail, joined, apart, count);
     }
     Sifted {
-        broken: false,
+        broken,
         count,
         kept,
     }

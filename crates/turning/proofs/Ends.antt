@@ -357,9 +357,9 @@ module _ {ws v : List ℕ} {m : ℕ} (f : Fresh ws m v) (b : ℕ) where
   }
 
   -- or a first pass was made
-  module _ {t w s room : List ℕ} {count kept : ℕ} {isBroken : Bool} (p : length t ≡ 780) (c : Sifts ws v t w s room isBroken count kept) where
+  module _ {t w s room : List ℕ} {count kept : ℕ} {isBroken : Bool} (p : length t ≡ 780) (c : Sifts ws v t 0 w s room isBroken count kept) where
     sifted : Worked (withTriangles ws m) v t 0 w s isBroken count
-    sifted = worked-part (clausesIn ws) (withTriangles ws m) (to-cs (clausesIn ws) (triangles m)) (c .worked)
+    sifted = worked-part (clausesIn ws) (withTriangles ws m) (to-cs (clausesIn ws) (triangles m)) (c .pass .worked)
 
     pub sifted-size : length w ≡ length v
     sifted-size = worked-length (first-ready p) sifted

@@ -12,7 +12,7 @@ slice-aggregate-sift c = search needs
 sift-requires : tie.Need-sift-requires
 sift-requires c κs =
     let c9 = c .before .before .before .before .before .before .before .before .before in
-    ((c9 .pre .0 .0 .all-there, c9 .pre .0 .1), (laws.list-ready (c9 .pre .0 .0) (c9 .args .budget) (c9 .pre .0 .2), c9 .pre .1))
+    ((c9 .pre .0 .0 .all-there, λ _. c9 .pre .0 .1), (laws.list-ready (c9 .pre .0 .0) (c9 .args .budget) (c9 .pre .0 .2), c9 .pre .1))
 
 same-length : tie.Need-same-length
 same-length c = search needs

@@ -1,5 +1,7 @@
 -- `passes::settle` meets its contract. The loop's invariant: what was set so far are unit steps, and group 2 waits for the queue only; each pass
 -- but the last sets a variable. Assumes nothing.
+use borrow.Author.Needs.{needs}
+use native.Mathlib.Omega.{arith}
 use Prim.Native.Nat.{_-_}
 use lib.ListN.{length}
 use Rattle.cnf.specs.Clauses.{clausesIn}
@@ -17,6 +19,25 @@ abbrev μ-passes : tie.MeasureT-passes
 μ-passes list n table values₀ trail₀ joined₀ apart₀ from start at₀ count₀ values trail joined apart at count =
     length values - count
 
+-- ---- places
+
+abbrev entry : tie.At-passes Inv-passes μ-passes → tie.Start Inv-passes μ-passes
+entry c = c .before .before .before .before .before
+
+abbrev head : tie.After-drain Inv-passes μ-passes → tie.At-passes Inv-passes μ-passes
+head c = c .before .before .before .before .before
+
+abbrev drained : tie.Else1 Inv-passes μ-passes → tie.After-drain Inv-passes μ-passes
+drained c = c .before .before .before .before .before
+
+abbrev quiet : tie.After-sift Inv-passes μ-passes → tie.Else1 Inv-passes μ-passes
+quiet c = c .before .before .before .before .before .before
+
+abbrev passed : tie.Else2 Inv-passes μ-passes → tie.After-sift Inv-passes μ-passes
+passed c = c .before .before .before .before .before .before
+
+-- ---- what is left
+
 passes-holds : tie.Need-passes-holds Inv-passes μ-passes
 passes-holds c =
     let the-pre = c .before .before .before .before .pre in
@@ -24,107 +45,80 @@ passes-holds c =
 
 drain-requires : tie.Need-drain-requires Inv-passes μ-passes
 drain-requires c κs =
-    let c4 = c .before .before .before .before in
-    let c9 = c4 .before .before .before .before .before in
-    let the-passes = c4 .passes in
-    ((laws.drain-ready (the-passes .inv .0), the-passes .inv .1), (c9 .pre .1 .1 .0, the-passes .inv .0 .queue))
+    let h = c .before .before .before .before in
+    ((laws.drain-ready (h .passes .inv .0), h .passes .inv .1), (entry h .pre .1 .1 .0, h .passes .inv .0 .queue))
 
 same-length : tie.Need-same-length Inv-passes μ-passes
 same-length c =
-    let c5 = c .before .before .before .before .before in
-    let c10 = c5 .before .before .before .before .before in
-    laws.drained-values (c10 .passes .inv .0) (c5 .drain .ensures .0)
+    let d = c .before .before .before .before .before in
+    laws.drained-values (head d .passes .inv .0) (d .drain .ensures .0)
 
 same-length-2 : tie.Need-same-length-2 Inv-passes μ-passes
 same-length-2 c =
-    let c5 = c .before .before .before .before .before in
-    let c10 = c5 .before .before .before .before .before in
-    laws.drained-trail (c10 .passes .inv .0) (c5 .drain .ensures .0)
+    let d = c .before .before .before .before .before in
+    laws.drained-trail (head d .passes .inv .0) (d .drain .ensures .0)
 
 returns : tie.Need-returns Inv-passes μ-passes
 returns c =
-    let c5 = c .before .before .before .before .before in
-    let c10 = c5 .before .before .before .before .before in
-    let the-drain = c5 .drain in
-    (laws.drain-broken (c10 .passes .inv .0) (the-drain .ensures .0) (c .if1 .taken), the-drain .ensures .1)
+    let d = c .before .before .before .before .before in
+    (laws.drain-broken (head d .passes .inv .0) (d .drain .ensures .0) (c .if1 .taken), d .drain .ensures .1)
 
-pass-requires : tie.Need-pass-requires Inv-passes μ-passes
-pass-requires c κs =
-    let c9 = c .before .before .before .before .before .before .before .before .before in
-    let c14 = c9 .before .before .before .before .before in
-    let c19 = c14 .before .before .before .before .before in
-    let the-drain = c9 .drain in
-    let the-pre = c19 .pre in
-    (the-pre .0, (laws.pass-ready (c14 .passes .inv .0) (the-drain .ensures .0), (the-pre .1 .1 .0, the-drain .ensures .1)))
+slice-aggregate-sift : tie.Need-slice-aggregate-sift Inv-passes μ-passes
+slice-aggregate-sift c = search needs
+
+sift-requires : tie.Need-sift-requires Inv-passes μ-passes
+sift-requires c κs =
+    let d = drained (c .before .before .before .before .before) in
+    let the-pre = entry (head d) .pre in
+    ((the-pre .0, λ h. absurd (omega (arith, h))), (laws.pass-ready (head d .passes .inv .0) (d .drain .ensures .0), (the-pre .1 .1 .0, d .drain .ensures .1)))
 
 same-length-3 : tie.Need-same-length-3 Inv-passes μ-passes
 same-length-3 c =
-    let c5 = c .before .before .before .before .before in
-    let c10 = c5 .before .before .before .before .before in
-    let c15 = c10 .before .before .before .before .before in
-    let c20 = c15 .before .before .before .before .before in
-    laws.settle-values (c20 .passes .inv .0) (c15 .drain .ensures .0) (c10 .if1 .left) (c5 .pass .ensures .0)
+    let s = c .before .before .before .before .before .before in
+    let d = drained (quiet s) in
+    laws.settle-values (head d .passes .inv .0) (d .drain .ensures .0) (quiet s .if1 .left) (s .sift .ensures .0 .pass)
 
 same-length-4 : tie.Need-same-length-4 Inv-passes μ-passes
 same-length-4 c =
-    let c5 = c .before .before .before .before .before in
-    let c10 = c5 .before .before .before .before .before in
-    let c15 = c10 .before .before .before .before .before in
-    let c20 = c15 .before .before .before .before .before in
-    laws.settle-trail (c20 .passes .inv .0) (c15 .drain .ensures .0) (c10 .if1 .left) (c5 .pass .ensures .0)
+    let s = c .before .before .before .before .before .before in
+    let d = drained (quiet s) in
+    laws.settle-trail (head d .passes .inv .0) (d .drain .ensures .0) (quiet s .if1 .left) (s .sift .ensures .0 .pass)
 
 returns-2 : tie.Need-returns-2 Inv-passes μ-passes
 returns-2 c =
-    let c5 = c .before .before .before .before .before in
-    let c10 = c5 .before .before .before .before .before in
-    let c15 = c10 .before .before .before .before .before in
-    let c20 = c15 .before .before .before .before .before in
-    let the-pass = c5 .pass in
-    (laws.settle-broken (c20 .passes .inv .0) (c15 .drain .ensures .0) (c10 .if1 .left) (the-pass .ensures .0) (c .if2 .taken), the-pass .ensures .1)
+    let s = c .before .before .before .before .before .before in
+    let d = drained (quiet s) in
+    (laws.settle-broken (head d .passes .inv .0) (d .drain .ensures .0) (quiet s .if1 .left) (s .sift .ensures .0 .pass) (c .if2 .taken), s .sift .ensures .1)
 
 same-length-5 : tie.Need-same-length-5 Inv-passes μ-passes
 same-length-5 c =
-    let c7 = c .before .before .before .before .before .before .before in
-    let c12 = c7 .before .before .before .before .before in
-    let c17 = c12 .before .before .before .before .before in
-    let c22 = c17 .before .before .before .before .before in
-    laws.settle-values (c22 .passes .inv .0) (c17 .drain .ensures .0) (c12 .if1 .left) (c7 .pass .ensures .0)
+    let s = passed (c .before) in
+    let d = drained (quiet s) in
+    laws.settle-values (head d .passes .inv .0) (d .drain .ensures .0) (quiet s .if1 .left) (s .sift .ensures .0 .pass)
 
 same-length-6 : tie.Need-same-length-6 Inv-passes μ-passes
 same-length-6 c =
-    let c7 = c .before .before .before .before .before .before .before in
-    let c12 = c7 .before .before .before .before .before in
-    let c17 = c12 .before .before .before .before .before in
-    let c22 = c17 .before .before .before .before .before in
-    laws.settle-trail (c22 .passes .inv .0) (c17 .drain .ensures .0) (c12 .if1 .left) (c7 .pass .ensures .0)
+    let s = passed (c .before) in
+    let d = drained (quiet s) in
+    laws.settle-trail (head d .passes .inv .0) (d .drain .ensures .0) (quiet s .if1 .left) (s .sift .ensures .0 .pass)
 
 returns-3 : tie.Need-returns-3 Inv-passes μ-passes
 returns-3 c =
-    let c2 = c .before .before in
-    let c7 = c2 .before .before .before .before .before in
-    let c12 = c7 .before .before .before .before .before in
-    let c17 = c12 .before .before .before .before .before in
-    let c22 = c17 .before .before .before .before .before in
-    let the-pass = c7 .pass in
-    (laws.settle-rest (c22 .passes .inv .0) (c17 .drain .ensures .0) (c12 .if1 .left) (the-pass .ensures .0) (c2 .if2 .left) (c .if3 .taken), the-pass .ensures .1)
+    let s = passed (c .before) in
+    let d = drained (quiet s) in
+    (laws.settle-rest (head d .passes .inv .0) (d .drain .ensures .0) (quiet s .if1 .left) (s .sift .ensures .0 .pass) (c .before .if2 .left) (c .if3 .taken), s .sift .ensures .1)
 
 passes-less : tie.Need-passes-less Inv-passes μ-passes
 passes-less c =
-    let c7 = c .before .before .before .before .before .before .before in
-    let c12 = c7 .before .before .before .before .before in
-    let c17 = c12 .before .before .before .before .before in
-    let c22 = c17 .before .before .before .before .before in
-    laws.settle-less (c22 .passes .inv .0) (c17 .drain .ensures .0) (c12 .if1 .left) (c7 .pass .ensures .0) (c .if3 .left)
+    let s = passed (c .before) in
+    let d = drained (quiet s) in
+    laws.settle-less (head d .passes .inv .0) (d .drain .ensures .0) (quiet s .if1 .left) (s .sift .ensures .0 .pass) (c .if3 .left)
 
 passes-again : tie.Need-passes-again Inv-passes μ-passes
 passes-again c =
-    let c2 = c .before .before in
-    let c7 = c2 .before .before .before .before .before in
-    let c12 = c7 .before .before .before .before .before in
-    let c17 = c12 .before .before .before .before .before in
-    let c22 = c17 .before .before .before .before .before in
-    let the-pass = c7 .pass in
-    (laws.settle-more (c22 .passes .inv .0) (c17 .drain .ensures .0) (c12 .if1 .left) (the-pass .ensures .0) (c2 .if2 .left), the-pass .ensures .1)
+    let s = passed (c .before) in
+    let d = drained (quiet s) in
+    (laws.settle-more (head d .passes .inv .0) (d .drain .ensures .0) (quiet s .if1 .left) (s .sift .ensures .0 .pass) (c .before .if2 .left), s .sift .ensures .1)
 
 pub settle-spec : {M : Type 1} → statement M
 settle-spec =
@@ -137,7 +131,8 @@ settle-spec =
     same-length
     same-length-2
     returns
-    pass-requires
+    slice-aggregate-sift
+    sift-requires
     same-length-3
     same-length-4
     returns-2

@@ -106,16 +106,14 @@ add-map-at c =
     let s = c .before .before .before .before .before .before .before .before .before .before .before .before .before .before .before .before .before .before .tables in
     let h = map-room _ _ _ _ _ _ _ (s .inv) (c .before .before .before .before .before .before .before .before .before .before .before .before .before .before .before .before .before .tables-test .taken) (turn-of (c .before .before .before .before .before .before .before .before .before .before .before)) (search needs) in
     let l = maps-fit (c .before .before .before .before .before .before .before .before .before .before .before .before .before .before .before .before .before .before .before) in
-    let f : s .map-at + c .before .before .before .before .before .before .before .before .before .before .before .take-turn .result .states < 2 ^ 64 = omega (arith, h, l, s .inv .maps-long) in
-    record { fits = f }
+    record { fits = omega (arith, h, l, s .inv .maps-long) }
 
 add-out-at : tie.Need-add-out-at Inv-tables μ-tables
 add-out-at c =
     let s = c .before .before .before .before .before .before .before .before .before .before .before .before .before .before .before .before .before .before .before .tables in
     let h = out-room _ _ _ _ _ _ _ (s .inv) (c .before .before .before .before .before .before .before .before .before .before .before .before .before .before .before .before .before .before .tables-test .taken) (turn-of (c .before .before .before .before .before .before .before .before .before .before .before .before)) (search needs) in
     let l = out-fit (c .before .before .before .before .before .before .before .before .before .before .before .before .before .before .before .before .before .before .before .before) in
-    let f : s .out-at + c .before .before .before .before .before .before .before .before .before .before .before .before .take-turn .result .length < 2 ^ 64 = omega (arith, h, l, s .inv .out-long) in
-    record { fits = f }
+    record { fits = omega (arith, h, l, s .inv .out-long) }
 
 add-i : tie.Need-add-i Inv-tables μ-tables
 add-i c = search needs
