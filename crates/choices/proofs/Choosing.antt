@@ -19,24 +19,19 @@ use Rattle.format.proofs.Bytes.{read-well-formed}
 use Rattle.format.proofs.Passed.{read-within, formed-tested}
 use Rattle.relations.specs.declared.Checked.{Checked}
 use Rattle.relations.specs.declared.Checked.the-variants.{Accepted, Refused}
-use Rattle.relations.specs.Check.{checkNumber, checkOf}
-use Rattle.relations.specs.Demands.{IsAccepted}
+use Rattle.relations.specs.Check.{checkOf}
 use Rattle.relations.proofs.Accepted.{accepted, Accepted as Accepted′}
-use Rattle.relations.proofs.Answers.{Answers, passes-by, refuses-by, answers}
+use Rattle.relations.proofs.Answers.{passes-number, number-passes, Answers, passes-by, refuses-by, answers}
 use Rattle.choices.specs.declared.Which.{Which}
 use Rattle.choices.specs.declared.Which.the-variants.{Neither, First, Second}
 use Rattle.choices.specs.declared.Choice.{Choice}
-use Rattle.choices.specs.Choose.{pick, whichOf, some, chooseNumber, choiceOf, sliceOf, handed, chooseOf}
+use Rattle.choices.specs.Choose.{pick, whichOf, some, chooseNumber, choiceOf, choiceValues, sliceOf, handed, chooseOf}
 use Rattle.choices.specs.Demands.{Passes, Chosen, NumberTells, NeitherPasses, HandedBack}
 
 -- of a map that passes the table is readable and has a state, and the map a byte for it
 module _ (L : Limits) (b m : List ℕ) (p : Passes L b m) where
   pass-accepted : Accepted′ L b m
-  pass-accepted = accepted L b m (go (answers L b m) p)
-    where
-      go : {x : Checked} → Answers L b m x → IsAccepted x → checkNumber L b m ≡ 0
-      go (passes-by z) q = z
-      go (refuses-by h) q = absurd q
+  pass-accepted = accepted L b m (passes-number L b m p)
 
   pass-filled : 1 ≤ length m
   pass-filled = let a = pass-accepted in omega (arith, a .proper .long, formed-tested (read-well-formed L b (a .readable)) .some-state)
@@ -79,15 +74,15 @@ module _ (L : Limits) (b m n : List ℕ) where
   picked : Picked (whichOf L b m n)
   picked = go (answers L b m) (answers L b n) refl refl
     where
-      counts : (t : Bool) → leb (classes m) (classes n) ≡ t → Accepted (classes m) ≡ checkOf L b m → Accepted (classes n) ≡ checkOf L b n → Picked (whichOf L b m n)
-      counts true h e f = subst Picked (pick-few e f (leb-true _ _ h)) (first (subst IsAccepted e tt) (λ p. leb-true _ _ h))
-      counts false h e f = subst Picked (pick-fewer e f (leb-false _ _ h)) (second (subst IsAccepted f tt) (λ p. leb-false _ _ h))
+      counts : (t : Bool) → leb (classes m) (classes n) ≡ t → Accepted (classes m) ≡ checkOf L b m → Accepted (classes n) ≡ checkOf L b n → Passes L b m → Passes L b n → Picked (whichOf L b m n)
+      counts true h e f p q = subst Picked (pick-few e f (leb-true _ _ h)) (first p (λ q. leb-true _ _ h))
+      counts false h e f p q = subst Picked (pick-fewer e f (leb-false _ _ h)) (second q (λ p. leb-false _ _ h))
 
       go : {x y : Checked} → Answers L b m x → Answers L b n y → x ≡ checkOf L b m → y ≡ checkOf L b n → Picked (whichOf L b m n)
-      go (passes-by z) (passes-by w) e f = counts (leb (classes m) (classes n)) refl e f
-      go (passes-by z) (refuses-by w) e f = subst Picked (pick-first e f) (first (subst IsAccepted e tt) (λ p. absurd (subst IsAccepted (sym f) p)))
-      go (refuses-by z) (passes-by w) e f = subst Picked (pick-second e f) (second (subst IsAccepted f tt) (λ p. absurd (subst IsAccepted (sym e) p)))
-      go (refuses-by z) (refuses-by w) e f = subst Picked (pick-neither e f) (neither (subst IsAccepted (sym e)) (subst IsAccepted (sym f)))
+      go (passes-by z) (passes-by w) e f = counts (leb (classes m) (classes n)) refl e f (number-passes L b m z) (number-passes L b n w)
+      go (passes-by z) (refuses-by w) e f = subst Picked (pick-first e f) (first (number-passes L b m z) (λ p. absurd (w (passes-number L b n p))))
+      go (refuses-by z) (passes-by w) e f = subst Picked (pick-second e f) (second (number-passes L b n w) (λ p. absurd (z (passes-number L b m p))))
+      go (refuses-by z) (refuses-by w) e f = subst Picked (pick-neither e f) (neither (λ p. z (passes-number L b m p)) (λ p. w (passes-number L b n p)))
 
   -- ---- the number
 
@@ -155,8 +150,13 @@ module _ (L : Limits) (b m n : List ℕ) where
       go Second e (second p q) = number-0 (ap some (sym e)) (pass-accepted L b n p .readable)
 
   pub told : {x : Choice} → x ≡ choiceOf L b m n → (x ≡ choiceOf L b m n) × NumberTells x
-  unfolding choiceOf
-  told {x} e = (e, subst NumberTells (sym e) ((λ z f. refused (sym f) z), picked-number))
+  unfolding choiceOf choiceValues
+  told {x} e = (e, subst NumberTells (sym e) ((λ z f. by (whichOf L b m n) refl f z), λ f. picked-number (λ g. f (rw (g, choiceValues)))))
+    where
+      by : (w : Which) → w ≡ whichOf L b m n → choiceValues (record { number = chooseNumber L b m n; which = w }) ≡ [] → chooseNumber L b m n ≡ 0 → ⊥
+      by Neither g f z = refused g z
+      by First g f z = let a : _≡_ {A = ℕ} 0 1 = cc in omega arith
+      by Second g f z = let a : _≡_ {A = ℕ} 0 1 = cc in omega arith
 
   pub neither-passes : {k : ℕ} → k ≡ chooseNumber L b m n → NeitherPasses L b m n k
   unfolding some

@@ -50,19 +50,19 @@ module _ (L : Limits) (b m out : List ℕ) where
   -- ---- what is promised
 
   counted : checkNumber L b m ≡ 0 → Promises b m (countsOf (tableOf b) m)
-  unfolding countsOf
+  unfolding countsOf recordedValues
   counted e =
       let a = accepted L b m e in
       let k = kept-quotient (tableOf b) m in
-      record { counts = add-up (tableOf b) m; kept = (k, k ∙ ap recordCount (sym (quotient-table L b m (a .readable) (a .proper)))); all = refl }
+      record { counts = λ _. add-up (tableOf b) m; kept = λ _. (k, k ∙ ap recordCount (sym (quotient-table L b m (a .readable) (a .proper)))); all = λ _. refl }
 
   number-checked : recordsNumber L b m out ≡ 0 → checkNumber L b m ≡ 0
   unfolding recordsNumber
   number-checked e = stage-passed _ _ e .0
 
   promises : Promises b m (recordsOf L b m out .answer)
-  unfolding recordsOf
-  promises = by-number (recordsNumber L b m out) told (refusal (recordsNumber L b m out)) (λ (d : RecordsDone). Promises b m (d .answer)) (λ z. counted (number-checked z)) (λ n. record { counts = tt; kept = tt; all = tt })
+  unfolding recordsOf recordedNumber
+  promises = by-number (recordsNumber L b m out) told (refusal (recordsNumber L b m out)) (λ (d : RecordsDone). Promises b m (d .answer)) (λ z. counted (number-checked z)) (λ n. record { counts = λ e. absurd (n e); kept = λ e. absurd (n e); all = λ e. absurd (n e) })
 
   numbered : RecordsSays L b m out (recordsOf L b m out .answer)
   unfolding recordsOf recordedNumber recordedValues countsOf

@@ -3,16 +3,15 @@
 use mathlib.Core.Path.{_≡_}
 use mathlib.Core.List.{List}
 use Prim.Native.Nat.{ℕ, _+_}
+use Rattle.lists.specs.Lists.{OnValues}
 use Rattle.format.specs.File.{tableOf}
 use Rattle.quotients.specs.Quotient.{quotientTable, quotientBytes}
 use Rattle.fates.specs.declared.Recorded.{Recorded}
-use Rattle.fates.specs.declared.Recorded.the-variants.{Counts, Refused}
-use Rattle.fates.specs.Fates.{recordCount}
+use Rattle.fates.specs.Fates.{recordCount, recordedNumber, recordedValues}
 
 -- where nothing is refused, of N, K, F and D
 abbrev pub OnCounts : Recorded → (ℕ → ℕ → ℕ → ℕ → Type 0) → Type 0
-OnCounts (Counts n k f d) P = P n k f d
-OnCounts (Refused k) P = Unit {0}
+OnCounts r P = OnValues (recordedNumber r) (recordedValues r) (λ v. P (v 0) (v 1) (v 2) (v 3))
 
 -- "N = K + F + D"
 abbrev pub AddUp : Recorded → Type 0
