@@ -1,6 +1,6 @@
 -- Which map is picked, its number, and what is handed back: a law for each way to a return of src/, and the promises. Assumes nothing.
 use mathlib.Core.Path.{_≡_, refl, sym, ap, _∙_, subst}
-use mathlib.Core.Logic.{inl, inr, ⊎-elim}
+use mathlib.Core.Logic.{_↔_, inl, inr, ⊎-elim}
 use mathlib.Core.Bool.{Bool, true, false, true≢false}
 use mathlib.Core.List.{List, [], _∷_}
 use Prim.Native.Nat.{ℕ, _≤_, _<_}
@@ -25,8 +25,8 @@ use Rattle.relations.proofs.Answers.{passes-number, number-passes, Answers, pas
 use Rattle.choices.specs.declared.Which.{Which}
 use Rattle.choices.specs.declared.Which.the-variants.{Neither, First, Second}
 use Rattle.choices.specs.declared.Choice.{Choice}
-use Rattle.choices.specs.Choose.{pick, whichOf, some, chooseNumber, choiceOf, choiceValues, sliceOf, handed, chooseOf}
-use Rattle.choices.specs.Demands.{Passes, Chosen, NumberTells, NeitherPasses, HandedBack}
+use Rattle.choices.specs.Choose.{pick, whichOf, some, chooseNumber, choiceOf, choiceValues, Slice, sliceOf, handed, chooseOf}
+use Rattle.choices.specs.Demands.{Passes, Chosen, NumberTells, NeitherPasses, ZeroTells, HandedBack}
 
 -- of a map that passes the table is readable and has a state, and the map a byte for it
 module _ (L : Limits) (b m : List ℕ) (p : Passes L b m) where
@@ -177,6 +177,15 @@ module _ (L : Limits) (b m n : List ℕ) where
       back Second e (second p q) h = absurd (h .2 p)
 
 -- ---- what is handed back
+
+pub zero-tells : (L : Limits) (b : List ℕ) (s t : Slice) {k : ℕ} → k ≡ chooseNumber L b (s .bytes) (t .bytes) → ZeroTells L b s t k
+unfolding chooseOf handed some
+zero-tells L b s t {k} e = go (whichOf L b (s .bytes) (t .bytes)) refl (picked L b (s .bytes) (t .bytes))
+  where
+    go : (w : Which) → w ≡ whichOf L b (s .bytes) (t .bytes) → Picked L b (s .bytes) (t .bytes) w → (k ≡ 0) ↔ (1 ≤ length (handed w s t .bytes))
+    go Neither f p = (λ z. absurd (refused L b (s .bytes) (t .bytes) f (sym e ∙ z)), λ h. absurd (omega arith))
+    go First f (first p q) = (λ z. pass-filled L b (s .bytes) p, λ h. e ∙ number-some L b (s .bytes) (t .bytes) (ap some (sym f)))
+    go Second f (second p q) = (λ z. pass-filled L b (t .bytes) p, λ h. e ∙ number-some L b (s .bytes) (t .bytes) (ap some (sym f)))
 
 module _ (L : Limits) (b : List ℕ) (s t : RefT (List ℕ)) where
   by-which : {w : Which} → w ≡ whichOf L b (s .now) (t .now) → handed w (sliceOf s) (sliceOf t) ≡ chooseOf L b (sliceOf s) (sliceOf t)
