@@ -96,8 +96,8 @@ none-chosen r e = rw (e, choiceValues)
 module _ (r : Choice) (t : NumberTells r) where
   pub first-chosen : r .which ≡ First → (r .number ≡ 0) × (choiceValues r ≡ 1 ∷ [])
   unfolding choiceValues
-  first-chosen e = (t .1 (λ f. let z : _≡_ {A = ℕ} 0 1 = cc in omega arith), rw (e, choiceValues))
+  first-chosen e = let v : choiceValues r ≡ 1 ∷ [] = rw (e, choiceValues) in (t .1 (λ f. let z : _≡_ {A = ℕ} 0 1 = cc in omega arith), v)
 
   pub second-chosen : r .which ≡ Second → (r .number ≡ 0) × (choiceValues r ≡ 2 ∷ [])
   unfolding choiceValues
-  second-chosen e = (t .1 (λ f. let z : _≡_ {A = ℕ} 0 1 = cc in omega arith), rw (e, choiceValues))
+  second-chosen e = let v : choiceValues r ≡ 2 ∷ [] = rw (e, choiceValues) in (t .1 (λ f. let z : _≡_ {A = ℕ} 0 1 = cc in omega arith), v)

@@ -1,6 +1,6 @@
 -- Which map is picked, its number, and what is handed back: a law for each way to a return of src/, and the promises. Assumes nothing.
 use mathlib.Core.Path.{_≡_, refl, sym, ap, _∙_, subst}
-use mathlib.Core.Logic.{inl, inr, ⊎-elim}
+use mathlib.Core.Logic.{_↔_, inl, inr, ⊎-elim}
 use mathlib.Core.Bool.{Bool, true, false, true≢false}
 use mathlib.Core.List.{List, [], _∷_}
 use Prim.Native.Nat.{ℕ, _≤_, _<_}
@@ -19,24 +19,19 @@ use Rattle.format.proofs.Bytes.{read-well-formed}
 use Rattle.format.proofs.Passed.{read-within, formed-tested}
 use Rattle.relations.specs.declared.Checked.{Checked}
 use Rattle.relations.specs.declared.Checked.the-variants.{Accepted, Refused}
-use Rattle.relations.specs.Check.{checkNumber, checkOf}
-use Rattle.relations.specs.Demands.{IsAccepted}
+use Rattle.relations.specs.Check.{checkOf}
 use Rattle.relations.proofs.Accepted.{accepted, Accepted as Accepted′}
-use Rattle.relations.proofs.Answers.{Answers, passes-by, refuses-by, answers}
+use Rattle.relations.proofs.Answers.{passes-number, number-passes, Answers, passes-by, refuses-by, answers}
 use Rattle.choices.specs.declared.Which.{Which}
 use Rattle.choices.specs.declared.Which.the-variants.{Neither, First, Second}
 use Rattle.choices.specs.declared.Choice.{Choice}
-use Rattle.choices.specs.Choose.{pick, whichOf, some, chooseNumber, choiceOf, sliceOf, handed, chooseOf}
-use Rattle.choices.specs.Demands.{Passes, Chosen, NumberTells, NeitherPasses, HandedBack}
+use Rattle.choices.specs.Choose.{pick, whichOf, some, chooseNumber, choiceOf, choiceValues, Slice, sliceOf, handed, chooseOf}
+use Rattle.choices.specs.Demands.{Passes, Chosen, NumberTells, NeitherPasses, ZeroTells, HandedBack}
 
 -- of a map that passes the table is readable and has a state, and the map a byte for it
 module _ (L : Limits) (b m : List ℕ) (p : Passes L b m) where
   pass-accepted : Accepted′ L b m
-  pass-accepted = accepted L b m (go (answers L b m) p)
-    where
-      go : {x : Checked} → Answers L b m x → IsAccepted x → checkNumber L b m ≡ 0
-      go (passes-by z) q = z
-      go (refuses-by h) q = absurd q
+  pass-accepted = accepted L b m (passes-number L b m p)
 
   pass-filled : 1 ≤ length m
   pass-filled = let a = pass-accepted in omega (arith, a .proper .long, formed-tested (read-well-formed L b (a .readable)) .some-state)
@@ -79,15 +74,15 @@ module _ (L : Limits) (b m n : List ℕ) where
   picked : Picked (whichOf L b m n)
   picked = go (answers L b m) (answers L b n) refl refl
     where
-      counts : (t : Bool) → leb (classes m) (classes n) ≡ t → Accepted (classes m) ≡ checkOf L b m → Accepted (classes n) ≡ checkOf L b n → Picked (whichOf L b m n)
-      counts true h e f = subst Picked (pick-few e f (leb-true _ _ h)) (first (subst IsAccepted e tt) (λ p. leb-true _ _ h))
-      counts false h e f = subst Picked (pick-fewer e f (leb-false _ _ h)) (second (subst IsAccepted f tt) (λ p. leb-false _ _ h))
+      counts : (t : Bool) → leb (classes m) (classes n) ≡ t → Accepted (classes m) ≡ checkOf L b m → Accepted (classes n) ≡ checkOf L b n → Passes L b m → Passes L b n → Picked (whichOf L b m n)
+      counts true h e f p q = subst Picked (pick-few e f (leb-true _ _ h)) (first p (λ q. leb-true _ _ h))
+      counts false h e f p q = subst Picked (pick-fewer e f (leb-false _ _ h)) (second q (λ p. leb-false _ _ h))
 
       go : {x y : Checked} → Answers L b m x → Answers L b n y → x ≡ checkOf L b m → y ≡ checkOf L b n → Picked (whichOf L b m n)
-      go (passes-by z) (passes-by w) e f = counts (leb (classes m) (classes n)) refl e f
-      go (passes-by z) (refuses-by w) e f = subst Picked (pick-first e f) (first (subst IsAccepted e tt) (λ p. absurd (subst IsAccepted (sym f) p)))
-      go (refuses-by z) (passes-by w) e f = subst Picked (pick-second e f) (second (subst IsAccepted f tt) (λ p. absurd (subst IsAccepted (sym e) p)))
-      go (refuses-by z) (refuses-by w) e f = subst Picked (pick-neither e f) (neither (subst IsAccepted (sym e)) (subst IsAccepted (sym f)))
+      go (passes-by z) (passes-by w) e f = counts (leb (classes m) (classes n)) refl e f (number-passes L b m z) (number-passes L b n w)
+      go (passes-by z) (refuses-by w) e f = subst Picked (pick-first e f) (first (number-passes L b m z) (λ p. absurd (w (passes-number L b n p))))
+      go (refuses-by z) (passes-by w) e f = subst Picked (pick-second e f) (second (number-passes L b n w) (λ p. absurd (z (passes-number L b m p))))
+      go (refuses-by z) (refuses-by w) e f = subst Picked (pick-neither e f) (neither (λ p. z (passes-number L b m p)) (λ p. w (passes-number L b n p)))
 
   -- ---- the number
 
@@ -155,8 +150,13 @@ module _ (L : Limits) (b m n : List ℕ) where
       go Second e (second p q) = number-0 (ap some (sym e)) (pass-accepted L b n p .readable)
 
   pub told : {x : Choice} → x ≡ choiceOf L b m n → (x ≡ choiceOf L b m n) × NumberTells x
-  unfolding choiceOf
-  told {x} e = (e, subst NumberTells (sym e) ((λ z f. refused (sym f) z), picked-number))
+  unfolding choiceOf choiceValues
+  told {x} e = (e, subst NumberTells (sym e) ((λ z f. by (whichOf L b m n) refl f z), λ f. picked-number (λ g. f (rw (g, choiceValues)))))
+    where
+      by : (w : Which) → w ≡ whichOf L b m n → choiceValues (record { number = chooseNumber L b m n; which = w }) ≡ [] → chooseNumber L b m n ≡ 0 → ⊥
+      by Neither g f z = refused g z
+      by First g f z = let a : _≡_ {A = ℕ} 0 1 = cc in omega arith
+      by Second g f z = let a : _≡_ {A = ℕ} 0 1 = cc in omega arith
 
   pub neither-passes : {k : ℕ} → k ≡ chooseNumber L b m n → NeitherPasses L b m n k
   unfolding some
@@ -177,6 +177,15 @@ module _ (L : Limits) (b m n : List ℕ) where
       back Second e (second p q) h = absurd (h .2 p)
 
 -- ---- what is handed back
+
+pub zero-tells : (L : Limits) (b : List ℕ) (s t : Slice) {k : ℕ} → k ≡ chooseNumber L b (s .bytes) (t .bytes) → ZeroTells L b s t k
+unfolding chooseOf handed some
+zero-tells L b s t {k} e = go (whichOf L b (s .bytes) (t .bytes)) refl (picked L b (s .bytes) (t .bytes))
+  where
+    go : (w : Which) → w ≡ whichOf L b (s .bytes) (t .bytes) → Picked L b (s .bytes) (t .bytes) w → (k ≡ 0) ↔ (1 ≤ length (handed w s t .bytes))
+    go Neither f p = (λ z. absurd (refused L b (s .bytes) (t .bytes) f (sym e ∙ z)), λ h. absurd (omega arith))
+    go First f (first p q) = (λ z. pass-filled L b (s .bytes) p, λ h. e ∙ number-some L b (s .bytes) (t .bytes) (ap some (sym f)))
+    go Second f (second p q) = (λ z. pass-filled L b (t .bytes) p, λ h. e ∙ number-some L b (s .bytes) (t .bytes) (ap some (sym f)))
 
 module _ (L : Limits) (b : List ℕ) (s t : RefT (List ℕ)) where
   by-which : {w : Which} → w ≡ whichOf L b (s .now) (t .now) → handed w (sliceOf s) (sliceOf t) ≡ chooseOf L b (sliceOf s) (sliceOf t)

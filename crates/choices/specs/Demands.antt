@@ -10,9 +10,8 @@ use Rattle.format.specs.Reading.{Readable}
 use Rattle.format.specs.Maps.{classes}
 use Rattle.relations.specs.Check.{checkOf}
 use Rattle.relations.specs.Demands.{IsAccepted}
-use Rattle.choices.specs.declared.Which.the-variants.{Neither}
 use Rattle.choices.specs.declared.Choice.{Choice}
-use Rattle.choices.specs.Choose.{chooseNumber}
+use Rattle.choices.specs.Choose.{chooseNumber, choiceValues, Slice, chooseOf}
 
 -- the check accepts a map
 abbrev pub Passes : Limits → List ℕ → List ℕ → Type 0
@@ -36,9 +35,13 @@ pub record Chosen (L : Limits) (b : List ℕ) (s t x : RefT (List ℕ)) : Type 0
 abbrev pub NeitherPasses : Limits → List ℕ → List ℕ → List ℕ → ℕ → Type 0
 NeitherPasses L b m n k = (k ≡ 40) ↔ (Readable L b × (Passes L b m → ⊥) × (Passes L b n → ⊥))
 
--- "0 when a map is handed back"
+-- "0 when a map is handed back": a value says which
 abbrev pub NumberTells : Choice → Type 0
-NumberTells r = (r .number ≡ 0) ↔ (r .which ≡ Neither → ⊥)
+NumberTells r = (r .number ≡ 0) ↔ (choiceValues r ≡ [] → ⊥)
+
+-- "The refusal's number, 0 when a map is handed back": of the number k and of what is handed back for s and t, a map or else an empty part
+abbrev pub ZeroTells : Limits → List ℕ → Slice → Slice → ℕ → Type 0
+ZeroTells L b s t k = (k ≡ 0) ↔ (1 ≤ length (chooseOf L b s t .bytes))
 
 -- where the number is 0, the map x is handed back for the maps s and t; "with any refusal .. the empty part of the first map"
 pub record HandedBack (L : Limits) (b : List ℕ) (s t x : RefT (List ℕ)) : Type 0 where

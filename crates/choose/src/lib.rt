@@ -3,7 +3,7 @@ ghost use mathlib.Core.Path.{_≡_};
 ghost use Rattle.limits.specs.Limits.{standard};
 ghost use Rattle.maps.specs.Known.{Known, WhereReadable};
 ghost use Rattle.choices.specs.Choose.{whichOf, chooseNumber, choiceOf, sliceOf, chooseOf};
-ghost use Rattle.choices.specs.Demands.{NumberTells, NeitherPasses, HandedBack};
+ghost use Rattle.choices.specs.Demands.{NumberTells, NeitherPasses, ZeroTells, HandedBack};
 use choices::Choice;
 use choices::Which;
 use format::Starts;
@@ -86,6 +86,7 @@ pub fn choose_within<'a>(
 pub fn choose_number_within(limits: Limits, table: &[u8], first: &[u8], second: &[u8]) -> u8
     ensures answers { λ r. ⌜ r ≡ chooseNumber limits (now (table .entry)) (now (first .entry)) (now (second .entry)) ⌝ }
     ensures neither { λ r. ⌜ NeitherPasses limits (now (table .entry)) (now (first .entry)) (now (second .entry)) r ⌝ }
+    ensures tells { λ r. ⌜ ZeroTells limits (now (table .entry)) (sliceOf (first .entry)) (sliceOf (second .entry)) r ⌝ }
 {
     let choice = decide_within(limits, table, first, second);
     choice.number
@@ -111,6 +112,7 @@ pub fn choose<'a>(table: &[u8], first: &'a [u8], second: &'a [u8]) -> &'a [u8]
 pub fn choose_number(table: &[u8], first: &[u8], second: &[u8]) -> u8
     ensures answers { λ r. ⌜ r ≡ chooseNumber standard (now (table .entry)) (now (first .entry)) (now (second .entry)) ⌝ }
     ensures neither { λ r. ⌜ NeitherPasses standard (now (table .entry)) (now (first .entry)) (now (second .entry)) r ⌝ }
+    ensures tells { λ r. ⌜ ZeroTells standard (now (table .entry)) (sliceOf (first .entry)) (sliceOf (second .entry)) r ⌝ }
 {
     choose_number_within(limits::standard(), table, first, second)
 }

@@ -114,8 +114,8 @@ abbrev refused : Limits → List ℕ → List ℕ → ClausesDone
 refused L b list = record { answer = Refused (clausesNumber L b list); list = list }
 
 sound : (L : Limits) (b list : List ℕ) → ListSound L b (clausesOf L b list .list) (clausesOf L b list .answer)
-unfolding clausesOf clauseWords over
-sound L b list = by-number _ (written b list) (refused L b list) (λ (d : ClausesDone). ListSound L b (d .list) (d .answer)) given (λ n. tt)
+unfolding clausesOf clauseWords over listedNumber listedValues
+sound L b list = by-number _ (written b list) (refused L b list) (λ (d : ClausesDone). ListSound L b (d .list) (d .answer)) given (λ n e. absurd (n e))
   where
     cs : List (List ℕ)
     cs = clauseList (tableOf b)
@@ -124,7 +124,7 @@ sound L b list = by-number _ (written b list) (refused L b list) (λ (d : Clause
     there = ap clausesIn (take-append-seam (wordsOf cs) (drop (length (wordsOf cs)) list)) ∙ clauses-words cs
 
     given : clausesNumber L b list ≡ 0 → ListSound L b (over (wordsOf cs) list) (Words (length cs) (length (wordsOf cs)))
-    given z v m = model-accepted L b (fit L b list z) v (subst (λ (ds : List (List ℕ)). Model ds (pairs (count (tableOf b))) v) there m)
+    given z _ v m = model-accepted L b (fit L b list z) v (subst (λ (ds : List (List ℕ)). Model ds (pairs (count (tableOf b))) v) there m)
 
 numbered : (L : Limits) (b list : List ℕ) → ClausesSays L b list (clausesOf L b list .answer)
 unfolding clausesOf listedNumber listedValues

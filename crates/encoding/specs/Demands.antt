@@ -3,6 +3,7 @@ use mathlib.Core.Path.{_≡_}
 use mathlib.Core.List.{List}
 use Prim.Native.Nat.{ℕ}
 use lib.ListN.{take}
+use Rattle.lists.specs.Lists.{OnValues}
 use Rattle.cnf.specs.Clauses.{Model, clausesIn}
 use Rattle.limits.specs.declared.Limits.{Limits}
 use Rattle.pairs.specs.Pairs.{pairs}
@@ -11,12 +12,11 @@ use Rattle.format.specs.Language.{count}
 use Rattle.relations.specs.Check.{checkNumber}
 use Rattle.encoding.specs.Maps.{mapOf}
 use Rattle.encoding.specs.declared.Listed.{Listed}
-use Rattle.encoding.specs.declared.Listed.the-variants.{List as Words, Refused}
+use Rattle.encoding.specs.Clauses.{listedNumber, listedValues}
 
--- where a list was written, of its words
+-- where a list was written, of its word count
 abbrev pub OnList : Listed → (ℕ → Type 0) → Type 0
-OnList (Words c w) P = P w
-OnList (Refused k) P = Unit {0}
+OnList r P = OnValues (listedNumber r) (listedValues r) (λ v. P (v 1))
 
 -- every assignment that satisfies the words written has a map that the check accepts
 abbrev pub ListSound : Limits → List ℕ → List ℕ → Listed → Type 0

@@ -3,20 +3,23 @@ use mathlib.Core.Path.{_≡_, refl, sym, ap, _∙_, subst}
 use mathlib.Core.List.{List}
 use Prim.Native.Nat.{ℕ, _≤_, _<_}
 use native.Mathlib.Omega.{arith}
-use lib.ListN.{length}
+use lib.ListN.{length, take, drop}
+use lib.Seq.{take-at}
 use borrow.Author.Tests.{le-leb, lt-leb}
 use Rattle.lists.specs.Lists.{over}
 use Rattle.lists.proofs.Refusals.{fails, passes, no-test, stage-passes, stage-fails, stage-passed, refuses, not-refused, by-number, says}
 use Rattle.limits.specs.declared.Limits.{Limits}
 use Rattle.format.specs.File.{tableOf}
+use Rattle.format.proofs.Bytes.{read-well-formed}
 use Rattle.relations.specs.Check.{checkNumber}
 use Rattle.relations.proofs.Accepted.{accepted}
 use Rattle.quotients.proofs.Theorems.{quotient-table}
 use Rattle.fates.specs.declared.Recorded.{Recorded}
 use Rattle.fates.specs.declared.Recorded.the-variants.{Refused}
 use Rattle.fates.specs.Fates.{fatesOf, recordCount, countsOf, recordsNumber, RecordsDone, recordsOf, recordedNumber, recordedValues, RecordsSays}
-use Rattle.fates.specs.Demands.{Promises}
-use Rattle.fates.proofs.Counts.{add-up, kept-quotient}
+use Rattle.fates.specs.Demands.{wholeFates, Promises}
+use Rattle.fates.proofs.Counts.{one-each, add-up, kept-quotient}
+use Rattle.fates.proofs.Whole.{whole-fates}
 
 module _ (L : Limits) (b m out : List ℕ) where
   -- the two ways to end
@@ -49,25 +52,32 @@ module _ (L : Limits) (b m out : List ℕ) where
 
   -- ---- what is promised
 
-  counted : checkNumber L b m ≡ 0 → Promises b m (countsOf (tableOf b) m)
-  unfolding countsOf
+  -- the bytes that are written, by the whole file
+  marked : checkNumber L b m ≡ 0 → take (recordCount (tableOf b)) (over (fatesOf (tableOf b) m) out) ≡ wholeFates (tableOf b) m
+  unfolding over
+  marked e =
+      let fates = fatesOf (tableOf b) m in
+      take-at fates (drop (length fates) out) (recordCount (tableOf b)) (one-each (tableOf b) m) ∙ sym (whole-fates (read-well-formed L b (accepted L b m e .readable)) m)
+
+  counted : checkNumber L b m ≡ 0 → Promises b m (countsOf (tableOf b) m) (over (fatesOf (tableOf b) m) out)
+  unfolding countsOf recordedValues
   counted e =
       let a = accepted L b m e in
       let k = kept-quotient (tableOf b) m in
-      record { counts = add-up (tableOf b) m; kept = (k, k ∙ ap recordCount (sym (quotient-table L b m (a .readable) (a .proper)))); all = refl }
+      record { counts = λ _. add-up (tableOf b) m; kept = λ _. (k, k ∙ ap recordCount (sym (quotient-table L b m (a .readable) (a .proper)))); all = λ _. refl; earlier = λ _. marked e }
 
   number-checked : recordsNumber L b m out ≡ 0 → checkNumber L b m ≡ 0
   unfolding recordsNumber
   number-checked e = stage-passed _ _ e .0
 
-  promises : Promises b m (recordsOf L b m out .answer)
-  unfolding recordsOf
-  promises = by-number (recordsNumber L b m out) told (refusal (recordsNumber L b m out)) (λ (d : RecordsDone). Promises b m (d .answer)) (λ z. counted (number-checked z)) (λ n. record { counts = tt; kept = tt; all = tt })
+  promises : Promises b m (recordsOf L b m out .answer) (recordsOf L b m out .out)
+  unfolding recordsOf recordedNumber
+  promises = by-number (recordsNumber L b m out) told (refusal (recordsNumber L b m out)) (λ (d : RecordsDone). Promises b m (d .answer) (d .out)) (λ z. counted (number-checked z)) (λ n. record { counts = λ e. absurd (n e); kept = λ e. absurd (n e); all = λ e. absurd (n e); earlier = λ e. absurd (n e) })
 
   numbered : RecordsSays L b m out (recordsOf L b m out .answer)
   unfolding recordsOf recordedNumber recordedValues countsOf
   numbered = says (recordsNumber L b m out) told (refusal (recordsNumber L b m out)) (λ (d : RecordsDone). recordedNumber (d .answer)) (λ (d : RecordsDone). recordedValues (d .answer)) refl refl refl refl
 
   pub promised : {r : Recorded} {now : List ℕ} → record { answer = r; out = now } ≡ recordsOf L b m out
-      → (record { answer = r; out = now } ≡ recordsOf L b m out) × (RecordsSays L b m out r × Promises b m r)
-  promised e = (e, subst (λ (d : RecordsDone). RecordsSays L b m out (d .answer) × Promises b m (d .answer)) (sym e) (numbered, promises))
+      → (record { answer = r; out = now } ≡ recordsOf L b m out) × (RecordsSays L b m out r × Promises b m r now)
+  promised e = (e, subst (λ (d : RecordsDone). RecordsSays L b m out (d .answer) × Promises b m (d .answer) (d .out)) (sym e) (numbered, promises))

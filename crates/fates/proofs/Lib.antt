@@ -1,4 +1,5 @@
 pub mod Counts
 pub mod Sections
+pub mod Whole
 pub mod Answers
 pub mod Examples

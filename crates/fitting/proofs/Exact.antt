@@ -13,7 +13,7 @@ use borrow.Author.Tests.{eqb-true, eq-eqb}
 use Rattle.lists.specs.Lists.{upto}
 use Rattle.lists.specs.Bits.{has}
 use Rattle.lists.proofs.Members.{and-true, and-of, any-true, any-false, upto-of, same-true, same-of}
-use Rattle.lists.proofs.Refusals.{passed, passes, no-test, stage-passes, stage-passed, by-number, says}
+use Rattle.lists.proofs.Refusals.{passed, passes, no-test, stage-passes, stage-passed, by-number, told-says, says}
 use Rattle.vpa.specs.Automata.{Tops, Accepts}
 use Rattle.limits.specs.declared.Limits.{Limits}
 use Rattle.limits.specs.Limits.{standard}
@@ -27,7 +27,7 @@ use Rattle.reach.proofs.Bounded.{lawful}
 use Rattle.reach.proofs.Formed.{bounded}
 use Rattle.reach.proofs.Exact.{bottom-has}
 use Rattle.fitting.specs.Fit.{firstOf, secondOf, pairCount, pairTable, ends, fits, noChoice, sameSymbols, fitNumber, fitOf, fittingNumber, fittingValues, FitSays}
-use Rattle.fitting.specs.Demands.{WithoutChoice, Apart, YesExactly, NoApart}
+use Rattle.fitting.specs.Demands.{OnFitting, IsYes, WithoutChoice, Apart, YesExactly, NoApart}
 use Rattle.fitting.specs.declared.Fitting.{Fitting}
 use Rattle.fitting.specs.declared.Fitting.the-variants.{Yes, No, Refused}
 use Rattle.fitting.proofs.Pairing.{WordsWithin, Visibly, Paired, reached, within-exact}
@@ -173,21 +173,13 @@ module _ (b c : List ℕ) where
   Worth r = YesExactly b c r × NoApart b c r
 
   worth : Permitted b c → (x : Bool) → fits (tableOf b) (tableOf c) ≡ x → Worth (told x)
-  worth p true e = (
-    record { exactly = λ z. (λ y a. a .missed (yes-within p e (a .word) (a .accepted)), λ n. refl); every = λ y. yes-within p e },
-    λ y. let z : _≡_ {A = ℕ} 0 1 = cc in absurd (omega arith),
-  )
-  worth p false e = (
-    record { exactly = λ z. (λ y. let z : _≡_ {A = ℕ} 0 1 = cc in absurd (omega arith), λ n. absurd (n (no-apart p e))); every = λ y. let z : _≡_ {A = ℕ} 0 1 = cc in absurd (omega arith) },
-    λ y. no-apart p e,
-  )
+  unfolding fittingNumber fittingValues
+  worth p true e = (record { exactly = λ z. (λ y a. a .missed (yes-within p e (a .word) (a .accepted)), λ n. refl); every = λ z y. yes-within p e }, λ z y. absurd (omega arith))
+  worth p false e = (record { exactly = λ z. (λ y. absurd (omega arith), λ n. absurd (n (no-apart p e))); every = λ z y. absurd (omega arith) }, λ z y. no-apart p e)
 
   pub fit-worth : Worth (fitOf b c)
   unfolding fitOf fittingNumber
-  fit-worth = by-number (fitNumber b c) (told (fits (tableOf b) (tableOf c))) (Refused (fitNumber b c)) Worth (λ z. worth (permitted b c z) (fits (tableOf b) (tableOf c)) refl) (λ n. (
-    record { exactly = λ z. absurd (n z); every = λ y. let z : _≡_ {A = ℕ} 0 1 = cc in absurd (omega arith) },
-    λ y. let z : _≡_ {A = ℕ} 0 1 = cc in absurd (omega arith),
-  ))
+  fit-worth = by-number (fitNumber b c) (told (fits (tableOf b) (tableOf c))) (Refused (fitNumber b c)) Worth (λ z. worth (permitted b c z) (fits (tableOf b) (tableOf c)) refl) (λ n. (record { exactly = λ z. absurd (n z); every = λ z. absurd (n z) }, λ z. absurd (n z)))
 
   -- its number and its values
   pub fit-says : FitSays b c (fitOf b c)
@@ -207,9 +199,20 @@ module _ (b c : List ℕ) where
   number-of = fit-says .numbered
 
   -- "does the second accept every word of the first?"
-  pub fit-yes : fittingNumber (fitOf b c) ≡ 0 → ((w : List ℕ) → AcceptsWord b w → AcceptsWord c w) → fitOf b c ≡ Yes
-  fit-yes z h = fit-worth .0 .exactly z .1 (λ a. a .missed (h (a .word) (a .accepted)))
+  pub fit-one : ((w : List ℕ) → AcceptsWord b w → AcceptsWord c w) → OnFitting (fitOf b c) (λ y. y ≡ 1)
+  fit-one h z = fit-worth .0 .exactly z .1 (λ a. a .missed (h (a .word) (a .accepted)))
 
-  pub yes-permitted : fitOf b c ≡ Yes → Permitted b c
-  unfolding fittingNumber
-  yes-permitted e = permitted b c (sym number-of ∙ ap fittingNumber e)
+  pub fit-yes : fittingNumber (fitOf b c) ≡ 0 → ((w : List ℕ) → AcceptsWord b w → AcceptsWord c w) → IsYes (fitOf b c)
+  unfolding fittingNumber fittingValues
+  fit-yes z h = by (fitOf b c) z (fit-one h z)
+    where
+      by : (r : Fitting) → fittingNumber r ≡ 0 → getD (fittingValues r) 0 0 ≡ 1 → IsYes r
+      by Yes z y = told-says _ refl
+      by No z y = absurd (omega arith)
+      by (Refused k) z y = absurd (omega arith)
+
+  pub yes-permitted : IsYes (fitOf b c) → Permitted b c
+  yes-permitted e = permitted b c (sym number-of ∙ e .numbered)
+
+  pub yes-every : IsYes (fitOf b c) → (w : List ℕ) → AcceptsWord b w → AcceptsWord c w
+  yes-every e = fit-worth .0 .every (e .numbered) (ap (λ (vs : List ℕ). getD vs 0 0) (e .valued))

@@ -1,16 +1,24 @@
 -- What the answer of the comparison is worth (document 02, request (xi)): words are accepted as by (iv), on the empty stack. Assumes nothing.
 use mathlib.Core.Path.{_≡_}
 use mathlib.Core.Logic.{_↔_}
-use mathlib.Core.List.{List}
+use mathlib.Core.List.{List, [], _∷_}
 use Prim.Native.Nat.{ℕ}
+use Rattle.lists.specs.Lists.{Says, OnValues}
 use Rattle.limits.specs.declared.Limits.{Limits}
 use Rattle.format.specs.File.{Table}
 use Rattle.format.specs.Language.{automaton, OneTarget, AcceptsWord}
 use Rattle.relations.specs.Check.{checkNumber}
 use Rattle.quotients.specs.Quotient.{quotientBytes}
 use Rattle.fitting.specs.declared.Fitting.{Fitting}
-use Rattle.fitting.specs.declared.Fitting.the-variants.{Yes, No}
-use Rattle.fitting.specs.Fit.{fitOf, fittingNumber}
+use Rattle.fitting.specs.Fit.{fitOf, fittingNumber, fittingValues}
+
+-- where nothing is refused, of the value: 1 for yes, 0 for no
+abbrev pub OnFitting : Fitting → (ℕ → Type 0) → Type 0
+OnFitting r P = OnValues (fittingNumber r) (fittingValues r) (λ v. P (v 0))
+
+-- the answer is yes
+abbrev pub IsYes : Fitting → Type 0
+IsYes r = Says (fittingNumber r) (fittingValues r) 0 (1 ∷ [])
 
 -- "The second has one initial state and at most one target for a move."
 pub record WithoutChoice (t : Table) : Type 0 where
@@ -28,19 +36,19 @@ pub record Apart (b c : List ℕ) : Type 0 where
 -- "The answer is yes exactly when no word under (iv) is accepted by the first and not by the second", where nothing is refused; with yes
 -- the second accepts every word of the first
 pub record YesExactly (b c : List ℕ) (r : Fitting) : Type 0 where
-  pub exactly : fittingNumber r ≡ 0 → (r ≡ Yes) ↔ (¬ Apart b c)
-  pub every : r ≡ Yes → (w : List ℕ) → AcceptsWord b w → AcceptsWord c w
+  pub exactly : OnFitting r (λ y. (y ≡ 1) ↔ (¬ Apart b c))
+  pub every : OnFitting r (λ y. y ≡ 1 → (w : List ℕ) → AcceptsWord b w → AcceptsWord c w)
 
 -- with no there is such a word
 abbrev pub NoApart : List ℕ → List ℕ → Fitting → Type 0
-NoApart b c r = r ≡ No → Apart b c
+NoApart b c r = OnFitting r (λ y. y ≡ 0 → Apart b c)
 
 -- "A table fits its own quotient, where the operation takes both", and the quotient fits its table: for every map that the check accepts, at
 -- whatever limits
 pub record FitsQuotient (b c : List ℕ) (r : Fitting) : Type 0 where
-  pub quotient : (L : Limits) (m : List ℕ) → checkNumber L b m ≡ 0 → c ≡ quotientBytes b m → fittingNumber r ≡ 0 → r ≡ Yes
-  pub back : (L : Limits) (m : List ℕ) → checkNumber L c m ≡ 0 → b ≡ quotientBytes c m → fittingNumber r ≡ 0 → r ≡ Yes
+  pub quotient : (L : Limits) (m : List ℕ) → checkNumber L b m ≡ 0 → c ≡ quotientBytes b m → OnFitting r (λ y. y ≡ 1)
+  pub back : (L : Limits) (m : List ℕ) → checkNumber L c m ≡ 0 → b ≡ quotientBytes c m → OnFitting r (λ y. y ≡ 1)
 
 -- "Fitting is transitive where all the comparisons are permitted": two that say yes permit the third
 abbrev pub FitsOn : List ℕ → List ℕ → Fitting → Type 0
-FitsOn b c r = (d : List ℕ) → r ≡ Yes → fitOf c d ≡ Yes → fitOf b d ≡ Yes
+FitsOn b c r = (d : List ℕ) → IsYes r → IsYes (fitOf c d) → IsYes (fitOf b d)

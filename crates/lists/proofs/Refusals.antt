@@ -5,9 +5,10 @@ use mathlib.Core.Bool.{Bool, true, false}
 use mathlib.Core.List.{List, [], _∷_}
 use Prim.Native.Nat.{ℕ, _≤_, zero-le}
 use native.Mathlib.Decide.{ℕ-discrete}
+use lib.ListN.{getD}
 use lib.Dec.{eqb}
 use borrow.Author.Tests.{eqb-true, eqb-false, eq-eqb, ne-eqb}
-use Rattle.lists.specs.Lists.{firstFailed, stage, Says}
+use Rattle.lists.specs.Lists.{firstFailed, stage, Says, OnValues}
 
 -- where none fails, the first passes and none of the others fails
 pub passed : (k : ℕ) (t : Bool) (ts : List (ℕ × Bool)) → k ≢ 0 → firstFailed ((k, t) ∷ ts) ≡ 0 → (t ≡ true) × (firstFailed ts ≡ 0)
@@ -91,3 +92,12 @@ refused-says {j} {k} listed e n = record { numbered = sym e; valued = refuses k 
 pub says : {A : Type 0} (k : ℕ) (x y : A) (number : A → ℕ) (values : A → List ℕ) {listed : List ℕ} → number x ≡ 0 → values x ≡ listed → number y ≡ k → values y ≡ []
     → (let r : A = elim (eqb k 0) as (λ _. A) [ true ↦ x | false ↦ y ] in Says (number r) (values r) k listed)
 says k x y number values {listed} e f g h = by-number k x y (λ r. Says (number r) (values r) k listed) (λ z. rw (e, f) (told-says listed z)) (λ n. rw (g, h) (refused-says listed refl n))
+
+-- of an answer that is not refused: so nothing is, and the values are those listed
+pub said : {number k : ℕ} {values listed : List ℕ} → Says number values k listed → number ≡ 0 → (k ≡ 0) × (values ≡ listed)
+said {number} {k} {values} {listed} s e = let z : k ≡ 0 = sym (s .numbered) ∙ e in (z, s .valued ∙ sym (not-refused k listed [] z))
+
+-- what holds of the values of x, where the number is 0, is said of the answer
+pub on-values : {A : Type 0} (k : ℕ) (x y : A) (number : A → ℕ) (values : A → List ℕ) (P : A → (ℕ → ℕ) → Type 0) → (k ≡ 0 → P x (λ i. getD (values x) i 0)) → number y ≡ k
+    → (let r : A = elim (eqb k 0) as (λ _. A) [ true ↦ x | false ↦ y ] in OnValues (number r) (values r) (P r))
+on-values k x y number values P h e = by-number k x y (λ r. OnValues (number r) (values r) (P r)) (λ z _. h z) (λ n f. absurd (n (sym e ∙ f)))

@@ -79,3 +79,7 @@ stage k = (k, eqb k 0)
 pub record Says (number : ℕ) (values : List ℕ) (k : ℕ) (listed : List ℕ) : Type 0 where
   pub numbered : number ≡ k
   pub valued : values ≡ (elim (eqb k 0) [ true ↦ listed | false ↦ [] ])
+
+-- what is said of an answer's values, by their places, where nothing is refused: its number is 0
+abbrev pub OnValues : ℕ → List ℕ → ((ℕ → ℕ) → Type 0) → Type 0
+OnValues number values P = number ≡ 0 → P (λ i. getD values i 0)

@@ -15,13 +15,13 @@ use Rattle.format.proofs.Bytes.{read-well-formed}
 use Rattle.format.proofs.Passed.{formed-tested}
 use Rattle.relations.specs.Check.{checkNumber}
 use Rattle.relations.proofs.Accepted.{accepted}
-use Rattle.relations.proofs.Answers.{accepted-number}
+use Rattle.relations.proofs.Answers.{passes-number}
 use Rattle.fates.specs.declared.Recorded.{Recorded}
 use Rattle.fates.specs.Fates.{recordCount, countsOf, RecordsDone, recordsOf}
 use Rattle.fates.proofs.Answers.{records-told}
 use Rattle.reductions.specs.declared.Reduction.{Reduction}
 use Rattle.reductions.specs.declared.Reduction.the-variants.{Delivered, Refused}
-use Rattle.reductions.specs.Reduce.{reduceOf}
+use Rattle.reductions.specs.Reduce.{reduceOf, reductionNumber}
 use Rattle.reductions.specs.Demands.{mapWritten, DeliversChecked}
 use Rattle.printed.specs.Program.{widest}
 use Rattle.printed.specs.Text.{goingText, reductionText, reducedText, printed}
@@ -37,7 +37,8 @@ module _ (L : Limits) (b m : List ℕ) (e : checkNumber L b m ≡ 0) where
 
 -- the map of a delivery is one that the check accepts
 pub delivered-checked : (L : Limits) (b map : List ℕ) {r : Reduction} {c g w l j u : ℕ} {z : Bool} → r ≡ Delivered c g w l j u z → DeliversChecked L r b map → checkNumber L b (mapWritten b map) ≡ 0
-delivered-checked L b map {r} {c} f d = accepted-number L b (mapWritten b map) (subst (λ (x : Reduction). DeliversChecked L x b map) f d)
+unfolding reductionNumber
+delivered-checked L b map {r} {c} f d = passes-number L b (mapWritten b map) (subst (λ (x : Reduction). DeliversChecked L x b map) f d refl .numbered)
 
 -- .. as the program takes it from the buffer
 pub map-checked : (L : Limits) (b map : List ℕ) {n : ℕ} → (Readable L b → n ≡ count (tableOf b)) → checkNumber L b (mapWritten b map) ≡ 0 → (n ≡ count (tableOf b)) × (checkNumber L b (take n map) ≡ 0)

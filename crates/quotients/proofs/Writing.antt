@@ -7,7 +7,7 @@ use lib.ListN.{length, take, drop}
 use lib.Seq.{take-append-seam}
 use lib.Dec.{eqb}
 use Rattle.lists.specs.Lists.{over, Says}
-use Rattle.lists.proofs.Refusals.{by-number, says}
+use Rattle.lists.proofs.Refusals.{says, on-values}
 use Rattle.quotients.specs.Quotient.{QuotientDone, writtenNumber, writtenValues}
 use Rattle.quotients.specs.Demands.{OnWriting}
 use Rattle.quotients.specs.declared.Written.the-variants.{Length, Refused}
@@ -25,8 +25,10 @@ module _ (k : ℕ) (c out : List ℕ) where
 
   -- what holds of the bytes holds of what is written
   pub on-writing : (P : List ℕ → Type 0) → (k ≡ 0 → P c) → OnWriting (done .answer) (λ n. P (take n (done .out)))
-  unfolding over
-  on-writing P h = by-number k written refused (λ (d : QuotientDone). OnWriting (d .answer) (λ n. P (take n (d .out)))) (λ z. subst P (sym (take-append-seam c (drop (length c) out))) (h z)) (λ n. tt)
+  unfolding over writtenNumber writtenValues
+  on-writing P h =
+      on-values k written refused (λ (d : QuotientDone). writtenNumber (d .answer)) (λ (d : QuotientDone). writtenValues (d .answer)) (λ d v. P (take (v 0) (d .out)))
+      (λ z. subst P (sym (take-append-seam c (drop (length c) out))) (h z)) refl
 
   pub says-length : Says (writtenNumber (done .answer)) (writtenValues (done .answer)) k (length c ∷ [])
   unfolding writtenNumber writtenValues

@@ -5,6 +5,7 @@ use mathlib.Core.Logic.{_↔_}
 use mathlib.Core.List.{List}
 use Prim.Native.Nat.{ℕ}
 use lib.ListN.{take}
+use Rattle.lists.specs.Lists.{OnValues}
 use Rattle.vpa.specs.Quotients.{quotient, EveryStep}
 use Rattle.limits.specs.declared.Limits.{Limits}
 use Rattle.format.specs.File.{tableOf}
@@ -13,7 +14,7 @@ use Rattle.format.specs.Language.{count, automatonOf, SameWords, SameMarks, Ope
 use Rattle.format.specs.Maps.{classOf, classes}
 use Rattle.scripts.specs.Demands.{SameScripts}
 use Rattle.quotients.specs.declared.Written.{Written}
-use Rattle.quotients.specs.declared.Written.the-variants.{Length, Refused}
+use Rattle.quotients.specs.Quotient.{writtenNumber, writtenValues}
 
 -- c holds the quotient of b under m: "one state a class, initial or accepting if a member is", and the images of internals, calls and live
 -- returns. "They are again a readable table"; request (v): "The quotient has its input's version and the members' mark."
@@ -35,8 +36,7 @@ ShowsSteps b m c = EveryStep (automatonOf b) (automatonOf c) (classOf m)
 
 -- where the quotient was written, of its bytes: "the output's first bytes, as many as that length"
 abbrev pub OnWriting : Written → (ℕ → Type 0) → Type 0
-OnWriting (Length n) P = P n
-OnWriting (Refused k) P = Unit {0}
+OnWriting r P = OnValues (writtenNumber r) (writtenValues r) (λ v. P (v 0))
 
 abbrev pub WritesQuotient : Limits → Written → List ℕ → List ℕ → List ℕ → Type 0
 WritesQuotient L r b m out = OnWriting r (λ n. IsQuotient L b m (take n out))

@@ -106,7 +106,7 @@ fn records_known(
 pub fn records_within(limits: Limits, table: &[u8], map: &[u8], out: &mut [u8]) -> Recorded
     ensures answers { λ r. ⌜ record { answer = r; out = now (out .exit) } ≡ recordsOf limits (now (table .entry)) (now (map .entry)) (now (out .entry)) ⌝ }
     ensures number { λ r. ⌜ RecordsSays limits (now (table .entry)) (now (map .entry)) (now (out .entry)) r ⌝ }
-    ensures promises { λ r. ⌜ Promises (now (table .entry)) (now (map .entry)) r ⌝ }
+    ensures promises { λ r. ⌜ Promises (now (table .entry)) (now (map .entry)) r (now (out .exit)) ⌝ }
 {
     let examined = tops::examine(limits, table);
     if examined.number != 0 {
@@ -121,7 +121,7 @@ pub fn records_within(limits: Limits, table: &[u8], map: &[u8], out: &mut [u8]) 
 pub fn records(table: &[u8], map: &[u8], out: &mut [u8]) -> Recorded
     ensures answers { λ r. ⌜ record { answer = r; out = now (out .exit) } ≡ recordsOf standard (now (table .entry)) (now (map .entry)) (now (out .entry)) ⌝ }
     ensures number { λ r. ⌜ RecordsSays standard (now (table .entry)) (now (map .entry)) (now (out .entry)) r ⌝ }
-    ensures promises { λ r. ⌜ Promises (now (table .entry)) (now (map .entry)) r ⌝ }
+    ensures promises { λ r. ⌜ Promises (now (table .entry)) (now (map .entry)) r (now (out .exit)) ⌝ }
 {
     records_within(limits::standard(), table, map, out)
 }

@@ -3,7 +3,7 @@ use mathlib.Core.Path.{_≡_, refl, sym, ap, _∙_, subst}
 use mathlib.Core.Logic.{_≢_, _⊎_, ⊎-elim}
 use mathlib.Core.Bool.{Bool, true, true≢false}
 use mathlib.Core.List.{List, [], _∷_}
-use Prim.Native.Nat.{ℕ, _≤_}
+use Prim.Native.Nat.{ℕ, _-_, _*_, _/_, _≤_}
 use native.Mathlib.Omega.{arith}
 use lib.ListN.{length, take, drop}
 use lib.Seq.{take-at, take-append-seam}
@@ -16,12 +16,12 @@ use Rattle.cnf.proofs.Trials.{spent-budget}
 use Rattle.limits.specs.declared.Limits.{Limits}
 use Rattle.pairs.specs.Pairs.{pairs}
 use Rattle.format.specs.File.{tableOf}
-use Rattle.format.specs.Language.{count, SameWords, SameMarks, OpenByNeither}
+use Rattle.format.specs.Language.{count, SameWords, SameMarks, OpenByNeither, OneTarget}
 use Rattle.format.specs.Maps.{classes, NoneCoarser}
 use Rattle.format.proofs.Bytes.{read-well-formed}
 use Rattle.relations.specs.Check.{checkNumber, checkOf}
-use Rattle.relations.specs.declared.Checked.the-variants.{Accepted}
-use Rattle.relations.proofs.Answers.{check-accepted}
+use Rattle.relations.specs.Demands.{AcceptedWith}
+use Rattle.relations.proofs.Answers.{accepted-with}
 use Rattle.encoding.specs.Clauses.{clauseList, shortWords}
 use Rattle.encoding.specs.Maps.{mapOf}
 use Rattle.encoding.proofs.Formed.{list-horn}
@@ -29,10 +29,11 @@ use Rattle.encoding.proofs.Theorems.{map-proper, none-coarser}
 use Rattle.quotients.specs.Quotient.{quotientBytes, quotientNumber}
 use Rattle.scripts.specs.Script.{yesValue}
 use Rattle.scripts.specs.Demands.{SameScripts}
+use Rattle.scripts.proofs.Promises.{said-yes, said-no}
 use Rattle.quotients.specs.Demands.{IsQuotient, ShowsSteps}
 use Rattle.quotients.proofs.Theorems.{is-quotient, keeps-words, keeps-marks, open-neither, keeps-steps, keeps-scripts}
 use Rattle.reductions.specs.Reduce.{Reduced, beforeSearch, searchOfTable, joinedPairs, deliver, triedOfTable, afterSearch, reduceOf, reductionNumber, reductionValues, reduceNumber, ReduceSays}
-use Rattle.reductions.specs.Demands.{OnDelivery, KeepsWords, DeliversQuotient, DeliversChecked, DeliversMaximal, FewGuesses, DeliversCeiling, SameSearch, SameAssignment, SpentSaid, DeliversNoneOpen, DeliversSteps, KeepsMarks, KeepsScripts, Promises, mapWritten}
+use Rattle.reductions.specs.Demands.{OnDelivery, KeepsWords, DeliversQuotient, DeliversChecked, DeliversMaximal, FewGuesses, Ceiling, DeliversCeiling, SameSearch, SameAssignment, SpentSaid, DeliversNoneOpen, DeliversSteps, KeepsMarks, KeepsScripts, Promises, mapWritten}
 use Rattle.reductions.specs.declared.Reduction.{Reduction}
 use Rattle.reductions.specs.declared.Reduction.the-variants.{Delivered, Refused}
 use Rattle.reductions.proofs.Ways.{FirstNumber, of-limits, of-reading, map-short, list-long, first-number, list-formed, Held, Ways, refused-first, refused-short, delivers, held-accepted, reduce-ways}
@@ -45,95 +46,73 @@ module _ (L : Limits) (b : List ℕ) (budget : ℕ) (list map out : List ℕ) wh
       take-at (mapOf v (count (tableOf b))) (drop (length (mapOf v (count (tableOf b)))) map) (count (tableOf b))
       (map-proper L (tableOf b) (read-well-formed L b (s .begun .readable)) v (s .model) .long)
 
-  checked-ways : {r : Reduced} → Ways L b budget list map out r → DeliversChecked L (r .answer) b (r .map)
-  unfolding checkOf
-  checked-ways (refused-first k e n) = tt
-  checked-ways (refused-short v g u z s l) = tt
-  checked-ways (delivers v g u z s l) =
-      subst (λ (m : List ℕ). checkOf L b m ≡ Accepted (classes (mapOf v (count (tableOf b))))) (sym (map-written v g u z s))
-      (sym (check-accepted L b (mapOf v (count (tableOf b))) (s .accepted) refl refl))
+  -- the map of the trial v, after g guesses, with the ceiling u, the budget spent or not
+  abbrev delivery : List ℕ → ℕ → ℕ → Bool → Reduced
+  delivery v g u z =
+      let m = mapOf v (count (tableOf b)) in
+      record {
+        answer = Delivered (classes m) g (length (shortWords (tableOf b))) (length (quotientBytes b m)) (joinedPairs (count (tableOf b)) m) u z;
+        list = over (shortWords (tableOf b)) list;
+        map = over m map;
+        out = over (quotientBytes b m) out;
+      }
+
+  -- what holds of every delivery holds of the answer: the number of a refusal is not 0
+  pub on-delivery : (P : Reduced → ℕ → ℕ → ℕ → ℕ → ℕ → ℕ → ℕ → Type 0)
+      → ((v : List ℕ) (g u : ℕ) (z : Bool) → Held L b budget list map out v g u z → let m = mapOf v (count (tableOf b)) in
+      length (quotientBytes b m) ≤ length out → P (delivery v g u z) (classes m) g (length (shortWords (tableOf b))) (length (quotientBytes b m)) (joinedPairs (count (tableOf b)) m) u (yesValue z))
+      → OnDelivery (reduceOf L b budget list map out .answer) (P (reduceOf L b budget list map out))
+  unfolding reductionNumber reductionValues
+  on-delivery P h = go (reduce-ways L b budget list map out)
+    where
+      go : {r : Reduced} → Ways L b budget list map out r → OnDelivery (r .answer) (P r)
+      go (refused-first k e n) = λ q. absurd (n q)
+      go (refused-short v g u z s l) = λ q. absurd (omega arith)
+      go (delivers v g u z s l) = λ q. h v g u z s l
 
   -- a delivered map is one that the check accepts
   pub delivers-checked : DeliversChecked L (reduceOf L b budget list map out .answer) b (reduceOf L b budget list map out .map)
-  delivers-checked = checked-ways (reduce-ways L b budget list map out)
-
-  maximal-ways : {r : Reduced} → Ways L b budget list map out r → DeliversMaximal (r .answer) b (r .map)
-  maximal-ways (refused-first k e n) = tt
-  maximal-ways (refused-short v g u z s l) = tt
-  maximal-ways (delivers v g u z s l) = λ e.
-      subst (λ (m : List ℕ). NoneCoarser (tableOf b) m) (sym (map-written v g u z s)) (none-coarser L (tableOf b) (read-well-formed L b (s .begun .readable)) v (s .model) (s .none-above e))
+  delivers-checked = on-delivery (λ d c g w l j u s. AcceptedWith (checkOf L b (mapWritten b (d .map))) c) (λ v g u z s l.
+      subst (λ (m : List ℕ). AcceptedWith (checkOf L b m) (classes (mapOf v (count (tableOf b))))) (sym (map-written v g u z s))
+      (accepted-with L b (mapOf v (count (tableOf b))) (s .accepted)))
 
   -- "No map meeting Definition 1 joins all pairs of a delivered map and one more", where the search was solved
   pub delivers-maximal : DeliversMaximal (reduceOf L b budget list map out .answer) b (reduceOf L b budget list map out .map)
-  delivers-maximal = maximal-ways (reduce-ways L b budget list map out)
-
-  fits-ways : {r : Reduced} → Ways L b budget list map out r → OnDelivery (r .answer) (λ c g w l. l ≤ length out)
-  fits-ways (refused-first k e n) = tt
-  fits-ways (refused-short v g u z s l) = tt
-  fits-ways (delivers v g u z s l) = l
+  delivers-maximal = on-delivery (λ d c g w l j u s. s ≡ 0 → NoneCoarser (tableOf b) (mapWritten b (d .map))) (λ v g u z s l e.
+      subst (λ (m : List ℕ). NoneCoarser (tableOf b) m) (sym (map-written v g u z s))
+      (none-coarser L (tableOf b) (read-well-formed L b (s .begun .readable)) v (s .model) (s .none-above (said-no z e))))
 
   -- what is delivered fits the output
-  pub delivers-fitting : OnDelivery (reduceOf L b budget list map out .answer) (λ c g w l. l ≤ length out)
-  delivers-fitting = fits-ways (reduce-ways L b budget list map out)
+  pub delivers-fitting : OnDelivery (reduceOf L b budget list map out .answer) (λ c g w l j u s. l ≤ length out)
+  delivers-fitting = on-delivery (λ d c g w l j u s. l ≤ length out) (λ v g u z s l. l)
 
-  guesses-ways : {r : Reduced} → Ways L b budget list map out r → FewGuesses (r .answer) b
+  -- "Where each move has at most one target, no reduction of n states, under any budget, reports more than n(n-1)/2 guesses."
+  pub few-guesses : FewGuesses (reduceOf L b budget list map out .answer) b
   unfolding searchOfTable pairs
-  guesses-ways (refused-first k e n) = tt
-  guesses-ways (refused-short v g u z s l) = tt
-  guesses-ways (delivers v g u z s l) = λ one.
+  few-guesses = on-delivery (λ d c g w l j u s. OneTarget (tableOf b) → g ≤ count (tableOf b) * (count (tableOf b) - 1) / 2) (λ v g u z s l one.
       let wf = read-well-formed L b (s .begun .readable) in
       let n = pairs (count (tableOf b)) in
       let cs = clauseList (tableOf b) in
       let few : madeOf (searchFrom cs n budget) ≤ n = horn cs n budget (list-formed wf) (list-horn (tableOf b) wf one) in
-      subst (λ (k : ℕ). k ≤ n) (sym (s .guesses)) few
-
-  -- "Where each move has at most one target, no reduction of n states, under any budget, reports more than n(n-1)/2 guesses."
-  pub few-guesses : FewGuesses (reduceOf L b budget list map out .answer) b
-  few-guesses = guesses-ways (reduce-ways L b budget list map out)
-
-  words-ways : {r : Reduced} → Ways L b budget list map out r → KeepsWords (r .answer) b (r .out)
-  unfolding over
-  words-ways (refused-first k e n) = tt
-  words-ways (refused-short v g u z s l) = tt
-  words-ways (delivers v g u z s l) =
-      let c = quotientBytes b (mapOf v (count (tableOf b))) in
-      subst (λ (d : List ℕ). SameWords b d) (sym (take-append-seam c (drop (length c) out))) (keeps-words L b (mapOf v (count (tableOf b))) (s .accepted))
-
-  -- "for every word of any length, the written quotient accepts the word exactly when the input does"
-  pub delivers-words : KeepsWords (reduceOf L b budget list map out .answer) b (reduceOf L b budget list map out .out)
-  delivers-words = words-ways (reduce-ways L b budget list map out)
-
-  ceiling-ways : {r : Reduced} → Ways L b budget list map out r → DeliversCeiling (r .answer) b (r .map)
-  ceiling-ways (refused-first k e n) = tt
-  ceiling-ways (refused-short v g u z s l) = tt
-  ceiling-ways (delivers v g u z s l) = record { joined = ap (joinedPairs (count (tableOf b))) (sym (map-written v g u z s)); most = s .most }
+      subst (λ (k : ℕ). k ≤ n) (sym (s .guesses)) few)
 
   -- "No accepted map joins more than U pairs", and J is how many the map delivered joins
   pub delivers-ceiling : DeliversCeiling (reduceOf L b budget list map out .answer) b (reduceOf L b budget list map out .map)
-  delivers-ceiling = ceiling-ways (reduce-ways L b budget list map out)
-
-  same-ways : {r : Reduced} → Ways L b budget list map out r → SameSearch (r .answer) b budget
-  same-ways (refused-first k e n) = tt
-  same-ways (refused-short v g u z s l) = tt
-  same-ways (delivers v g u z s l) = (s .guesses, s .ended)
-
-  found-ways : {r : Reduced} → Ways L b budget list map out r → SameAssignment (r .answer) b budget (r .map)
-  found-ways (refused-first k e n) = tt
-  found-ways (refused-short v g u z s l) = tt
-  found-ways (delivers v g u z s l) = λ w k e. map-written v g u z s ∙ ap (λ (x : List ℕ). mapOf x (count (tableOf b))) (s .found w k e)
-
-  pub same-assignment : SameAssignment (reduceOf L b budget list map out .answer) b budget (reduceOf L b budget list map out .map)
-  same-assignment = found-ways (reduce-ways L b budget list map out)
+  delivers-ceiling = on-delivery (λ d c g w l j u s. Ceiling b (d .map) j u) (λ v g u z s l.
+      record { joined = ap (joinedPairs (count (tableOf b))) (sym (map-written v g u z s)); most = s .most })
 
   -- guesses and spent are those of the search over the full list
   pub same-search : SameSearch (reduceOf L b budget list map out .answer) b budget
-  same-search = same-ways (reduce-ways L b budget list map out)
+  same-search = on-delivery (λ d c g w l j u s. (g ≡ madeOf (searchOfTable b budget)) × (s ≡ yesValue (isSpent (searchOfTable b budget)))) (λ v g u z s l. (s .guesses, ap yesValue (s .ended)))
 
-  spent-ways : {r : Reduced} → Ways L b budget list map out r → SpentSaid (r .answer) b budget
+  pub same-assignment : SameAssignment (reduceOf L b budget list map out .answer) b budget (reduceOf L b budget list map out .map)
+  same-assignment = on-delivery (λ d c g w l j u s. (v : List ℕ) (k : ℕ) → searchOfTable b budget ≡ solved v k → mapWritten b (d .map) ≡ mapOf v (count (tableOf b))) (λ v g u z s l w k e.
+      map-written v g u z s ∙ ap (λ (x : List ℕ). mapOf x (count (tableOf b))) (s .found w k e))
+
+  -- a search that is spent made all guesses of its budget
+  spent-all : isSpent (searchOfTable b budget) ≡ true → (madeOf (searchOfTable b budget) ≡ budget) × (searchOfTable b budget ≡ spent budget)
   unfolding searchOfTable
-  spent-ways (refused-first k e n) = tt
-  spent-ways (refused-short v g u z s l) = tt
-  spent-ways (delivers v g u z s l) = λ e. go (searchFrom cs n budget) refl (sym (s .ended) ∙ e)
+  spent-all e = go (searchFrom cs n budget) refl e
     where
       n : ℕ
       n = pairs (count (tableOf b))
@@ -141,47 +120,50 @@ module _ (L : Limits) (b : List ℕ) (budget : ℕ) (list map out : List ℕ) wh
       cs : List (List ℕ)
       cs = clauseList (tableOf b)
 
-      go : (o : Outcome) → searchFrom cs n budget ≡ o → isSpent o ≡ true → (g ≡ budget) × (searchFrom cs n budget ≡ spent budget)
-      go (spent k) q t = let all = spent-budget cs n budget k q in (s .guesses ∙ ap madeOf q ∙ all, q ∙ ap spent all)
+      go : (o : Outcome) → searchFrom cs n budget ≡ o → isSpent o ≡ true → (madeOf (searchFrom cs n budget) ≡ budget) × (searchFrom cs n budget ≡ spent budget)
+      go (spent k) q t = let all = spent-budget cs n budget k q in (ap madeOf q ∙ all, q ∙ ap spent all)
       go (solved w k) q t = absurd (true≢false (sym t))
       go (none-exists k) q t = absurd (true≢false (sym t))
       go unfinished q t = absurd (true≢false (sym t))
 
   -- "A spent delivery says so": all guesses of the budget were made, and the search ends by (d)
   pub spent-said : SpentSaid (reduceOf L b budget list map out .answer) b budget
-  spent-said = spent-ways (reduce-ways L b budget list map out)
+  spent-said = on-delivery (λ d c g w l j u s. s ≡ 1 → (g ≡ budget) × (searchOfTable b budget ≡ spent budget)) (λ v g u z s l e.
+      let a = spent-all (sym (s .ended) ∙ said-yes z e) in (s .guesses ∙ a .0, a .1))
 
   -- what holds of an accepted map and its quotient's bytes holds of the map and the bytes that are delivered
-  delivered-ways : (P : List ℕ → List ℕ → Type 0) → ((m : List ℕ) → checkNumber L b m ≡ 0 → P m (quotientBytes b m))
-      → {r : Reduced} → Ways L b budget list map out r → OnDelivery (r .answer) (λ c g w l. P (mapWritten b (r .map)) (take l (r .out)))
+  delivered : (P : List ℕ → List ℕ → Type 0) → ((m : List ℕ) → checkNumber L b m ≡ 0 → P m (quotientBytes b m))
+      → OnDelivery (reduceOf L b budget list map out .answer) (λ c g w l j u s. P (mapWritten b (reduceOf L b budget list map out .map)) (take l (reduceOf L b budget list map out .out)))
   unfolding over
-  delivered-ways P h (refused-first k e n) = tt
-  delivered-ways P h (refused-short v g u z s l) = tt
-  delivered-ways P h (delivers v g u z s l) =
+  delivered P h = on-delivery (λ d c g w l j u s. P (mapWritten b (d .map)) (take l (d .out))) (λ v g u z s l.
       let m = mapOf v (count (tableOf b)) in
       let c = quotientBytes b m in
       subst (λ (d : List ℕ). P (mapWritten b (over m map)) d) (sym (take-append-seam c (drop (length c) out)))
-      (subst (λ (k : List ℕ). P k c) (sym (map-written v g u z s)) (h m (s .accepted)))
+      (subst (λ (k : List ℕ). P k c) (sym (map-written v g u z s)) (h m (s .accepted))))
+
+  -- "for every word of any length, the written quotient accepts the word exactly when the input does"
+  pub delivers-words : KeepsWords (reduceOf L b budget list map out .answer) b (reduceOf L b budget list map out .out)
+  delivers-words = delivered (λ m c. SameWords b c) (keeps-words L b)
 
   -- the written table is the paper's quotient under the delivered map
   pub delivers-quotient : DeliversQuotient L (reduceOf L b budget list map out .answer) b (reduceOf L b budget list map out .map) (reduceOf L b budget list map out .out)
-  delivers-quotient = delivered-ways (IsQuotient L b) (is-quotient L b) (reduce-ways L b budget list map out)
+  delivers-quotient = delivered (IsQuotient L b) (is-quotient L b)
 
   -- request (v): for each mark the same words that end in a state of it
   pub delivers-marks : KeepsMarks (reduceOf L b budget list map out .answer) b (reduceOf L b budget list map out .out)
-  delivers-marks = delivered-ways (λ m c. SameMarks b c) (keeps-marks L b) (reduce-ways L b budget list map out)
+  delivers-marks = delivered (λ m c. SameMarks b c) (keeps-marks L b)
 
   -- request (iv): a word that leaves something open is accepted by neither
   pub delivers-none-open : DeliversNoneOpen (reduceOf L b budget list map out .answer) b (reduceOf L b budget list map out .out)
-  delivers-none-open = delivered-ways (λ m c. OpenByNeither b c) (open-neither L b) (reduce-ways L b budget list map out)
+  delivers-none-open = delivered (λ m c. OpenByNeither b c) (open-neither L b)
 
   -- request (xii): at every step, under the map delivered
   pub delivers-steps : DeliversSteps (reduceOf L b budget list map out .answer) b (reduceOf L b budget list map out .map) (reduceOf L b budget list map out .out)
-  delivers-steps = delivered-ways (ShowsSteps b) (keeps-steps L b) (reduce-ways L b budget list map out)
+  delivers-steps = delivered (ShowsSteps b) (keeps-steps L b)
 
   -- request (i): one answer to every script, number included
   pub delivers-scripts : KeepsScripts L (reduceOf L b budget list map out .answer) b (reduceOf L b budget list map out .out)
-  delivers-scripts = delivered-ways (λ m c. SameScripts L b c) (keeps-scripts L b) (reduce-ways L b budget list map out)
+  delivers-scripts = delivered (λ m c. SameScripts L b c) (keeps-scripts L b)
 
   -- all that is promised
   pub promises : Promises L b budget (reduceOf L b budget list map out .answer) (reduceOf L b budget list map out .map) (reduceOf L b budget list map out .out)
@@ -205,13 +187,13 @@ module _ (L : Limits) (b : List ℕ) (budget : ℕ) (list map out : List ℕ) wh
   pub data Number (k : ℕ) : Type 0 where
     first : FirstNumber k → Number k
     output-short : k ≡ 21 → Number k
-    delivered : k ≡ 0 → Number k
+    none-refused : k ≡ 0 → Number k
 
   number-ways : {r : Reduced} → Ways L b budget list map out r → Number (reductionNumber (r .answer))
   unfolding reductionNumber
   number-ways (refused-first k e n) = first (subst (λ (x : ℕ). FirstNumber x) e (first-number L b list map))
   number-ways (refused-short v g u z s l) = output-short refl
-  number-ways (delivers v g u z s l) = delivered refl
+  number-ways (delivers v g u z s l) = none-refused refl
 
   pub numbers : Number (reductionNumber (reduceOf L b budget list map out .answer))
   numbers = number-ways (reduce-ways L b budget list map out)
@@ -256,7 +238,7 @@ module _ (L : Limits) (b : List ℕ) (budget : ℕ) (list map out : List ℕ) wh
       go : Number (reductionNumber (reduceOf L b budget list map out .answer)) → ⊥
       go (first h) = early h
       go (output-short h) = ⊎-elim (λ d. omega arith) (λ d. omega arith) c
-      go (delivered h) = ⊎-elim (λ d. omega arith) (λ d. omega arith) c
+      go (none-refused h) = ⊎-elim (λ d. omega arith) (λ d. omega arith) c
 
 -- what the contract of reduce says, of the answer and the buffers that the definition gives
 module _ (L : Limits) (b : List ℕ) (budget : ℕ) (list map out : List ℕ) {r : Reduction} {list' map' out' : List ℕ} (e : record { answer = r; list = list'; map = map'; out = out' } ≡ reduceOf L b budget list map out) where
@@ -267,6 +249,7 @@ module _ (L : Limits) (b : List ℕ) (budget : ℕ) (list map out : List ℕ) {r
   )
 
   pub delivered-fits : {c g w l j u : ℕ} {z : Bool} → r ≡ Delivered c g w l j u z → l ≤ length out
+  unfolding reductionNumber reductionValues
   delivered-fits f =
-      subst (λ (x : Reduction). OnDelivery x (λ c g w l. l ≤ length out)) f
-      (subst (λ (d : Reduced). OnDelivery (d .answer) (λ c g w l. l ≤ length out)) (sym e) (delivers-fitting L b budget list map out))
+      subst (λ (x : Reduction). OnDelivery x (λ c g w l j u s. l ≤ length out)) f
+      (subst (λ (d : Reduced). OnDelivery (d .answer) (λ c g w l j u s. l ≤ length out)) (sym e) (delivers-fitting L b budget list map out)) refl

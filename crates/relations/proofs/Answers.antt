@@ -1,19 +1,18 @@
 -- The check's number and its answer, by cases, and what the answer promises (demand 2). Assumes nothing.
 use mathlib.Core.Path.{_≡_, refl, sym, ap, _∙_, subst}
-use mathlib.Core.Logic.{_↔_}
-use mathlib.Core.List.{List}
+use mathlib.Core.List.{List, [], _∷_}
 use Prim.Native.Nat.{ℕ}
 use native.Mathlib.Omega.{arith}
-use Rattle.lists.specs.Lists.{firstFailed}
+use Rattle.lists.specs.Lists.{firstFailed, Says}
 use Rattle.lists.proofs.Refusals.{stage-passes, refuses, not-refused, by-number, says}
 use Rattle.limits.specs.declared.Limits.{Limits}
 use Rattle.format.specs.File.{tableOf}
 use Rattle.format.specs.Reading.{Readable}
-use Rattle.format.specs.Maps.{classes, Proper, RaqMap}
+use Rattle.format.specs.Maps.{classes}
 use Rattle.relations.specs.declared.Checked.{Checked}
 use Rattle.relations.specs.declared.Checked.the-variants.{Accepted, Refused}
 use Rattle.relations.specs.Check.{mapTests, checkNumber, checkOf, checkedNumber, checkedValues, CheckSays}
-use Rattle.relations.specs.Demands.{IsAccepted, AcceptsExactly}
+use Rattle.relations.specs.Demands.{IsAccepted, AcceptedWith, AcceptsExactly}
 use Rattle.relations.proofs.Accepted.{accepted, accepts}
 
 module _ (L : Limits) (b m : List ℕ) where
@@ -30,21 +29,26 @@ module _ (L : Limits) (b m : List ℕ) where
   unfolding checkOf
   check-accepted e z l = ap Accepted l ∙ not-refused _ _ _ (e ∙ z)
 
-  -- demand 2
-  exactly : AcceptsExactly L b m (checkOf L b m)
-  unfolding checkOf
-  exactly readable =
-      by-number
-      _
-      _
-      _
-      (λ r. IsAccepted r ↔ (Proper (tableOf b) m × RaqMap (tableOf b) m))
-      (λ n. (λ z. let a = accepted L b m n in (a .proper, a .raq), λ z. tt))
-      (λ n. (λ z. absurd z, λ z. n (accepts L b m (record { readable = readable; proper = z .0; raq = z .1 }))))
-
   numbered : CheckSays L b m (checkOf L b m)
   unfolding checkOf checkedNumber checkedValues
   numbered = says _ (Accepted (classes m)) (Refused (checkNumber L b m)) checkedNumber checkedValues refl refl refl refl
+
+  -- accepted, by the answer's number and by the definition's
+  pub passes-number : IsAccepted (checkOf L b m) → checkNumber L b m ≡ 0
+  passes-number e = sym (numbered .numbered) ∙ e
+
+  pub number-passes : checkNumber L b m ≡ 0 → IsAccepted (checkOf L b m)
+  number-passes e = numbered .numbered ∙ e
+
+  pub accepted-with : checkNumber L b m ≡ 0 → AcceptedWith (checkOf L b m) (classes m)
+  accepted-with e = subst (λ k. Says (checkedNumber (checkOf L b m)) (checkedValues (checkOf L b m)) k (classes m ∷ [])) e numbered
+
+  -- demand 2
+  exactly : AcceptsExactly L b m (checkOf L b m)
+  exactly readable = (
+    λ e. let a = accepted L b m (passes-number e) in (a .proper, a .raq),
+    λ z. number-passes (accepts L b m (record { readable = readable; proper = z .0; raq = z .1 })),
+  )
 
   pub checked : {r : Checked} → r ≡ checkOf L b m → (r ≡ checkOf L b m) × (CheckSays L b m r × AcceptsExactly L b m r)
   checked {r} e = (e, subst (λ (y : Checked). CheckSays L b m y × AcceptsExactly L b m y) (sym e) (numbered, exactly))

@@ -94,7 +94,7 @@ fn read_known(table: &[u8], starts: Starts, script: &[u8]) -> Read
 pub fn script_within(limits: Limits, table: &[u8], script: &[u8]) -> Read
     ensures answers { λ r. ⌜ r ≡ scriptOf limits (now (table .entry)) (now (script .entry)) ⌝ }
     ensures number { λ r. ⌜ ScriptSays limits (now (table .entry)) (now (script .entry)) r ⌝ }
-    ensures exact { λ r. ⌜ ScriptExact limits (now (table .entry)) (now (script .entry)) r ⌝ }
+    ensures exact { λ r. ⌜ ScriptExact (now (table .entry)) (now (script .entry)) r ⌝ }
 {
     let reading = table::read_within(limits, table);
     match reading {
@@ -107,7 +107,7 @@ pub fn script_within(limits: Limits, table: &[u8], script: &[u8]) -> Read
 pub fn script(table: &[u8], script: &[u8]) -> Read
     ensures answers { λ r. ⌜ r ≡ scriptOf standard (now (table .entry)) (now (script .entry)) ⌝ }
     ensures number { λ r. ⌜ ScriptSays standard (now (table .entry)) (now (script .entry)) r ⌝ }
-    ensures exact { λ r. ⌜ ScriptExact standard (now (table .entry)) (now (script .entry)) r ⌝ }
+    ensures exact { λ r. ⌜ ScriptExact (now (table .entry)) (now (script .entry)) r ⌝ }
 {
     script_within(limits::standard(), table, script)
 }

@@ -3,9 +3,11 @@ use mathlib.Core.Path.{_≡_, refl, sym, ap, _∙_, subst}
 use mathlib.Core.Bool.{Bool, true, false}
 use mathlib.Core.List.{List}
 use Prim.Native.Nat.{ℕ}
+use native.Mathlib.Omega.{arith}
 use native.Mathlib.Decide.{ℕ-discrete}
+use lib.ListN.{getD}
 use Rattle.lists.specs.Lists.{firstFailed}
-use Rattle.lists.proofs.Refusals.{says}
+use Rattle.lists.proofs.Refusals.{says, said}
 use Rattle.limits.specs.declared.Limits.{Limits}
 use Rattle.format.specs.File.{tableOf}
 use Rattle.format.specs.Reading.{Readable}
@@ -13,32 +15,34 @@ use Rattle.format.specs.Language.{SameWords}
 use Rattle.format.proofs.Bytes.{read-well-formed}
 use Rattle.scripts.specs.declared.Read.{Read}
 use Rattle.scripts.specs.declared.Read.the-variants.{Answer, Refused}
-use Rattle.scripts.specs.Script.{reads, started, scriptTests, scriptNumber, answerBy, scriptOf, readNumberOf, readValues, ScriptSays}
+use Rattle.scripts.specs.Script.{reads, started, scriptTests, scriptNumber, answerBy, scriptOf, readNumberOf, yesValue, readValues, ScriptSays}
 use Rattle.scripts.specs.Demands.{ScriptExact, SameScripts}
 use Rattle.scripts.proofs.Answers.{answered, refused, number-readable, script-read}
 use Rattle.scripts.proofs.Meaning.{reads-exact}
 
+-- yes and no by their values
+pub said-yes : (x : Bool) → yesValue x ≡ 1 → x ≡ true
+said-yes true e = refl
+said-yes false e = absurd (omega arith)
+
+pub said-no : (x : Bool) → yesValue x ≡ 0 → x ≡ false
+said-no true e = absurd (omega arith)
+said-no false e = refl
+
 module _ (L : Limits) (b w : List ℕ) where
-  -- what is not refused has its answer
-  yes-or-no : scriptNumber L b w ≡ 0 → Answer (reads (tableOf b) (started (tableOf b)) w) ≡ scriptOf L b w
-  unfolding scriptOf
-  yes-or-no e = answered _ (tableOf b) w e refl
-
-  script-exact : ScriptExact L b w (scriptOf L b w)
-  script-exact e =
-      let h = reads-exact (read-well-formed L b (number-readable L b w e)) w in
-      let a = yes-or-no e in
-      (λ y. h .0 (told (a ∙ y)), λ k. sym a ∙ ap Answer (h .1 k))
-    where
-      told : {x : Bool} → Answer x ≡ Answer true → x ≡ true
-      told y = cc
-
   numbered : ScriptSays L b w (scriptOf L b w)
   unfolding scriptOf answerBy readNumberOf readValues
   numbered = says _ (Answer (reads (tableOf b) (started (tableOf b)) w)) (Refused (scriptNumber L b w)) readNumberOf readValues refl refl refl refl
 
-  pub promised : {r : Read} → r ≡ scriptOf L b w → (r ≡ scriptOf L b w) × (ScriptSays L b w r × ScriptExact L b w r)
-  promised e = (e, subst (λ r. ScriptSays L b w r × ScriptExact L b w r) (sym e) (numbered, script-exact))
+  script-exact : ScriptExact b w (scriptOf L b w)
+  script-exact e =
+      let s = said numbered e in
+      let h = reads-exact (read-well-formed L b (number-readable L b w (s .0))) w in
+      let v : getD (readValues (scriptOf L b w)) 0 0 ≡ yesValue (reads (tableOf b) (started (tableOf b)) w) = ap (λ vs. getD vs 0 0) (s .1) in
+      (λ y. h .0 (said-yes _ (sym v ∙ y)), λ k. v ∙ ap yesValue (h .1 k))
+
+  pub promised : {r : Read} → r ≡ scriptOf L b w → (r ≡ scriptOf L b w) × (ScriptSays L b w r × ScriptExact b w r)
+  promised e = (e, subst (λ r. ScriptSays L b w r × ScriptExact b w r) (sym e) (numbered, script-exact))
 
 -- two tests that hold together are one
 one-truth : (x y : Bool) → (x ≡ true → y ≡ true) → (y ≡ true → x ≡ true) → x ≡ y

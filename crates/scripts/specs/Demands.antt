@@ -1,18 +1,17 @@
 -- What reading a script promises (document 02, request (i)). Assumes nothing.
 use mathlib.Core.Path.{_≡_}
 use mathlib.Core.Logic.{_↔_}
-use mathlib.Core.Bool.{true}
 use mathlib.Core.List.{List}
 use Prim.Native.Nat.{ℕ}
+use Rattle.lists.specs.Lists.{OnValues}
 use Rattle.limits.specs.declared.Limits.{Limits}
 use Rattle.format.specs.Language.{AcceptsWord}
 use Rattle.scripts.specs.declared.Read.{Read}
-use Rattle.scripts.specs.declared.Read.the-variants.{Answer}
-use Rattle.scripts.specs.Script.{scriptNumber, scriptOf}
+use Rattle.scripts.specs.Script.{scriptOf, readNumberOf, readValues}
 
--- "The answer is yes exactly when 01's runs accept it, nondeterministic tables included", for every script that is not refused
-abbrev pub ScriptExact : Limits → List ℕ → List ℕ → Read → Type 0
-ScriptExact L b w r = scriptNumber L b w ≡ 0 → (r ≡ Answer true) ↔ AcceptsWord b w
+-- "The answer is yes exactly when 01's runs accept it, nondeterministic tables included", for every script that is not refused: yes is the value 1
+abbrev pub ScriptExact : List ℕ → List ℕ → Read → Type 0
+ScriptExact b w r = OnValues (readNumberOf r) (readValues r) (λ v. (v 0 ≡ 1) ↔ AcceptsWord b w)
 
 -- "Tables and reduced tables must give one answer to every script read", number included
 pub record SameScripts (L : Limits) (b c : List ℕ) : Type 0 where

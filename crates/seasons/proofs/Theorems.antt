@@ -22,15 +22,16 @@ use Rattle.format.specs.Maps.{NoneCoarser}
 use Rattle.format.proofs.Bytes.{read-well-formed}
 use Rattle.relations.specs.Check.{checkOf}
 use Rattle.scripts.specs.Demands.{SameScripts}
-use Rattle.relations.specs.declared.Checked.the-variants.{Accepted}
+use Rattle.relations.specs.Demands.{AcceptedWith}
+use Rattle.scripts.specs.Script.{yesValue}
 use Rattle.encoding.specs.Clauses.{clauseList}
 use Rattle.quotients.specs.Demands.{IsQuotient, ShowsSteps}
-use Rattle.reductions.specs.Reduce.{Reduced, searchOfTable, joinedPairs, reduceOf}
-use Rattle.reductions.specs.Demands.{OnBest, Promises}
+use Rattle.reductions.specs.Reduce.{searchOfTable, joinedPairs, reduceOf, reductionNumber, reductionValues}
+use Rattle.reductions.specs.Demands.{OnDelivery, Promises, mapWritten}
 use Rattle.reductions.specs.declared.Reduction.{Reduction}
 use Rattle.reductions.specs.declared.Reduction.the-variants.{Delivered, Refused}
-use Rattle.reductions.proofs.Ways.{list-formed, Ways, refused-first, refused-short, delivers, reduce-ways}
-use Rattle.reductions.proofs.Theorems.{promises}
+use Rattle.reductions.proofs.Ways.{list-formed}
+use Rattle.reductions.proofs.Theorems.{promises, on-delivery}
 use Rattle.seasons.specs.declared.Season.{Season}
 use Rattle.seasons.specs.Seasons.{row, guessesIn, mapTaken, outTaken, Reductions, reductionsFrom, shareOf, lengthsFit, seasonNumber, SeasonDone, refusedBy, seasonOf}
 use Rattle.seasons.specs.Demands.{tableAt, answerAt, allowedTo, mapsBefore, outBefore, IsLone, answersOf, Alone, SolvedWithin, EachPromised, guessesReported, WithinAll, SeasonPromises}
@@ -67,37 +68,42 @@ rows-reported (Refused k ∷ rs) (suc n) zs l h = ap (λ (m : ℕ). 0 + m) (rows
 
 -- ---- of the definition
 
--- what is promised of a reduction is promised of what stands at its place
-carried : (L : Limits) (b : List ℕ) (a : ℕ) (r : Reduction) (map map' out out' : List ℕ) → take (mapTaken b r) map' ≡ take (mapTaken b r) map → take (outTaken r) out' ≡ take (outTaken r) out
-    → Promises L b a r map out → Promises L b a r map' out'
+-- what a reduction took of the maps and of the reduced tables is what it delivered
+taken : (L : Limits) (b : List ℕ) (a : ℕ) (list map out : List ℕ) → let r = reduceOf L b a list map out .answer in OnDelivery r (λ c g w l j u s. (mapTaken b r ≡ count (tableOf b)) × (outTaken r ≡ l))
 unfolding mapTaken outTaken
-carried L b a (Delivered c g w l j u s) map map' out out' e f p =
-    let n = count (tableOf b) in
-    record {
-      words = subst (λ (x : List ℕ). SameWords b x) (sym f) (p .words);
-      exact = subst (λ x. x) (λ i. IsQuotient L b (sym e i) (sym f i)) (p .exact);
-      checked = subst (λ (m : List ℕ). checkOf L b m ≡ Accepted c) (sym e) (p .checked);
-      maximal = λ z. subst (λ (m : List ℕ). NoneCoarser (tableOf b) m) (sym e) (p .maximal z);
-      few = p .few;
-      ceiling = record { joined = subst (λ (m : List ℕ). j ≡ joinedPairs n m) (sym e) (p .ceiling .joined); most = p .ceiling .most };
-      same = p .same;
-      found = λ v k q. e ∙ p .found v k q;
-      spent = p .spent;
-      none-open = subst (λ (x : List ℕ). OpenByNeither b x) (sym f) (p .none-open);
-      steps = subst (λ x. x) (λ i. ShowsSteps b (sym e i) (sym f i)) (p .steps);
-      marks = subst (λ (x : List ℕ). SameMarks b x) (sym f) (p .marks);
-      scripts = subst (λ (x : List ℕ). SameScripts L b x) (sym f) (p .scripts);
-    }
-carried L b a (Refused k) map map' out out' e f p = record { words = tt; exact = tt; checked = tt; maximal = tt; few = tt; ceiling = tt; same = tt; found = tt; spent = tt; none-open = tt; steps = tt; marks = tt; scripts = tt }
+taken L b a list map out = on-delivery L b a list map out (λ d c g w l j u s. (mapTaken b (d .answer) ≡ count (tableOf b)) × (outTaken (d .answer) ≡ l)) (λ v g u z s l. (refl, refl))
+
+-- what is promised of a reduction is promised of what stands at its place
+carried : (L : Limits) (b : List ℕ) (a : ℕ) (r : Reduction) (map map' out out' : List ℕ) → OnDelivery r (λ c g w l j u s. (mapTaken b r ≡ count (tableOf b)) × (outTaken r ≡ l))
+    → take (mapTaken b r) map' ≡ take (mapTaken b r) map → take (outTaken r) out' ≡ take (outTaken r) out → Promises L b a r map out → Promises L b a r map' out'
+carried L b a r map map' out out' k e f p = record {
+  words = λ q. subst (λ (x : List ℕ). SameWords b x) (sym (table q)) (p .words q);
+  exact = λ q. subst (λ x. x) (λ i. IsQuotient L b (sym (classes q) i) (sym (table q) i)) (p .exact q);
+  checked = λ q. subst (λ (m : List ℕ). AcceptedWith (checkOf L b m) (getD (reductionValues r) 0 0)) (sym (classes q)) (p .checked q);
+  maximal = λ q z. subst (λ (m : List ℕ). NoneCoarser (tableOf b) m) (sym (classes q)) (p .maximal q z);
+  few = p .few;
+  ceiling = λ q. record { joined = p .ceiling q .joined ∙ ap (joinedPairs (count (tableOf b))) (sym (classes q)); most = p .ceiling q .most };
+  same = p .same;
+  found = λ q v j s. classes q ∙ p .found q v j s;
+  spent = p .spent;
+  none-open = λ q. subst (λ (x : List ℕ). OpenByNeither b x) (sym (table q)) (p .none-open q);
+  steps = λ q. subst (λ x. x) (λ i. ShowsSteps b (sym (classes q) i) (sym (table q) i)) (p .steps q);
+  marks = λ q. subst (λ (x : List ℕ). SameMarks b x) (sym (table q)) (p .marks q);
+  scripts = λ q. subst (λ (x : List ℕ). SameScripts L b x) (sym (table q)) (p .scripts q);
+}
+  where
+    classes : reductionNumber r ≡ 0 → mapWritten b map' ≡ mapWritten b map
+    classes q = subst (λ (n : ℕ). take n map' ≡ take n map) (k q .0) e
+
+    table : reductionNumber r ≡ 0 → take (getD (reductionValues r) 3 0) out' ≡ take (getD (reductionValues r) 3 0) out
+    table q = subst (λ (n : ℕ). take n out' ≡ take n out) (k q .1) f
 
 -- a search that needs at most so many guesses is not spent under a budget that has them
-solved-ways : (L : Limits) (b : List ℕ) (a budget : ℕ) (list map out : List ℕ) → isSpent (searchOfTable b budget) ≡ false → madeOf (searchOfTable b budget) ≤ a
-    → {r : Reduced} → Ways L b a list map out r → OnBest (r .answer) (λ g j u s. s ≡ false)
+solved-enough : (L : Limits) (b : List ℕ) (a budget : ℕ) (list map out : List ℕ) → isSpent (searchOfTable b budget) ≡ false → madeOf (searchOfTable b budget) ≤ a
+    → OnDelivery (reduceOf L b a list map out .answer) (λ c g w l j u s. s ≡ 0)
 unfolding searchOfTable
-solved-ways L b a budget list map out e h (refused-first k q n) = tt
-solved-ways L b a budget list map out e h (refused-short v g u z s l) = tt
-solved-ways L b a budget list map out e h (delivers v g u z s l) =
-    s .ended ∙ ap isSpent (sym (enough (clauseList (tableOf b)) (pairs (count (tableOf b))) a budget (list-formed (read-well-formed L b (s .begun .readable))) e h)) ∙ e
+solved-enough L b a budget list map out e h = on-delivery L b a list map out (λ d c g w l j u s. s ≡ 0) (λ v g u z s l.
+    ap yesValue (s .ended ∙ ap isSpent (sym (enough (clauseList (tableOf b)) (pairs (count (tableOf b))) a budget (list-formed (read-well-formed L b (s .begun .readable))) e h)) ∙ e))
 
 module _ (L : Limits) (tables lengths : List ℕ) (guesses : ℕ) (list maps out : List ℕ) where
   abbrev share : ℕ
@@ -158,13 +164,13 @@ module _ (L : Limits) (tables lengths : List ℕ) (guesses : ℕ) (list maps out
       let o = drop (outBefore (run .answers) i) out in
       let r = reduceOf L b a list m o in
       let w = each-lone i l in
-      carried L b a (r .answer) (r .map) _ (r .out) _ (w .same-map) (w .same-out) (promises L b a list m o)
+      carried L b a (r .answer) (r .map) _ (r .out) _ (taken L b a list m o) (w .same-map) (w .same-out) (promises L b a list m o)
 
   solved-ends : {d : SeasonDone} → Ends d → SolvedWithin L tables lengths guesses list maps out (d .answer)
   unfolding answersOf
   solved-ends (refused k n) = λ e. absurd (n e)
   solved-ends (reduced h k) = λ e i l z.
-      solved-ways L (tableAt tables lengths i) (allowedTo share (run .answers) i) (z .budget) list _ _ (z .unspent) (omega (arith, z .few, share-allowed i)) (reduce-ways L (tableAt tables lengths i) (allowedTo share (run .answers) i) list _ _)
+      solved-enough L (tableAt tables lengths i) (allowedTo share (run .answers) i) (z .budget) list _ _ (z .unspent) (omega (arith, z .few, share-allowed i))
 
   within-ends : {d : SeasonDone} → Ends d → WithinAll guesses (d .answer)
   unfolding guessesReported over

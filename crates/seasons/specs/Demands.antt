@@ -8,7 +8,7 @@ use Rattle.lists.specs.Lists.{gather, over, parts, sum}
 use Rattle.cnf.specs.Search.{madeOf, isSpent}
 use Rattle.limits.specs.declared.Limits.{Limits}
 use Rattle.reductions.specs.Reduce.{Reduced, searchOfTable, reduceOf}
-use Rattle.reductions.specs.Demands.{OnBest, Promises}
+use Rattle.reductions.specs.Demands.{OnDelivery, Promises}
 use Rattle.reductions.specs.declared.Reduction.{Reduction}
 use Rattle.seasons.specs.declared.Season.{Season}
 use Rattle.seasons.specs.Seasons.{row, guessesIn, mapTaken, outTaken, reductionsFrom, shareOf}
@@ -82,7 +82,7 @@ module _ (L : Limits) (tables lengths : List ℕ) (guesses : ℕ) (list maps out
 
   -- "A table that is not refused and whose own search needs at most its share must be solved."
   abbrev pub SolvedWithin : Season → Type 0
-  SolvedWithin r = r .number ≡ 0 → (i : ℕ) → i < length lengths → Needs i → OnBest (loneAt i .answer) (λ g j u s. s ≡ false)
+  SolvedWithin r = r .number ≡ 0 → (i : ℕ) → i < length lengths → Needs i → OnDelivery (loneAt i .answer) (λ c g w l j u s. s ≡ 0)
 
   -- for every table all that reduce promises, of its own bytes of the maps and of the reduced tables
   abbrev pub EachPromised : Season → List ℕ → List ℕ → Type 0

@@ -12,7 +12,7 @@ use borrow.Author.Tests.{le-leb, lt-leb, leb-true}
 use Rattle.lists.specs.Lists.{all, over, firstFailed, Says}
 use Rattle.lists.proofs.Members.{and-true}
 use Rattle.lists.proofs.Refusals.{passed, passes, fails, no-test, stage-passes, stage-fails, last-stage, refuses, not-refused, by-number, told-says, refused-says}
-use Rattle.cnf.specs.Clauses.{clausesIn, whole, clauseFits, Model, Maximal, Horn}
+use Rattle.cnf.specs.Clauses.{clausesIn, whole, clauseFits}
 use Rattle.cnf.specs.Search.{Outcome, solved, none-exists, spent, unfinished, searchFrom, madeOf}
 use Rattle.cnf.specs.Closing.{Formed}
 use Rattle.cnf.proofs.Words.{fit-formed}
@@ -21,7 +21,7 @@ use Rattle.pairs.specs.Pairs.{pairs}
 use Rattle.solutions.specs.declared.Solution.{Solution}
 use Rattle.solutions.specs.declared.Solution.the-variants.{Solved, Refused}
 use Rattle.solutions.specs.Answers.{listFits, searchNumber, Searched, searched, searchAt, searchOf, solutionNumber, solutionValues, endNumber, searchingNumber, SearchSays}
-use Rattle.solutions.specs.Demands.{OnSolved, SearchSound}
+use Rattle.solutions.specs.Demands.{SearchSound}
 use Rattle.limits.specs.declared.Limits.{Limits}
 use Rattle.limits.specs.Limits.{limitsFit}
 
@@ -81,45 +81,21 @@ module _ (most n : ℕ) (ws : List ℕ) where
 
 -- ---- what the answer promises
 
-not-solved : {m k : ℕ} → Refused m ≡ Solved k → ⊥
-not-solved e = let z : _≡_ {A = ℕ} 0 1 = cc in omega arith
-
-solved-one : {j k : ℕ} → Solved j ≡ Solved k → j ≡ k
-solved-one e = cc
-
-on-solved : (r : Solution) {P : ℕ → Type 0} → ((k : ℕ) → r ≡ Solved k → P k) → OnSolved r P
-on-solved (Solved k) h = h k refl
-on-solved (Refused n) h = tt
-
-refused-other : {j k : ℕ} → j ≢ k → Refused j ≡ Refused k → ⊥
-refused-other {j} {k} n e = let z : j ≡ k = cc in n z
+-- a refusal that is not 12 promises nothing
+refusal-sound : (ws : List ℕ) (n : ℕ) (a : List ℕ) {k : ℕ} → k ≢ 0 → k ≢ 12 → SearchSound ws n (Refused k) a
+unfolding solutionNumber solutionValues
+refusal-sound ws n a z t = record { satisfies = λ e. absurd (z e); maximal = λ e. absurd (z e); complete = λ e. absurd (t e); few = λ h e. absurd (z e) }
 
 module _ (most : ℕ) (ws : List ℕ) (n b : ℕ) (a : List ℕ) where
-  -- an answer that is solved
-  record IsSolved (s : Searched) (k : ℕ) : Type 0 where
-    pub formed : Formed (clausesIn ws) n
-    pub values : List ℕ
-    pub outcome : searchFrom (clausesIn ws) n b ≡ solved values k
-    pub answer : s .answer ≡ over values a
-
-  record IsNone : Type 0 where
-    pub formed : Formed (clausesIn ws) n
-    pub made : ℕ
-    pub outcome : searchFrom (clausesIn ws) n b ≡ none-exists made
+  -- the ways to end: refused by 11, 14 or 13; refused by 12; solved
+  data Ways : Searched → Type 0 where
+    refused : {k : ℕ} → k ≢ 0 → k ≢ 12 → Ways (record { solution = Refused k; answer = a })
+    none : {k : ℕ} → Formed (clausesIn ws) n → searchFrom (clausesIn ws) n b ≡ none-exists k → Ways (record { solution = Refused 12; answer = a })
+    found : {v : List ℕ} {k : ℕ} → Formed (clausesIn ws) n → searchFrom (clausesIn ws) n b ≡ solved v k → Ways (record { solution = Solved k; answer = over v a })
 
   formed-of : searchNumber most ws n a ≡ 0 → Formed (clausesIn ws) n
   unfolding searchNumber
   formed-of e = list-formed most n ws (passed 11 (listFits most ws n) ((14, leb n (length a)) ∷ []) (omega arith) e .0) .2
-
-  solved-is : (s : Searched) → s ≡ searchAt most ws n b a → (k : ℕ) → s .solution ≡ Solved k → IsSolved s k
-  unfolding searched searchAt
-  solved-is s e k p = by-number (searchNumber most ws n a) _ _ (λ (x : Searched). s ≡ x → IsSolved s k) (λ z r. by (formed-of z) (searchFrom (clausesIn ws) n b) refl r) (λ z r. absurd (not-solved (sym (ap (λ (y : Searched). y .solution) r) ∙ p))) e
-    where
-      by : Formed (clausesIn ws) n → (o : Outcome) → searchFrom (clausesIn ws) n b ≡ o → s ≡ searched a o → IsSolved s k
-      by f (solved v j) q r = record { formed = f; values = v; outcome = q ∙ ap (solved v) (solved-one (sym (ap (λ (z : Searched). z .solution) r) ∙ p)); answer = ap (λ (z : Searched). z .answer) r }
-      by f (none-exists j) q r = absurd (not-solved (sym (ap (λ (z : Searched). z .solution) r) ∙ p))
-      by f (spent j) q r = absurd (not-solved (sym (ap (λ (z : Searched). z .solution) r) ∙ p))
-      by f unfinished q r = absurd (not-solved (sym (ap (λ (z : Searched). z .solution) r) ∙ p))
 
   -- no other refusal has number 12
   not-twelve : searchNumber most ws n a ≢ 12
@@ -131,37 +107,40 @@ module _ (most : ℕ) (ws : List ℕ) (n b : ℕ) (a : List ℕ) where
       go true false = omega arith
       go false u = omega arith
 
-  none-is : (s : Searched) → s ≡ searchAt most ws n b a → s .solution ≡ Refused 12 → IsNone
+  ways : Ways (searchAt most ws n b a)
   unfolding searched searchAt
-  none-is s e p = by-number (searchNumber most ws n a) _ _ (λ (x : Searched). s ≡ x → IsNone) (λ z r. by (formed-of z) (searchFrom (clausesIn ws) n b) refl r) (λ z r. absurd (refused-other not-twelve (sym (ap (λ (y : Searched). y .solution) r) ∙ p))) e
+  ways = by-number (searchNumber most ws n a) _ _ Ways (λ z. by (formed-of z) (searchFrom (clausesIn ws) n b) refl) (λ z. refused z not-twelve)
     where
-      by : Formed (clausesIn ws) n → (o : Outcome) → searchFrom (clausesIn ws) n b ≡ o → s ≡ searched a o → IsNone
-      by f (solved v j) q r = absurd (not-solved (sym p ∙ ap (λ (z : Searched). z .solution) r))
-      by f (none-exists j) q r = record { formed = f; made = j; outcome = q }
-      by f (spent j) q r = absurd (refused-other (omega arith) (sym (ap (λ (z : Searched). z .solution) r) ∙ p))
-      by f unfinished q r = absurd (refused-other (omega arith) (sym (ap (λ (z : Searched). z .solution) r) ∙ p))
+      by : Formed (clausesIn ws) n → (o : Outcome) → searchFrom (clausesIn ws) n b ≡ o → Ways (searched a o)
+      by f (solved v k) q = found f q
+      by f (none-exists k) q = none f q
+      by f (spent k) q = refused {k = 13} (omega arith) (omega arith)
+      by f unfinished q = refused {k = 13} (omega arith) (omega arith)
 
   -- what the answer bytes begin with
-  module _ {r : Solution} {out : List ℕ} (e : record { solution = r; answer = out } ≡ searchAt most ws n b a) where
-    first-values : {k : ℕ} (i : IsSolved (record { solution = r; answer = out }) k) → take n out ≡ i .values
-    unfolding over
-    first-values i = ap (take n) (i .answer) ∙ take-at (i .values) (drop (length (i .values)) a) n (theorems.satisfies (clausesIn ws) n b (i .formed) (i .values) _ (i .outcome) .assigns .long)
+  first-values : {v : List ℕ} {k : ℕ} → Formed (clausesIn ws) n → searchFrom (clausesIn ws) n b ≡ solved v k → take n (over v a) ≡ v
+  unfolding over
+  first-values {v} {k} f q = take-at v (drop (length v) a) n (theorems.satisfies (clausesIn ws) n b f v k q .assigns .long)
 
-    pub satisfies : (k : ℕ) → r ≡ Solved k → Model (clausesIn ws) n (take n out)
-    satisfies k p = let i = solved-is (record { solution = r; answer = out }) e k p in rw (first-values i) (theorems.satisfies (clausesIn ws) n b (i .formed) (i .values) k (i .outcome))
+  sound-ways : {s : Searched} → Ways s → SearchSound ws n (s .solution) (s .answer)
+  unfolding solutionNumber solutionValues
+  sound-ways (refused z t) = refusal-sound ws n a z t
+  sound-ways (none {k} f q) = record {
+    satisfies = λ e. absurd (omega arith);
+    maximal = λ e. absurd (omega arith);
+    complete = λ e. theorems.complete (clausesIn ws) n b f k q;
+    few = λ h e. absurd (omega arith);
+  }
+  sound-ways (found {v} {k} f q) = record {
+    satisfies = λ e. rw (first-values f q) (theorems.satisfies (clausesIn ws) n b f v k q);
+    maximal = λ e. rw (first-values f q) (theorems.maximal (clausesIn ws) n b f v k q);
+    complete = λ e. absurd (omega arith);
+    few = λ h e. rw q at (theorems.horn (clausesIn ws) n b f h);
+  }
 
-    pub maximal : (k : ℕ) → r ≡ Solved k → Maximal (clausesIn ws) n (take n out)
-    maximal k p = let i = solved-is (record { solution = r; answer = out }) e k p in rw (first-values i) (theorems.maximal (clausesIn ws) n b (i .formed) (i .values) k (i .outcome))
-
-    pub complete : r ≡ Refused 12 → (m : List ℕ) → Model (clausesIn ws) n m → ⊥
-    complete p = let i = none-is (record { solution = r; answer = out }) e p in theorems.complete (clausesIn ws) n b (i .formed) (i .made) (i .outcome)
-
-    pub few : Horn (clausesIn ws) → (k : ℕ) → r ≡ Solved k → k ≤ n
-    few h k p = let i = solved-is (record { solution = r; answer = out }) e k p in rw (i .outcome) at (theorems.horn (clausesIn ws) n b (i .formed) h)
-
-    -- the contract
-    pub promised : (record { solution = r; answer = out } ≡ searchAt most ws n b a) × SearchSound ws n r out
-    promised = (e, record { satisfies = on-solved r satisfies; maximal = on-solved r maximal; complete = complete; few = λ h. on-solved r (few h) })
+  -- the contract
+  pub promised : {r : Solution} {out : List ℕ} → record { solution = r; answer = out } ≡ searchAt most ws n b a → (record { solution = r; answer = out } ≡ searchAt most ws n b a) × SearchSound ws n r out
+  promised e = (e, subst (λ (s : Searched). SearchSound ws n (s .solution) (s .answer)) (sym e) (sound-ways ways))
 
 -- ---- 39, and the limits in force
 
@@ -206,4 +185,4 @@ module _ (L : Limits) (ws : List ℕ) (n b : ℕ) (a : List ℕ) where
   pub unfit : limitsFit L ≡ false → (_≡_ {A = Searched} (record { solution = Refused 39; answer = a }) (searchOf L ws n b a)) × (SearchSays L ws n b a (Refused 39) × SearchSound ws n (Refused 39) a)
   unfolding searchOf
   unfit e =
-      promised-within (sym (rw (e, searchOf))) record { satisfies = tt; maximal = tt; complete = λ p. absurd (refused-other (omega arith) p); few = λ h. tt }
+      promised-within (sym (rw (e, searchOf))) (refusal-sound ws n a (omega arith) (omega arith))

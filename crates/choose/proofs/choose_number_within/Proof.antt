@@ -1,5 +1,5 @@
 -- `choose::choose_number_within` meets its contract: the number that was decided. Assumes nothing.
-use Rattle.choices.proofs.Choosing.{number-decided, neither-passes}
+use Rattle.choices.proofs.Choosing.{number-decided, neither-passes, zero-tells}
 use borrow.Author.Needs.{needs}
 use Rattle.choose.proofs.choose_number_within.Statement.{statement}
 use Rattle.choose.proofs.choose_number_within.Tie as tie
@@ -10,7 +10,7 @@ decide-within-requires c κs = search needs
 returns : tie.Need-returns
 returns c =
     let e = number-decided _ _ _ _ (c .decide-within .ensures .0) in
-    (e, neither-passes _ _ _ _ e)
+    (e, (neither-passes _ _ _ _ e, zero-tells _ _ _ _ e))
 
 pub choose-number-within-spec : {M : Type 1} → statement M
 choose-number-within-spec = tie.close (tie.spec decide-within-requires returns)
