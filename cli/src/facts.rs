@@ -124,4 +124,54 @@ mod tests {
     fn of_table_t() {
         assert_eq!(facts("t"), (vec![], vec![2], true));
     }
+
+    /// A state and a stack, its top last.
+    type Configuration = (u8, Vec<u8>);
+
+    /// Where a configuration goes in one step, with at most so many calls open.
+    fn next(table: &Table, (q, stack): &Configuration, high: usize) -> Vec<Configuration> {
+        let internals = table.internals.iter().filter(|r| r[0] == *q).map(|r| (r[2], stack.clone()));
+        let calls = table.calls.iter().filter(|r| r[0] == *q && stack.len() < high).map(|r| (r[2], [&stack[..], &[*q]].concat()));
+        let returns = table.returns.iter().filter(|r| r[0] == *q && stack.last() == Some(&r[2])).map(|r| (r[3], stack[..stack.len() - 1].to_vec()));
+        internals.chain(calls).chain(returns).collect()
+    }
+
+    /// The states of a small table on an accepted run, by all configurations with few calls open.
+    fn served(table: &Table, high: usize) -> std::collections::BTreeSet<u8> {
+        let states = 0..table.states.len() as u8;
+        let mut reached: Vec<Configuration> = states.filter(|q| table.states[usize::from(*q)].initial).map(|q| (q, Vec::new())).collect();
+        let mut at = 0;
+        while at < reached.len() {
+            let more = next(table, &reached[at], high);
+            at += 1;
+            more.into_iter().for_each(|c| if !reached.contains(&c) { reached.push(c) });
+        }
+        let mut good: Vec<bool> = reached.iter().map(|(q, stack)| stack.is_empty() && table.states[usize::from(*q)].accepting).collect();
+        loop {
+            let before = good.clone();
+            for (i, c) in reached.iter().enumerate() {
+                good[i] |= next(table, c, high).iter().any(|d| reached.iter().position(|e| e == d).is_some_and(|j| before[j]));
+            }
+            if good == before {
+                return reached.iter().zip(good).filter(|(_, good)| *good).map(|((q, _), _)| *q).collect();
+            }
+        }
+    }
+
+    #[test]
+    fn of_random_tables() {
+        for seed in 0..400 {
+            let mut bytes = vec![0; 4000];
+            let load = basilvault::Load { seed, states: 3, internals: 1, calls: 1, returns: 1, density: 4000 + 20 * seed };
+            let length = basilvault::generate(load, &mut bytes).expect("few records");
+            let table = Table::from_bytes(Limits::LARGEST, &bytes[..length]).expect("a readable table");
+            let tops = basilvault::tops_within(Limits::LARGEST, &bytes[..length]).expect("a readable table");
+            let Facts { unreached, stuck, accepts } = Facts::of(&table, &tops);
+            let served = served(&table, 3);
+            let without: Vec<u8> = (0..3).filter(|q| !served.contains(q)).collect();
+            let mut told = [unreached, stuck].concat();
+            told.sort_unstable();
+            assert_eq!((told, accepts), (without, !served.is_empty()), "seed {seed}");
+        }
+    }
 }

@@ -12,7 +12,7 @@ use crate::room::Room;
 use basilvault::{LONGEST_FILE, Limits, MOST_RECORDS, MOST_STATES, Recorded, Reduced, Refusal};
 use std::path::{Path, PathBuf};
 
-const MAP: Choice = Choice { name: "--map", value: "FILE", says: "write the map to this file: a line a class by names, or class numbers" };
+const MAP: Choice = Choice { name: "--map", value: "FILE", says: "write the map to this file, by names where there are some" };
 
 pub const COMMAND: Command = Command {
     name: "reduce",

@@ -7,7 +7,7 @@ use crate::files::Spared;
 use crate::{lent, text};
 use std::path::Path;
 
-const FACTS: Choice = Choice { name: "--facts", value: "", says: "end with comments: states that no run reaches or from which nothing is accepted" };
+const FACTS: Choice = Choice { name: "--facts", value: "", says: "end with comments on states that serve no script" };
 
 pub const COMMAND: Command = Command {
     name: "show",
