@@ -4,7 +4,7 @@ use std::path::{Path, PathBuf};
 use std::process::{Command, exit};
 
 /// What to do where there is no library.
-const HELP: &str = "name a built one in BASILVAULT_LIBRARY, or use the crate from its repository and run `rt staticlib capi` there";
+const HELP: &str = "name a built one in BASILVAULT_LIBRARY, or use the crate from its repository and run `.ci/archive` there";
 
 /// Ends the build with a message.
 fn fail(what: &str) -> ! {
@@ -20,24 +20,20 @@ fn given(path: PathBuf) -> PathBuf {
     path
 }
 
-/// The archive of the repository; `rt staticlib capi` proves and writes it where it is missing.
+/// The archive of the repository, which `.ci/archive` proves and builds where its sources have changed since.
 fn of_repository() -> PathBuf {
     let here = PathBuf::from(std::env::var_os("CARGO_MANIFEST_DIR").expect("cargo names the crate's folder"));
     let root = here.parent().unwrap_or(Path::new("/"));
-    let library = root.join("target/staticlib/libcapi.a");
-    if library.is_file() {
-        return library;
-    }
     if !root.join("crates/capi").is_dir() {
         fail(&format!("{} is no repository of the library", root.display()));
     }
-    match Command::new("rt").args(["staticlib", "capi"]).current_dir(root).output() {
-        Err(e) => fail(&format!("the library is not built and `rt` does not run ({e})")),
-        Ok(done) if !done.status.success() => {
-            let said = [done.stdout, done.stderr].concat();
-            fail(&format!("`rt staticlib capi` does not build the library\n{}", String::from_utf8_lossy(&said)))
-        }
-        Ok(_) => library,
+    for source in ["crates", "crates.txt"] {
+        println!("cargo::rerun-if-changed={}", root.join(source).display());
+    }
+    match Command::new(root.join(".ci/archive")).output() {
+        Err(e) => fail(&format!("the library's script does not run ({e})")),
+        Ok(done) if !done.status.success() => fail(&format!("the library is not built\n{}", String::from_utf8_lossy(&done.stderr))),
+        Ok(_) => root.join("target/staticlib/libcapi.a"),
     }
 }
 

@@ -1,6 +1,7 @@
 //! The arguments of a command: plain ones, and options with or without a value.
 
 use crate::ends::{Failure, Outcome};
+use crate::words::{self, meant, nearest};
 use basilvault::Limits;
 use std::ffi::{OsStr, OsString};
 use std::os::unix::ffi::OsStrExt;
@@ -29,8 +30,9 @@ pub struct Command {
 pub const STATES: Choice = Choice { name: "--states", value: "N", says: "the most states of a table, 40 where it is not given" };
 pub const SYMBOLS: Choice = Choice { name: "--symbols", value: "N", says: "the most symbols of a table, 64 where it is not given" };
 pub const NAMES: Choice = Choice { name: "--names", value: "TEXT", says: "the text with the table's names, where it is no text itself" };
-pub const BUDGET: Choice = Choice { name: "--budget", value: "N", says: "make at most N guesses, 100,000 where it is not given" };
-pub const ROOM: Choice = Choice { name: "--room", value: "WORDS", says: "room for so many clause words, 32,768 where it is not given" };
+pub const BUDGET: Choice = Choice { name: "--budget", value: "N", says: "make at most N guesses, 1,000,000 where it is not given" };
+pub const ROOM: Choice = Choice { name: "--room", value: "WORDS", says: "take at most so many clause words; all that are needed without" };
+pub const TEXT: Choice = Choice { name: "--text", value: "FILE", says: "write it as text too, each class named by its states" };
 pub const OUT: Choice = Choice { name: "-o", value: "OUT", says: "the file to write, - for standard output" };
 pub const INTO: Choice = Choice { name: "--into", value: "FOLDER", says: "the folder to write to, made where there is none" };
 
@@ -60,13 +62,14 @@ impl Call {
         }
     }
 
-    /// Notes an option and its value, which stands behind `=` or is the next argument.
+    /// Notes an option and its value, which stands after `=` or is the next argument.
     fn choose<'a>(&mut self, command: &Command, option: &OsStr, rest: &mut impl Iterator<Item = &'a OsString>) -> Result<(), Failure> {
         let mut parts = option.as_bytes().splitn(2, |&byte| byte == b'=').map(OsStr::from_bytes);
         let (name, joined) = (parts.next().unwrap_or(option), parts.next());
         let shown = name.display();
         let Some(choice) = command.choices.iter().find(|choice| choice.name == name) else {
-            return Err(wrong(command, format!("there is no option {shown}")));
+            let nearest = nearest(&name.to_string_lossy(), command.choices.iter().map(|choice| choice.name).chain(["--help"]));
+            return Err(wrong(command, format!("there is no option {shown}{}", meant(nearest))));
         };
         if self.has(choice.name) {
             return Err(wrong(command, format!("{shown} is given twice")));
@@ -98,7 +101,7 @@ impl Call {
 
     /// The file that must be named to write to.
     pub fn out(&self) -> Result<&Path, Failure> {
-        self.path(OUT.name).ok_or_else(|| Failure::Wrong("-o OUT is missing, the file to write".into()))
+        self.path(OUT.name).ok_or_else(|| Failure::Wrong("-o OUT is missing, the file to write".into(), None))
     }
 
     /// A plain argument as a file.
@@ -114,7 +117,7 @@ impl Call {
     /// A plain argument as a number.
     pub fn plain_number<N: TryFrom<u64>>(&self, place: usize, what: &str) -> Result<N, Failure> {
         let given = &self.plain[place];
-        N::try_from(number(given, what)?).map_err(|_| Failure::Wrong(format!("{what}: {} is too great", given.display())))
+        N::try_from(number(given, what)?).map_err(|_| Failure::Wrong(format!("{what}: {} is too large", given.display()), None))
     }
 
     /// The limits that tables are read at.
@@ -125,22 +128,28 @@ impl Call {
 
     /// How many guesses may be made.
     pub fn budget(&self) -> Result<u64, Failure> {
-        self.number(BUDGET.name, 100_000)
+        self.number(BUDGET.name, GUESSES)
     }
 
-    /// How many clause words there is room for: more than the longest list has are of no use.
+    /// How many clause words may be taken: more than the longest list has are of no use.
     pub fn room(&self) -> Result<usize, Failure> {
-        Ok(self.number(ROOM.name, 32_768)?.min(basilvault::MOST_WORDS as u64) as usize)
+        let most = basilvault::MOST_WORDS as u64;
+        Ok(self.number(ROOM.name, most)?.min(most) as usize)
     }
 }
 
-/// A number in digits, which may be parted by commas or underscores.
+/// The guesses that a reduction may make where no number is given.
+pub const GUESSES: u64 = 1_000_000;
+
+/// A number in digits, which may be separated by commas or underscores.
 fn number(given: &OsStr, what: &str) -> Result<u64, Failure> {
+    let fail = |why: &str| Failure::Wrong(format!("{what}: {} is {why}", given.display()), None);
     let digits = given.to_str().filter(|text| text.starts_with(|c: char| c.is_ascii_digit())).map(|text| text.replace([',', '_'], ""));
-    digits.and_then(|digits| digits.parse().ok()).ok_or_else(|| Failure::Wrong(format!("{what}: {} is no number", given.display())))
+    let digits = digits.filter(|digits| words::is_number(digits)).ok_or_else(|| fail("no number"))?;
+    digits.parse().map_err(|_| fail("too large"))
 }
 
-/// A command that is called wrongly.
+/// A command that is called wrongly: how it is called.
 fn wrong(command: &Command, text: String) -> Failure {
-    Failure::Wrong(format!("{}: {text}: basilvault {} {}", command.name, command.name, command.usage))
+    Failure::Wrong(format!("{}: {text}: basilvault {} {}", command.name, command.name, command.usage), None)
 }

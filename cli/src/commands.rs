@@ -3,6 +3,7 @@
 mod check;
 mod choose;
 mod clauses;
+mod compare;
 mod draw;
 mod fit;
 mod generate;
@@ -21,6 +22,7 @@ mod why;
 use crate::arguments::{Call, Command};
 use crate::ends::{Failure, Outcome, Status, say};
 use crate::help;
+use crate::words::{meant, nearest};
 use std::ffi::{OsStr, OsString};
 
 /// All commands, in the order of the help.
@@ -36,6 +38,7 @@ const COMMANDS: &[&Command] = &[
     &season::COMMAND,
     &generate::COMMAND,
     &fit::COMMAND,
+    &compare::COMMAND,
     &choose::COMMAND,
     &make::COMMAND,
     &show::COMMAND,
@@ -52,14 +55,17 @@ pub fn run(arguments: &[OsString]) -> Status {
 /// The command with a name.
 fn named(name: &OsStr) -> Result<&'static Command, Failure> {
     let found = COMMANDS.iter().find(|command| command.name == name);
-    found.copied().ok_or_else(|| Failure::Wrong(format!("there is no command {}", name.display())))
+    found.copied().ok_or_else(|| {
+        let nearest = nearest(&name.to_string_lossy(), COMMANDS.iter().map(|command| command.name));
+        Failure::Wrong(format!("there is no command {}{}", name.display(), meant(nearest)), None)
+    })
 }
 
 /// What the arguments come to.
 fn outcome(arguments: &[OsString]) -> Outcome {
-    let (first, rest) = arguments.split_first().ok_or_else(|| Failure::Wrong("a command is missing".into()))?;
+    let (first, rest) = arguments.split_first().ok_or_else(|| Failure::Wrong("a command is missing".into(), None))?;
     let said = match first.to_str() {
-        Some("--version") => format!("basilvault {}\n", env!("CARGO_PKG_VERSION")),
+        Some("--version" | "-V") => format!("basilvault {}\n", env!("CARGO_PKG_VERSION")),
         Some("--help" | "-h" | "help") => match rest.first() {
             Some(name) => help::of(named(name)?),
             None => help::general(COMMANDS),
@@ -68,7 +74,12 @@ fn outcome(arguments: &[OsString]) -> Outcome {
             let command = named(first)?;
             let asked = rest.iter().take_while(|argument| *argument != "--").any(|argument| argument == "--help" || argument == "-h");
             if !asked {
-                return (command.run)(&Call::of(command, rest)?);
+                let done = Call::of(command, rest).and_then(|call| (command.run)(&call));
+                // where a call is wrong, its own command's help says more
+                return done.map_err(|failure| match failure {
+                    Failure::Wrong(text, _) => Failure::Wrong(text, Some(command.name)),
+                    other => other,
+                });
             }
             help::of(command)
         }

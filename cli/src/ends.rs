@@ -27,14 +27,14 @@ impl From<bool> for Status {
 /// Why a command, or its work on one file, ends early.
 #[derive(Clone, Debug, PartialEq, Eq)]
 pub enum Failure {
-    /// The library refuses what this file has.
-    Refused(String, Refusal),
+    /// The library refuses what this file has; the values that it is about, where they say more.
+    Refused(String, Refusal, String),
     /// A file is not what it should be: lines that say where and why.
     Mistaken(Vec<String>),
     /// A file can not be read or written.
     File(String),
-    /// The command was called wrongly.
-    Wrong(String),
+    /// The command was called wrongly: why, and the subcommand whose help says more.
+    Wrong(String, Option<&'static str>),
     /// Whoever reads standard output has stopped.
     Unread,
 }
@@ -48,17 +48,21 @@ impl Failure {
         match self {
             Failure::Refused(..) | Failure::Mistaken(_) => Status::Refused,
             Failure::File(_) | Failure::Unread => Status::File,
-            Failure::Wrong(_) => Status::Wrong,
+            Failure::Wrong(..) => Status::Wrong,
         }
     }
 
     /// Says it on standard error, and hands back the status.
     pub fn tell(&self) -> Status {
         match self {
-            Failure::Refused(what, refusal) => note(&format!("basilvault: {what}: {refusal}")),
+            Failure::Refused(what, refusal, values) if values.is_empty() => note(&format!("basilvault: {what}: {refusal}")),
+            Failure::Refused(what, refusal, values) => note(&format!("basilvault: {what}: {refusal}: {values}")),
             Failure::Mistaken(lines) => lines.iter().for_each(|line| note(line)),
             Failure::File(text) => note(&format!("basilvault: {text}")),
-            Failure::Wrong(text) => note(&format!("basilvault: {text}; basilvault --help says more")),
+            Failure::Wrong(text, command) => {
+                let command = command.map_or(String::new(), |command| format!("{command} "));
+                note(&format!("basilvault: {text}; basilvault {command}--help says more"));
+            }
             Failure::Unread => {}
         }
         self.status()
@@ -70,8 +74,19 @@ pub fn note(line: &str) {
     let _ = writeln!(io::stderr(), "{line}");
 }
 
+/// Whether standard output was closed when the command was called. The system's empty device stands in for it then, open for reading too.
+fn closed() -> bool {
+    let there = std::fs::read_link("/proc/self/fd/1").is_ok_and(|path| path.as_os_str() == "/dev/null");
+    let info = std::fs::read_to_string("/proc/self/fdinfo/1").unwrap_or_default();
+    let flags = info.lines().find_map(|line| u32::from_str_radix(line.strip_prefix("flags:")?.trim(), 8).ok());
+    there && flags.is_some_and(|flags| flags & 3 == 2)
+}
+
 /// Writes to standard output.
 pub fn say(bytes: &[u8]) -> Result<(), Failure> {
+    if closed() {
+        return Err(Failure::File("standard output is closed".into()));
+    }
     let mut out = io::stdout().lock();
     out.write_all(bytes).and_then(|()| out.flush()).map_err(|error| match error.kind() {
         io::ErrorKind::BrokenPipe => Failure::Unread,

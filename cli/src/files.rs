@@ -19,12 +19,13 @@ pub fn is_stream(path: &Path) -> bool {
     path == Path::new("-")
 }
 
-/// Whether one of two outputs is standard output. They can not go to one place.
-pub fn one_streams(outs: [Option<&Path>; 2]) -> Result<bool, Failure> {
+/// Whether one of some outputs is standard output. No two can go to one place.
+pub fn one_streams<const OUTS: usize>(outs: [Option<&Path>; OUTS]) -> Result<bool, Failure> {
     let place = |path: &Path| fs::canonicalize(path).or_else(|_| std::path::absolute(path)).unwrap_or_else(|_| path.to_path_buf());
-    match outs {
-        [Some(one), Some(other)] if place(one) == place(other) => Err(Failure::Wrong(format!("two outputs can not both go to {}", other.display()))),
-        _ => Ok(outs.into_iter().flatten().any(is_stream)),
+    let mut taken = std::collections::HashSet::new();
+    match outs.into_iter().flatten().find(|path| !taken.insert(place(path))) {
+        Some(twice) => Err(Failure::Wrong(format!("two outputs can not both go to {}", twice.display()), None)),
+        None => Ok(outs.into_iter().flatten().any(is_stream)),
     }
 }
 
@@ -34,7 +35,7 @@ pub fn read(path: &Path) -> Result<Vec<u8>, Failure> {
     let mut bytes = Vec::new();
     if is_stream(path) {
         if TAKEN.swap(true, Ordering::Relaxed) {
-            return Err(Failure::Wrong("standard input is named twice".into()));
+            return Err(Failure::Wrong("standard input is named twice".into(), None));
         }
         io::stdin().lock().take(LONGEST + 1).read_to_end(&mut bytes).map_err(fail)?;
     } else {
@@ -73,9 +74,22 @@ impl Spared {
                 replace(&file, bytes, Some(there.permissions())).map_err(fail)
             }
             Ok(_) => File::options().write(true).open(out).and_then(|mut there| there.write_all(bytes)).map_err(fail),
-            Err(_) => replace(out, bytes, None).map_err(fail),
+            Err(_) => replace(&led_to(out), bytes, None).map_err(fail),
         }
     }
+}
+
+/// Where a link leads whose file is not there yet; any other path is its own.
+fn led_to(path: &Path) -> PathBuf {
+    let mut at = path.to_path_buf();
+    // as many links in a row as the system follows
+    for _ in 0..40 {
+        match fs::read_link(&at) {
+            Ok(next) => at = at.parent().unwrap_or(Path::new("")).join(next),
+            Err(_) => break,
+        }
+    }
+    at
 }
 
 /// Writes a file beside its place and then moves it there.
@@ -105,6 +119,30 @@ pub fn folder(path: &Path) -> Result<(), Failure> {
     fs::create_dir_all(path).map_err(|error| Failure::File(format!("the folder {} can not be made ({error})", path.display())))
 }
 
+/// The files that are named; in place of a folder those in it that end in `.bin` or `.txt`, by their names.
+pub fn tables_in<'a>(named: impl IntoIterator<Item = &'a Path>) -> Result<Vec<PathBuf>, Failure> {
+    let mut files = Vec::new();
+    for path in named {
+        if is_stream(path) || !path.is_dir() {
+            files.push(path.to_path_buf());
+            continue;
+        }
+        let fail = |error: io::Error| Failure::File(format!("{} can not be read ({error})", path.display()));
+        let mut inside = Vec::new();
+        for entry in fs::read_dir(path).map_err(fail)? {
+            let file = entry.map_err(fail)?.path();
+            let table = file.extension().is_some_and(|ending| ending == "bin" || ending == "txt");
+            inside.extend((table && file.is_file()).then_some(file));
+        }
+        if inside.is_empty() {
+            return Err(Failure::File(format!("the folder {} has no file that ends in .bin or .txt", path.display())));
+        }
+        inside.sort_unstable();
+        files.extend(inside);
+    }
+    Ok(files)
+}
+
 /// Where the tables of these files go in a folder: under their own names, a text's with `.bin`. No two may go to one place.
 pub fn places(folder: &Path, files: &[&Path]) -> Result<Vec<PathBuf>, Failure> {
     let mut places: Vec<PathBuf> = Vec::with_capacity(files.len());
@@ -112,14 +150,14 @@ pub fn places(folder: &Path, files: &[&Path]) -> Result<Vec<PathBuf>, Failure> {
     for file in files {
         let name = file.file_name().filter(|_| !is_stream(file));
         let Some(name) = name else {
-            return Err(Failure::Wrong(format!("{} has no name to be written to a folder under", file.display())));
+            return Err(Failure::Wrong(format!("{} has no name to be written to a folder under", file.display()), None));
         };
         let mut place = folder.join(name);
         if place.extension().is_some_and(|extension| extension == "txt") {
             place.set_extension("bin");
         }
         if let Some(other) = taken.insert(place.clone(), file) {
-            return Err(Failure::Wrong(format!("{} and {} would both be written to {}", other.display(), file.display(), place.display())));
+            return Err(Failure::Wrong(format!("{} and {} would both be written to {}", other.display(), file.display(), place.display()), None));
         }
         places.push(place);
     }

@@ -6,8 +6,10 @@
 pub mod apart;
 pub mod arguments;
 pub mod commands;
+pub mod compared;
 pub mod draw;
 pub mod ends;
+pub mod facts;
 pub mod files;
 pub mod help;
 pub mod lent;
@@ -16,7 +18,10 @@ pub mod model;
 pub mod names;
 pub mod progress;
 pub mod report;
+pub mod room;
 pub mod text;
+pub mod trace;
+pub mod values;
 pub mod why;
 pub mod words;
 

@@ -16,8 +16,9 @@ fn is_name(word: &str) -> bool {
     !words::is_number(word) && !FORM.contains(&word) && !word.chars().any(char::is_control)
 }
 
-/// Whether bytes are meant as text: the first word is `table`.
+/// Whether bytes are meant as text: the first word is `table`, or nearly so; or they start as UTF-16 does.
 pub fn is_meant(bytes: &[u8]) -> bool {
-    let start = String::from_utf8_lossy(&bytes[..bytes.len().min(1 << 16)]);
-    words::words(&start).next().is_some_and(|word| word.text == "table")
+    let wide = [[0xff, 0xfe], [0xfe, 0xff]].iter().any(|mark| bytes.starts_with(mark));
+    let start = String::from_utf8_lossy(words::unmarked(&bytes[..bytes.len().min(1 << 16)])).to_lowercase();
+    wide || words::words(&start).next().is_some_and(|word| words::nearest(word.text, ["table"]).is_some())
 }

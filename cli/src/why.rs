@@ -13,7 +13,7 @@ pub use chain::Chain;
 /// What is said of two states.
 #[derive(Clone, Debug, PartialEq, Eq)]
 pub struct Answer {
-    /// Whether the map that the reduction delivers joins the two.
+    /// Whether the map joins the two.
     pub joined: bool,
     /// The reasons in words, lines each with its end.
     pub text: String,
@@ -21,12 +21,15 @@ pub struct Answer {
     pub chains: Vec<Chain>,
 }
 
-/// The guesses that a search may make here, as many as the program's.
-pub const BUDGET: u64 = 100_000;
+/// Which map is asked about: the one that a reduction with so many guesses delivers, or one of a name that the check accepts.
+pub enum Of<'a> {
+    Reduce,
+    Map(&'a str, &'a [u8]),
+}
 
-/// Why states p and q of a table are apart, or how they match. Both are states of the table; a refusal is the table's.
-pub fn why(limits: Limits, bytes: &[u8], names: &Names, p: u8, q: u8) -> Result<Answer, Refusal> {
-    let asked = decide::Asked::new(limits, bytes, names)?;
+/// Why states p and q of a table are apart in a map, or how they match. Both are states of the table; a refusal is the table's.
+pub fn why(limits: Limits, bytes: &[u8], names: &Names, (p, q): (u8, u8), budget: u64, of: Of) -> Result<Answer, Refusal> {
+    let asked = decide::Asked::new(limits, bytes, names, budget, of)?;
     if p == q {
         return Ok(Answer { joined: true, text: format!("{} is one state: there is nothing to join.\n", names.state(p)), chains: Vec::new() });
     }

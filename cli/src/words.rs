@@ -101,6 +101,37 @@ pub fn quoted(word: &str) -> String {
     format!("`{shown}{}`", if word.chars().nth(40).is_some() { ".." } else { "" })
 }
 
+/// The word among these that another was meant as: at most two letters are missing, added, wrong or exchanged, and fewer than half of them.
+pub fn nearest<'a>(word: &str, all: impl IntoIterator<Item = &'a str>) -> Option<&'a str> {
+    let most = 2.min(word.chars().count() / 2);
+    let near = all.into_iter().map(|one| (distance(word, one), one)).filter(|(far, _)| *far <= most);
+    near.min_by_key(|(far, _)| *far).map(|(_, one)| one)
+}
+
+/// The end of a message that names the word which was meant.
+pub fn meant(nearest: Option<&str>) -> String {
+    nearest.map_or(String::new(), |word| format!(" (did you mean {word}?)"))
+}
+
+/// How many letters are missing, added, wrong or exchanged with the next one.
+fn distance(one: &str, other: &str) -> usize {
+    let (one, other): (Vec<char>, Vec<char>) = (one.chars().collect(), other.chars().collect());
+    let mut rows = vec![(0..=other.len()).collect::<Vec<_>>()];
+    for (i, a) in one.iter().enumerate() {
+        let mut row = vec![i + 1];
+        for (j, b) in other.iter().enumerate() {
+            let changed = rows[i][j] + usize::from(a != b);
+            let mut least = changed.min(rows[i][j + 1] + 1).min(row[j] + 1);
+            if i > 0 && j > 0 && one[i - 1] == *b && other[j - 1] == *a {
+                least = least.min(rows[i - 1][j - 1] + 1);
+            }
+            row.push(least);
+        }
+        rows.push(row);
+    }
+    rows[one.len()][other.len()]
+}
+
 /// Bytes as text; a mistake at the first byte that is none.
 fn utf8(bytes: &[u8]) -> Result<&str, Mistake> {
     std::str::from_utf8(bytes).map_err(|error| {
@@ -123,9 +154,14 @@ pub fn mistaken(file: &Path, mistakes: &[Mistake], what: &str) -> Failure {
     Failure::Mistaken(lines)
 }
 
+/// Bytes without the byte order mark that some editors put first.
+pub fn unmarked(bytes: &[u8]) -> &[u8] {
+    bytes.strip_prefix(b"\xef\xbb\xbf").unwrap_or(bytes)
+}
+
 /// The bytes of a file as text.
 pub fn text<'a>(file: &Path, bytes: &'a [u8], what: &str) -> Result<&'a str, Failure> {
-    utf8(bytes).map_err(|mistake| mistaken(file, &[mistake], what))
+    utf8(unmarked(bytes)).map_err(|mistake| mistaken(file, &[mistake], what))
 }
 
 /// What the parts of a file give, or all of its mistakes.

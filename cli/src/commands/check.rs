@@ -1,8 +1,8 @@
 //! `check`: whether a map may be used.
 
-use crate::arguments::{Call, Command, STATES, SYMBOLS};
+use crate::arguments::{Call, Command, NAMES, STATES, SYMBOLS};
 use crate::ends::{Outcome, Status, say};
-use crate::{lent, maps};
+use crate::lent;
 
 pub const COMMAND: Command = Command {
     name: "check",
@@ -10,7 +10,7 @@ pub const COMMAND: Command = Command {
     usage: "TABLE MAP",
     help: "\
 Prints how many classes the map has where the check accepts it. A map that is not accepted is refused, by 15 to 20: the number says which condition is the
-first that it breaks.
+first that it breaks, and the message which states and moves break it. A map is the class number of each state in turn; or a line for each class, with the names of its states.
 
 Example:
 
@@ -19,14 +19,14 @@ Example:
 ",
     least: 2,
     most: 2,
-    choices: &[STATES, SYMBOLS],
+    choices: &[NAMES, STATES, SYMBOLS],
     run,
 };
 
 /// Checks the map.
 fn run(call: &Call) -> Outcome {
-    let (limits, lent) = lent::first(call)?;
-    let map = maps::read(call.file(1))?;
-    let classes = basilvault::check_within(limits, &lent.bytes, &map).map_err(|refusal| lent.refused(refusal))?;
+    let (limits, lent, table, names, map) = lent::with_map(call)?;
+    let checked = basilvault::check_within(limits, &lent.bytes, &map.classes);
+    let classes = checked.map_err(|refusal| map.refused(&lent, &table, &names, refusal))?;
     say(format!("classes {classes}\n").as_bytes()).map(|()| Status::Done)
 }

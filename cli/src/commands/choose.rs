@@ -1,9 +1,11 @@
 //! `choose`: the better of two maps.
 
-use crate::arguments::{Call, Command, OUT, STATES, SYMBOLS};
+use crate::arguments::{Call, Command, NAMES, OUT, STATES, SYMBOLS};
 use crate::ends::{Outcome, Status, note, say};
 use crate::files::{Spared, is_stream};
-use crate::{lent, maps};
+use crate::maps::{self, Map};
+use crate::lent;
+use basilvault::Refusal;
 
 pub const COMMAND: Command = Command {
     name: "choose",
@@ -19,20 +21,30 @@ Example:
 ",
     least: 3,
     most: 3,
-    choices: &[OUT, STATES, SYMBOLS],
+    choices: &[OUT, NAMES, STATES, SYMBOLS],
     run,
 };
 
 /// Chooses.
 fn run(call: &Call) -> Outcome {
-    let (limits, lent) = lent::first(call)?;
-    let (first, second) = (maps::read(call.file(1))?, maps::read(call.file(2))?);
-    let chosen = basilvault::choose_within(limits, &lent.bytes, &first, &second).map_err(|refusal| lent.refused(refusal))?;
+    let (limits, lent, table, names, first) = lent::with_map(call)?;
+    let second = Map::read(call.file(2), &names)?;
+    let chosen = basilvault::choose_within(limits, &lent.bytes, &first.classes, &second.classes);
+    let chosen = chosen.map_err(|refusal| {
+        // of neither map the check says why
+        for map in [&first, &second].into_iter().filter(|_| refusal == Refusal::Neither) {
+            let checked = basilvault::check_within(limits, &lent.bytes, &map.classes);
+            checked.err().into_iter().for_each(|why| {
+                map.refused(&lent, &table, &names, why).tell();
+            });
+        }
+        lent.refused(refusal)
+    })?;
     let classes = basilvault::check_within(limits, &lent.bytes, chosen).map_err(|refusal| lent.refused(refusal))?;
-    let place = if std::ptr::eq(chosen, &first[..]) { 1 } else { 2 };
+    let place = if std::ptr::eq(chosen, &first.classes[..]) { 1 } else { 2 };
     let line = format!("{}: map {place} of 2, classes {classes}", call.file(place).display());
     if let Some(out) = call.path(OUT.name) {
-        Spared::of([call.file(0), call.file(1), call.file(2)]).write(out, maps::line(chosen).as_bytes())?;
+        Spared::of([call.file(0), call.file(1), call.file(2)]).write(out, maps::shown(chosen, lent.own_names()).as_bytes())?;
         if is_stream(out) {
             note(&line);
             return Ok(Status::Done);

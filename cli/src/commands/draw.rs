@@ -3,7 +3,8 @@
 use crate::arguments::{Call, Choice, Command, NAMES, OUT, STATES, SYMBOLS};
 use crate::ends::{Outcome, Status};
 use crate::files::Spared;
-use crate::{draw, lent, maps};
+use crate::maps::Map;
+use crate::{draw, lent};
 use std::path::Path;
 
 const MAP: Choice = Choice { name: "--map", value: "MAP", says: "the map whose classes are drawn" };
@@ -30,13 +31,13 @@ Example:
 /// Draws the table.
 fn run(call: &Call) -> Outcome {
     let (limits, lent) = lent::first(call)?;
-    let map = call.path(MAP.name).map(maps::read).transpose()?;
     let (table, names) = lent.named(limits, call)?;
+    let map = call.path(MAP.name).map(|file| Map::read(file, &names)).transpose()?;
     let tops = basilvault::tops_within(limits, &lent.bytes).map_err(|refusal| lent.refused(refusal))?;
     if let Some(map) = &map {
-        basilvault::check_within(limits, &lent.bytes, map).map_err(|refusal| lent.refused(refusal))?;
+        basilvault::check_within(limits, &lent.bytes, &map.classes).map_err(|refusal| map.refused(&lent, &table, &names, refusal))?;
     }
     let spared = Spared::of([Some(call.file(0)), call.path(MAP.name), call.path(NAMES.name)].into_iter().flatten());
     let out = call.path(OUT.name).unwrap_or(Path::new("-"));
-    spared.write(out, draw::dot(&table, &tops, &names, map.as_deref()).as_bytes()).map(|()| Status::Done)
+    spared.write(out, draw::dot(&table, &tops, &names, map.as_ref().map(|map| &map.classes[..])).as_bytes()).map(|()| Status::Done)
 }

@@ -4,6 +4,7 @@ use crate::arguments::{Call, Choice, Command, INTO, OUT, STATES, SYMBOLS};
 use crate::ends::{Failure, Outcome, Status};
 use crate::files::{Spared, folder};
 use crate::progress::Progress;
+use crate::values;
 use basilvault::{LONGEST_FILE, Load};
 
 const COUNT: Choice = Choice { name: "--count", value: "N", says: "make N tables, of this seed and those behind it" };
@@ -35,15 +36,16 @@ fn run(call: &Call) -> Outcome {
     let (states, internals, calls, returns) = (size(1, "STATES")?, size(2, "INTERNALS")?, size(3, "CALLS")?, size(4, "RETURNS")?);
     let table = |seed| {
         let mut out = [0; LONGEST_FILE];
-        let made = basilvault::generate_within(limits, Load { seed, states, internals, calls, returns, density }, &mut out);
-        made.map(|length| out[..length].to_vec()).map_err(|refusal| Failure::Refused(format!("seed {seed}"), refusal))
+        let load = Load { seed, states, internals, calls, returns, density };
+        let made = basilvault::generate_within(limits, load, &mut out);
+        made.map(|length| out[..length].to_vec()).map_err(|refusal| Failure::Refused(format!("seed {seed}"), refusal, values::of_load(refusal, limits, load)))
     };
     let spared = Spared::default();
     match (call.path(OUT.name), call.path(INTO.name)) {
         (Some(out), None) if !call.has(COUNT.name) => spared.write(out, &table(seed)?)?,
         (None, Some(into)) => {
             let last = u64::from(seed).checked_add(call.number(COUNT.name, 1)?).filter(|&last| last <= 1 << 32);
-            let last = last.ok_or_else(|| Failure::Wrong("the seeds exceed 4,294,967,295".into()))?;
+            let last = last.ok_or_else(|| Failure::Wrong("the seeds exceed 4,294,967,295".into(), None))?;
             // what is refused makes no folder
             table(seed)?;
             folder(into)?;
@@ -53,7 +55,7 @@ fn run(call: &Call) -> Outcome {
                 progress.step();
             }
         }
-        _ => return Err(Failure::Wrong("where to write is not clear: -o OUT for one table, --into FOLDER and --count N for several".into())),
+        _ => return Err(Failure::Wrong("where to write is not clear: -o OUT for one table, --into FOLDER and --count N for several".into(), None)),
     }
     Ok(Status::Done)
 }

@@ -3,7 +3,7 @@
 use crate::arguments::{Call, Command, OUT, STATES, SYMBOLS};
 use crate::ends::{Failure, Outcome, Status};
 use crate::files::{self, Spared};
-use crate::lent;
+use crate::{lent, values};
 
 pub const COMMAND: Command = Command {
     name: "make",
@@ -42,6 +42,6 @@ fn run(call: &Call) -> Outcome {
     let (limits, file, out) = (call.limits()?, call.file(0), call.out()?);
     let (table, _) = lent::from_text(file, &files::read(file)?)?;
     let bytes = table.to_bytes();
-    basilvault::read_within(limits, &bytes).map_err(|refusal| Failure::Refused(file.display().to_string(), refusal))?;
+    basilvault::read_within(limits, &bytes).map_err(|refusal| Failure::Refused(file.display().to_string(), refusal, values::of_table(refusal, limits, &bytes)))?;
     Spared::of([file]).write(out, &bytes).map(|()| Status::Done)
 }

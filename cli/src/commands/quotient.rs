@@ -1,12 +1,10 @@
 //! `quotient`: the smaller table of a map.
 
-use crate::arguments::{Call, Choice, Command, NAMES, OUT, STATES, SYMBOLS};
+use crate::arguments::{Call, Command, NAMES, OUT, STATES, SYMBOLS, TEXT};
 use crate::ends::{Outcome, Status, note, say};
 use crate::files::{Spared, one_streams};
 use crate::{lent, maps, model, text};
 use basilvault::LONGEST_FILE;
-
-const TEXT: Choice = Choice { name: "--text", value: "FILE", says: "write it as text too, each class named by its states" };
 
 pub const COMMAND: Command = Command {
     name: "quotient",
@@ -31,14 +29,13 @@ Example:
 fn run(call: &Call) -> Outcome {
     let outs = [call.path(OUT.name), call.path(TEXT.name)];
     let streams = one_streams(outs)?;
-    let (limits, lent) = lent::first(call)?;
-    let map = maps::read(call.file(1))?;
-    let (table, names) = lent.named(limits, call)?;
+    let (limits, lent, table, names, map) = lent::with_map(call)?;
     let mut small = [0; LONGEST_FILE];
-    let written = basilvault::quotient_within(limits, &lent.bytes, &map, &mut small).map_err(|refusal| lent.refused(refusal))?;
+    let written = basilvault::quotient_within(limits, &lent.bytes, &map.classes, &mut small);
+    let written = written.map_err(|refusal| map.refused(&lent, &table, &names, refusal))?;
     let small = &small[..written];
     let quotient = model::Table::from_bytes(limits, small).map_err(|refusal| lent.refused(refusal))?;
-    let shown = text::show(&quotient, &maps::class_names(&map, &names, &quotient), None);
+    let shown = text::show(&quotient, &maps::class_names(&map.classes, &names, &quotient), None);
     let spared = Spared::of([call.file(0), call.file(1)].into_iter().chain(call.path(NAMES.name)));
     for (path, bytes) in outs.into_iter().zip([small, shown.as_bytes()]) {
         path.map_or(Ok(()), |path| spared.write(path, bytes))?;

@@ -2,7 +2,7 @@
 
 use crate::arguments::{Call, Command, NAMES, STATES, SYMBOLS};
 use crate::ends::{Outcome, Status, say};
-use crate::{lent, maps, text};
+use crate::{lent, text};
 use basilvault::{MOST_RECORDS, Recorded};
 use std::collections::HashMap;
 use std::fmt::Write;
@@ -28,12 +28,11 @@ Example:
 
 /// Prints the records.
 fn run(call: &Call) -> Outcome {
-    let (limits, lent) = lent::first(call)?;
-    let map = maps::read(call.file(1))?;
-    let (table, names) = lent.named(limits, call)?;
+    let (limits, lent, table, names, map) = lent::with_map(call)?;
     let mut fates = [0; MOST_RECORDS];
-    let recorded = basilvault::records_within(limits, &lent.bytes, &map, &mut fates).map_err(|refusal| lent.refused(refusal))?;
-    let class = |state: u8| map[usize::from(state)];
+    let recorded = basilvault::records_within(limits, &lent.bytes, &map.classes, &mut fates);
+    let recorded = recorded.map_err(|refusal| map.refused(&lent, &table, &names, refusal))?;
+    let class = |state: u8| map.classes[usize::from(state)];
     let moves = table.internals.iter().chain(&table.calls);
     let moves = moves.map(|&r| (text::internal(&names, r), vec![class(r[0]), r[1], class(r[2])]));
     let returns = table.returns.iter().map(|&r| (text::record(&names, r), vec![class(r[0]), r[1], class(r[2]), class(r[3])]));

@@ -1,27 +1,31 @@
 //! `reduce`: tables made smaller.
 
-use crate::arguments::{BUDGET, Call, Choice, Command, INTO, OUT, ROOM, STATES, SYMBOLS};
+use crate::arguments::{BUDGET, Call, Choice, Command, INTO, NAMES, OUT, ROOM, STATES, SYMBOLS, TEXT};
 use crate::ends::{Failure, Outcome, Status, note, say};
-use crate::files::{Spared, folder, one_streams, places};
+use crate::files::{Spared, folder, is_stream, one_streams, places, tables_in};
+use crate::facts::Facts;
 use crate::lent::Lent;
-use crate::maps;
+use crate::model::Table;
+use crate::{maps, text};
 use crate::progress::Progress;
+use crate::room::Room;
 use basilvault::{LONGEST_FILE, Limits, MOST_RECORDS, MOST_STATES, Recorded, Reduced, Refusal};
 use std::path::{Path, PathBuf};
 
-const MAP: Choice = Choice { name: "--map", value: "FILE", says: "write the map, the class of each state, to this file" };
+const MAP: Choice = Choice { name: "--map", value: "FILE", says: "write the map to this file, by names where there are some" };
 
 pub const COMMAND: Command = Command {
     name: "reduce",
     summary: "merge the states of tables that may be merged, and write the smaller tables",
-    usage: "IN.. [-o OUT | --into FOLDER] [--map FILE]",
+    usage: "IN.. [-o OUT | --into FOLDER] [--map FILE] [--text FILE]",
     help: "\
 Reduces each table and prints a line for it: its states and classes, the guesses that the search made, the words of its clause list, the pairs of
 states that are joined and how many no map can exceed, `spent` where the budget was and a coarser map may exist, then its records: how many are
 kept, folded into an earlier one, and dead. A reduced table accepts the same scripts as its table.
 
 One table goes to -o OUT; several go to --into FOLDER under their own names, a text's with .bin. Without either nothing is written. Where a table or map
-goes to standard output, the line goes to standard error. Where a table is refused the others go on, and the status is the worst of all.
+goes to standard output, the line goes to standard error. Where a table is refused the others go on, and the status is the worst of all. A folder stands for
+the files in it that end in .bin or .txt. Of one table standard error also says which states no run reaches, and from which nothing is accepted.
 
 Example:
 
@@ -29,30 +33,41 @@ Example:
 ",
     least: 1,
     most: usize::MAX,
-    choices: &[OUT, INTO, MAP, BUDGET, ROOM, STATES, SYMBOLS],
+    choices: &[OUT, INTO, MAP, TEXT, NAMES, BUDGET, ROOM, STATES, SYMBOLS],
     run,
 };
 
+/// What else is written of a table.
+struct Written<'a> {
+    map: Option<&'a Path>,
+    text: Option<&'a Path>,
+}
+
 /// What reductions share: limits, budget, buffers, and the files that are not written to.
-struct Reducer {
+struct Reducer<'a> {
+    call: &'a Call,
+    /// there is no other table
+    alone: bool,
     limits: Limits,
     budget: u64,
-    list: Vec<u16>,
+    room: Room,
     spared: Spared,
 }
 
 /// Reduces the tables that are named.
 fn run(call: &Call) -> Outcome {
-    let files: Vec<&Path> = call.plain.iter().map(Path::new).collect();
+    let files: Vec<PathBuf> = tables_in(call.plain.iter().map(Path::new))?;
+    let files: Vec<&Path> = files.iter().map(PathBuf::as_path).collect();
+    once_from_input(&files)?;
     let outs = outs(call, &files)?;
-    let map = call.path(MAP.name);
-    let streams = one_streams([call.path(OUT.name), map])?;
+    let written = Written { map: call.path(MAP.name), text: call.path(TEXT.name) };
+    let streams = one_streams([call.path(OUT.name), written.map, written.text])?;
     let spared = Spared::of(files.iter().copied());
-    let mut reducer = Reducer { limits: call.limits()?, budget: call.budget()?, list: vec![0; call.room()?], spared };
+    let mut reducer = Reducer { call, alone: files.len() == 1, limits: call.limits()?, budget: call.budget()?, room: Room::new(call.room()?), spared };
     let progress = Progress::start("reduce", files.len());
     let mut worst = Status::Done;
     for (place, file) in files.iter().enumerate() {
-        let done = reducer.one(file, outs.get(place).map(PathBuf::as_path), map);
+        let done = reducer.one(file, outs.get(place).map(PathBuf::as_path), &written);
         progress.clear();
         match done {
             Ok(line) if streams => note(&line),
@@ -64,30 +79,63 @@ fn run(call: &Call) -> Outcome {
     Ok(worst)
 }
 
+/// Standard input can be read once, which is seen to before anything is reduced.
+pub fn once_from_input(files: &[&Path]) -> Result<(), Failure> {
+    match files.iter().filter(|file| is_stream(file)).count() {
+        0 | 1 => Ok(()),
+        _ => Err(Failure::Wrong("standard input is named twice".into(), None)),
+    }
+}
+
 /// Where the reduced tables go: nowhere, to one file, or to a folder.
 fn outs(call: &Call, files: &[&Path]) -> Result<Vec<PathBuf>, Failure> {
     match (call.path(OUT.name), call.path(INTO.name)) {
-        (Some(_), Some(_)) => Err(Failure::Wrong("-o and --into can not both be given".into())),
-        (Some(_), None) if files.len() > 1 => Err(Failure::Wrong("several tables can not go to one file: --into FOLDER takes them".into())),
-        _ if call.has(MAP.name) && files.len() > 1 => Err(Failure::Wrong("the maps of several tables can not go to one file".into())),
+        (Some(_), Some(_)) => Err(Failure::Wrong("-o and --into can not both be given".into(), None)),
+        (Some(_), None) if files.len() > 1 => Err(Failure::Wrong("several tables can not go to one file: --into FOLDER takes them".into(), None)),
+        _ if call.has(TEXT.name) && files.len() > 1 => Err(Failure::Wrong("the texts of several tables can not go to one file".into(), None)),
+        _ if call.has(MAP.name) && files.len() > 1 => Err(Failure::Wrong("the maps of several tables can not go to one file".into(), None)),
         (Some(out), None) => Ok(vec![out.to_path_buf()]),
         (None, Some(into)) => places(into, files).and_then(|places| folder(into).map(|()| places)),
         (None, None) => Ok(Vec::new()),
     }
 }
 
-impl Reducer {
+impl Reducer<'_> {
     /// Reduces a table: its line.
-    fn one(&mut self, file: &Path, out: Option<&Path>, map_out: Option<&Path>) -> Result<String, Failure> {
+    fn one(&mut self, file: &Path, out: Option<&Path>, written: &Written) -> Result<String, Failure> {
         let lent = Lent::of(self.limits, file)?;
+        let (table, names) = lent.named(self.limits, self.call)?;
         let (mut map, mut small) = ([0; MOST_STATES], [0; LONGEST_FILE]);
-        let reduced = basilvault::reduce_within(self.limits, &lent.bytes, self.budget, &mut self.list, &mut map, &mut small);
-        let line = reduced.and_then(|reduced| summary(self.limits, &lent, reduced, &map));
-        let (line, states, length) = line.map_err(|refusal| lent.refused(refusal))?;
-        for (path, bytes) in [(out, &small[..length]), (map_out, maps::line(&map[..states]).as_bytes())] {
+        let list = self.room.for_tables(self.limits, [&lent.bytes[..]])?;
+        let reduced = basilvault::reduce_within(self.limits, &lent.bytes, self.budget, list, &mut map, &mut small);
+        let reduced = reduced.map_err(|refusal| self.room.refused(self.limits, &lent, refusal))?;
+        let (line, states, length) = summary(self.limits, &lent, reduced, &map).map_err(|refusal| lent.refused(refusal))?;
+        tell_spent(&lent, reduced);
+        if self.alone {
+            let facts = Facts::of(&table, &lent.tops()?).told(&names);
+            facts.iter().for_each(|fact| note(&format!("basilvault: {}: {fact}", file.display())));
+        }
+        let (map, small) = (&map[..states], &small[..length]);
+        let text = written.text.map_or(Ok(String::new()), |_| {
+            let quotient = Table::from_bytes(self.limits, small).map_err(|refusal| lent.refused(refusal))?;
+            Ok(text::show(&quotient, &maps::class_names(map, &names, &quotient), None))
+        })?;
+        let own = lent.own_names().or(self.call.has(NAMES.name).then_some(&names));
+        for (path, bytes) in [(out, small), (written.map, maps::shown(map, own).as_bytes()), (written.text, text.as_bytes())] {
             path.map_or(Ok(()), |path| self.spared.write(path, bytes))?;
         }
         Ok(line)
+    }
+}
+
+/// Says on standard error what it means that the budget was spent.
+pub fn tell_spent(lent: &Lent, reduced: Reduced) {
+    if reduced.spent {
+        let guesses = reduced.guesses;
+        note(&format!(
+            "basilvault: {}: all {guesses} guesses are spent: the reduced table accepts the same scripts, but a smaller one may exist; a larger --budget may find it",
+            lent.file.display()
+        ));
     }
 }
 

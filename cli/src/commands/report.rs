@@ -4,6 +4,7 @@ use crate::arguments::{BUDGET, Call, Command, NAMES, OUT, ROOM, STATES, SYMBOLS}
 use crate::ends::{Outcome, Status};
 use crate::files::Spared;
 use crate::progress::Progress;
+use crate::room::{self, Room};
 use crate::{lent, report};
 
 pub const COMMAND: Command = Command {
@@ -30,8 +31,9 @@ fn run(call: &Call) -> Outcome {
     let (_, names) = lent.named(limits, call)?;
     let title = lent.file.file_name().unwrap_or_default().to_string_lossy();
     let progress = Progress::start("report", 1);
-    let page = report::page(limits, &lent.bytes, &names, call.budget()?, call.room()?, &title);
+    let most = call.room()?;
+    let page = report::page(limits, &lent.bytes, &names, call.budget()?, room::most_of(limits, &lent.bytes).min(most), &title);
     drop(progress);
-    let page = page.map_err(|refusal| lent.refused(refusal))?;
+    let page = page.map_err(|refusal| Room::new(most).refused(limits, &lent, refusal))?;
     Spared::of([call.file(0)].into_iter().chain(call.path(NAMES.name))).write(out, page.as_bytes()).map(|()| Status::Done)
 }

@@ -3,19 +3,24 @@
 use crate::arguments::{Call, Choice, Command, NAMES, STATES, SYMBOLS};
 use crate::ends::{Failure, Outcome, Status, say};
 use crate::names::Names;
-use crate::words::{Word, collected, quoted, text, words};
-use crate::{files, lent, names};
+use crate::words::{Word, collected, meant, nearest, quoted, text, words};
+use crate::maps::Map;
+use crate::{files, lent, names, trace};
 use std::path::Path;
 
 const FILE: Choice = Choice { name: "--file", value: "F", says: "the file that has the script" };
 
+const TRACE: Choice = Choice { name: "--trace", value: "", says: "print the states that runs can be in after each symbol" };
+const MAP: Choice = Choice { name: "--map", value: "MAP", says: "print their classes in this map as well, which the check must accept" };
+
 pub const COMMAND: Command = Command {
     name: "script",
     summary: "try a script on a table",
-    usage: "TABLE [SYMBOL.. | --file F]",
+    usage: "TABLE [SYMBOL.. | --file F] [--trace] [--map MAP]",
     help: "\
-Prints yes or no, with status 0 or 1: whether the table accepts the script, symbols by names or numbers, parted by blanks. Without symbols it is the
-empty script. A script with a symbol past the count is refused by 30, one with a 65th open call by 31.
+Prints yes or no, with status 0 or 1: whether the table accepts the script, symbols by names or numbers, separated by spaces. Without symbols it is the
+empty script. A script with a symbol past the count is refused by 30, one with a 65th open call by 31. With --trace, and with --map, lines before the answer show the states
+that runs can be in at the start and after each symbol, and their classes.
 
 Example:
 
@@ -23,20 +28,26 @@ Example:
 ",
     least: 1,
     most: usize::MAX,
-    choices: &[FILE, NAMES, STATES, SYMBOLS],
+    choices: &[FILE, TRACE, MAP, NAMES, STATES, SYMBOLS],
     run,
 };
 
 /// Tries the script.
 fn run(call: &Call) -> Outcome {
     if call.has(FILE.name) && call.plain.len() > 1 {
-        return Err(Failure::Wrong("the script can not stand in a file and in the call".into()));
+        return Err(Failure::Wrong("the script can not stand in a file and in the call".into(), None));
     }
     let (limits, lent) = lent::first(call)?;
-    let (_, names) = lent.named(limits, call)?;
+    let traced = call.has(TRACE.name) || call.has(MAP.name);
+    let (table, names) = if traced { lent.named(limits, call)? } else { lent.named_symbols(limits, call)? };
     let script = call.path(FILE.name).map_or_else(|| given(call, &names), |file| from_file(file, &names))?;
     let yes = basilvault::script_within(limits, &lent.bytes, &script).map_err(|refusal| lent.refused(refusal))?;
-    say(if yes { b"yes\n" } else { b"no\n" }).map(|()| Status::from(yes))
+    let map = call.path(MAP.name).map(|file| Map::read(file, &names)).transpose()?;
+    if let Some(map) = &map {
+        basilvault::check_within(limits, &lent.bytes, &map.classes).map_err(|refusal| map.refused(&lent, &table, &names, refusal))?;
+    }
+    let lines = if traced { trace::lines(&table, &names, &script, map.as_ref().map(|map| &map.classes[..])) } else { String::new() };
+    say(format!("{lines}{}\n", if yes { "yes" } else { "no" }).as_bytes()).map(|()| Status::from(yes))
 }
 
 /// The script of the call.
@@ -44,7 +55,7 @@ fn given(call: &Call, names: &Names) -> Result<Vec<u8>, Failure> {
     let all: Vec<_> = call.plain[1..].iter().map(|argument| argument.to_string_lossy()).collect();
     let symbol = |word: &str| {
         let found = names::find(&names.symbols, word);
-        found.ok_or_else(|| Failure::Mistaken(vec![format!("basilvault: expected {}, found {}", symbols(names), quoted(word))]))
+        found.ok_or_else(|| Failure::Mistaken(vec![format!("basilvault: expected {}, found {}{}", symbols(names), quoted(word), meant(nearest(word, names.symbols.iter().map(String::as_str))))]))
     };
     all.iter().flat_map(|argument| argument.split_whitespace()).map(symbol).collect()
 }

@@ -1,15 +1,18 @@
 //! `show`: a table as text.
 
-use crate::arguments::{Call, Command, NAMES, OUT, STATES, SYMBOLS};
+use crate::arguments::{Call, Choice, Command, NAMES, OUT, STATES, SYMBOLS};
 use crate::ends::{Outcome, Status};
+use crate::facts::Facts;
 use crate::files::Spared;
 use crate::{lent, text};
 use std::path::Path;
 
+const FACTS: Choice = Choice { name: "--facts", value: "", says: "end with comments on states that serve no script" };
+
 pub const COMMAND: Command = Command {
     name: "show",
     summary: "print a table as text",
-    usage: "TABLE [--names TEXT] [-o OUT]",
+    usage: "TABLE [--names TEXT] [--facts] [-o OUT]",
     help: "\
 Prints the text of a table, from which `make` makes it again to the byte. Where no text gives names, a symbol is i, c or r by its kind and a state q,
 each with its number. A return that no run can take has the comment `dead`. `basilvault make --help` describes the text.
@@ -20,7 +23,7 @@ Example:
 ",
     least: 1,
     most: 1,
-    choices: &[NAMES, OUT, STATES, SYMBOLS],
+    choices: &[FACTS, NAMES, OUT, STATES, SYMBOLS],
     run,
 };
 
@@ -31,5 +34,7 @@ fn run(call: &Call) -> Outcome {
     let tops = basilvault::tops_within(limits, &lent.bytes).map_err(|refusal| lent.refused(refusal))?;
     let spared = Spared::of([call.file(0)].into_iter().chain(call.path(NAMES.name)));
     let out = call.path(OUT.name).unwrap_or(Path::new("-"));
-    spared.write(out, text::show(&table, &names, Some(&tops)).as_bytes()).map(|()| Status::Done)
+    let facts = if call.has(FACTS.name) { Facts::of(&table, &tops).told(&names) } else { Vec::new() };
+    let facts: String = facts.iter().map(|fact| format!("# {fact}\n")).collect();
+    spared.write(out, (text::show(&table, &names, Some(&tops)) + &facts).as_bytes()).map(|()| Status::Done)
 }

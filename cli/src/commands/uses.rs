@@ -30,19 +30,18 @@ Example:
 
 /// Adds up the counts.
 fn run(call: &Call) -> Outcome {
-    let (limits, lent) = lent::first(call)?;
-    let map = maps::read(call.file(1))?;
-    let (_, names) = lent.named(limits, call)?;
+    let (limits, lent, table, names, map) = lent::with_map(call)?;
     let counts = match (call.plain.get(2), call.path(BINARY.name)) {
         (Some(file), None) => from_text(Path::new(file), &names)?,
         (None, Some(file)) => files::read(file)?,
-        _ => return Err(Failure::Wrong("the use counts are missing, or given twice: LINES or --binary FILE".into())),
+        _ => return Err(Failure::Wrong("the use counts are missing, or given twice: LINES or --binary FILE".into(), None)),
     };
-    let uses = basilvault::uses_within(limits, &lent.bytes, &map, &counts).map_err(|refusal| lent.refused(refusal))?;
+    let uses = basilvault::uses_within(limits, &lent.bytes, &map.classes, &counts).map_err(|refusal| map.refused(&lent, &table, &names, refusal))?;
+    let map = &map.classes;
     let classes = map.iter().max().map_or(0, |&last| usize::from(last) + 1);
     let mut said = String::new();
     for (class, sum) in uses.sums.iter().enumerate().take(classes) {
-        let _ = writeln!(said, "class {class} {}: {sum}", maps::members(&map, class, &names));
+        let _ = writeln!(said, "class {class} {}: {sum}", maps::members(map, class, &names));
     }
     let _ = writeln!(said, "total {}", uses.total);
     say(said.as_bytes()).map(|()| Status::Done)

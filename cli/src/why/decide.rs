@@ -2,7 +2,7 @@
 
 use super::chain::{Chain, Clauses};
 use super::clause::{Sources, pair, variable};
-use super::{Answer, BUDGET, moves, text};
+use super::{Answer, Of, moves, text};
 use crate::model::Table;
 use crate::names::Names;
 use basilvault::{Limits, Refusal, Tops};
@@ -14,19 +14,27 @@ pub struct Asked<'a> {
     pub names: &'a Names,
     pub table: Table,
     pub tops: Tops,
+    pub budget: u64,
+    /// Who joins: `reduce`, or a map by its name.
+    pub who: &'a str,
+    given: Option<&'a [u8]>,
     words: Vec<u16>,
 }
 
 impl<'a> Asked<'a> {
     /// Reads a table and has the library write the whole list.
-    pub fn new(limits: Limits, bytes: &'a [u8], names: &'a Names) -> Result<Asked<'a>, Refusal> {
+    pub fn new(limits: Limits, bytes: &'a [u8], names: &'a Names, budget: u64, of: Of<'a>) -> Result<Asked<'a>, Refusal> {
         let counts = basilvault::read_within(limits, bytes)?.counts(bytes.len());
         let mut words = vec![0; counts.most_words()];
         let listed = basilvault::clauses_within(limits, bytes, &mut words)?;
         words.truncate(listed.words);
         words.shrink_to_fit();
         let tops = basilvault::tops_within(limits, bytes)?;
-        Ok(Asked { limits, bytes, names, table: Table::from_bytes(limits, bytes)?, tops, words })
+        let (who, given) = match of {
+            Of::Reduce => ("reduce", None),
+            Of::Map(name, map) => (name, Some(map)),
+        };
+        Ok(Asked { limits, bytes, names, table: Table::from_bytes(limits, bytes)?, tops, budget, who, given, words })
     }
 
     /// What clauses are looked up in.
@@ -39,20 +47,24 @@ impl<'a> Asked<'a> {
         self.table.states.len() * self.table.states.len().saturating_sub(1) / 2
     }
 
-    /// Values that satisfy the list and join a pair, by the library's search.
-    fn search(&self, joined: u16) -> Result<Vec<u8>, Refusal> {
-        let words = [&self.words[..], &[1, 2 * joined]].concat();
+    /// Values that satisfy the list and make these literals right, by the library's search.
+    fn search(&self, right: &[u16]) -> Result<Vec<u8>, Refusal> {
+        let units: Vec<u16> = right.iter().flat_map(|&literal| [1, literal]).collect();
+        let words = [&self.words[..], &units].concat();
         let mut values = vec![0; self.variables()];
-        basilvault::search_within(self.limits, &words, self.variables(), BUDGET, &mut values)?;
+        basilvault::search_within(self.limits, &words, self.variables(), self.budget, &mut values)?;
         Ok(values)
     }
 
-    /// The map that the reduction delivers, and whether its budget was spent.
-    fn delivered(&self) -> Result<(Vec<u8>, bool), Refusal> {
+    /// The map that is asked about, and whether the budget of its reduction was spent.
+    fn map(&self) -> Result<(Vec<u8>, bool), Refusal> {
+        if let Some(map) = self.given {
+            return Ok((map.to_vec(), false));
+        }
         let counts = basilvault::read_within(self.limits, self.bytes)?.counts(self.bytes.len());
         let (mut map, mut out) = (vec![0; counts.states], vec![0; self.bytes.len()]);
         let mut list = vec![0; counts.most_short_words()];
-        let reduced = basilvault::reduce_within(self.limits, self.bytes, BUDGET, &mut list, &mut map, &mut out)?;
+        let reduced = basilvault::reduce_within(self.limits, self.bytes, self.budget, &mut list, &mut map, &mut out)?;
         Ok((map, reduced.spent))
     }
 }
@@ -61,14 +73,14 @@ impl<'a> Asked<'a> {
 pub fn answer(asked: &Asked, p: u8, q: u8) -> Result<Answer, Refusal> {
     let clauses = Clauses::new(&asked.words, asked.variables());
     let goal = variable(p, q);
-    let (map, spent) = asked.delivered()?;
+    let (map, spent) = asked.map()?;
     if map[usize::from(p)] == map[usize::from(q)] {
         return Ok(Answer { joined: true, text: text::joined(asked, p, q) + &moves::matching(asked, p, q, &map), chains: Vec::new() });
     }
     if let Some(chain) = clauses.refute(&[2 * goal]) {
         return Ok(apart(text::chain(asked, (p, q), &chain), vec![chain]));
     }
-    let searched = asked.search(goal);
+    let searched = asked.search(&[2 * goal]);
     match searched {
         Err(Refusal::NoAssignment | Refusal::Spent) => {
             let chains = cases(&clauses, goal, asked.variables());
@@ -80,18 +92,19 @@ pub fn answer(asked: &Asked, p: u8, q: u8) -> Result<Answer, Refusal> {
     }
 }
 
-/// The answer for two states that the delivered map has apart.
+/// The answer for two states that the map has apart.
 fn apart(text: String, chains: Vec<Chain>) -> Answer {
     Answer { joined: false, text, chains }
 }
 
-/// The answer for two states that some map joins, though the delivered one does not.
+/// The answer for two states that some map joins, though this one does not.
 fn alone(asked: &Asked, clauses: &Clauses, (p, q): (u8, u8), map: &[u8], spent: bool, values: &[u8]) -> Answer {
     let there = |variable: &u16| map[usize::from(pair(*variable).0)] == map[usize::from(pair(*variable).1)];
     let others = (0..values.len() as u16).filter(there).map(|variable| 2 * variable);
     let assumed: Vec<u16> = std::iter::once(2 * variable(p, q)).chain(others).collect();
     let chain = clauses.refute(&assumed);
-    let text = text::alone(asked, (p, q), chain.as_ref(), spent) + &moves::matching(asked, p, q, &map_of(values, map.len()));
+    let beside = chain.is_none() && asked.search(&assumed).is_ok();
+    let text = text::alone(asked, (p, q), chain.as_ref(), spent, beside) + &moves::matching(asked, p, q, &map_of(values, map.len()));
     apart(text, chain.into_iter().collect())
 }
 

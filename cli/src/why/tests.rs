@@ -2,6 +2,9 @@
 
 use super::clause::Source;
 use super::*;
+
+/// The guesses of a reduction, as many as the program makes.
+const BUDGET: u64 = 100_000;
 use crate::model::Table;
 use crate::samples::{self, example};
 use basilvault::Load;
@@ -63,7 +66,7 @@ enum How {
 /// Asks for a pair and checks all that is answered.
 fn ask(limits: Limits, bytes: &[u8], p: u8, q: u8) -> How {
     let table = samples::table(bytes);
-    let answer = why(limits, bytes, &Names::numbered(&table), p, q).expect("a readable table");
+    let answer = why(limits, bytes, &Names::numbered(&table), (p, q), BUDGET, Of::Reduce).expect("a readable table");
     let (written, goal) = (list(limits, bytes), 2 * clause::variable(p, q));
     for (clause, _) in answer.chains.iter().flat_map(|chain| &chain.steps) {
         assert!(written.contains(clause), "{clause:?} is not in the list");
@@ -181,7 +184,7 @@ fn said(name: &str, symbols: &[&str], states: &[&str], p: u8, q: u8) -> (bool, S
     let own = |names: &[&str]| names.iter().map(|name| name.to_string()).collect();
     let mut names = Names { symbols: own(symbols), states: own(states), ..Names::default() };
     names.marks[1] = Some("named".into());
-    let answer = why(Limits::STANDARD, &example(name), &names, p, q).expect("a readable table");
+    let answer = why(Limits::STANDARD, &example(name), &names, (p, q), BUDGET, Of::Reduce).expect("a readable table");
     (answer.joined, answer.text)
 }
 
@@ -194,15 +197,15 @@ fn reasons_in_words() {
     );
     assert_eq!(t(3, 0), (false, "end and start can not be joined:\n  1. end is accepting, start is not.\n".into()));
     assert_eq!(t(2, 2), (true, "lost is one state: there is nothing to join.\n".into()));
-    let joined = "inside and lost are joined. Their moves match:\n\
+    let joined = "inside and lost are joined by reduce. Their moves match:\n\
                   \x20 pan: inside goes to inside, lost to lost; these are joined.\n\
                   \x20 close over start: inside goes to end; lost is never above start, so it needs no match.\n";
     assert_eq!(t(1, 2), (true, joined.into()));
     let marks = said("named_located", &["name", "locate", "place", "close"], &["a", "b", "c", "d"], 2, 3);
     assert_eq!(marks, (false, "c and d can not be joined:\n  1. c has mark named, d has mark 2.\n".into()));
     let alone = said("not_transitive", &["pan", "country", "close", "place"], &["a", "b", "c", "d", "e"], 2, 3).1;
-    let expected = "c and d could be joined, but the delivered map joins others in their place. With those joined and these two as well:\n\
-                    \x20 1. b and c are joined in the delivered map. With that b and d would be joined too.\n\
+    let expected = "c and d could be joined, but reduce joins others in their place. With those joined and these two as well:\n\
+                    \x20 1. b and c are joined by reduce. With that b and d would be joined too.\n\
                     \x20 2. b takes the return close over a to e; d, which can be above a too, has no return close over a.\n\
                     In a map that joins c and d their moves would match:\n\
                     \x20 pan: c goes to c, d to d; these are joined.\n";
@@ -235,10 +238,10 @@ fn cases_in_words() {
 fn what_no_chain_shows() {
     let bytes = example("t");
     let names = Names::numbered(&samples::table(&bytes));
-    let asked = decide::Asked::new(Limits::STANDARD, &bytes, &names).expect("a readable table");
+    let asked = decide::Asked::new(Limits::STANDARD, &bytes, &names, BUDGET, Of::Reduce).expect("a readable table");
     assert!(text::cases(&asked, (0, 1), &[]).starts_with("q0 and q1 can not be joined: the search has tried every way and found none."));
     let names = Names::numbered(&samples::table(&example("spent-24")));
-    let spent = why(Limits::STANDARD, &example("spent-24"), &names, 4, 9).expect("a readable table");
+    let spent = why(Limits::STANDARD, &example("spent-24"), &names, (4, 9), BUDGET, Of::Reduce).expect("a readable table");
     assert!(
         !spent.joined && spent.chains.is_empty() && spent.text.contains("the guesses were spent before the search came to them"),
         "{}",
@@ -248,7 +251,7 @@ fn what_no_chain_shows() {
 
 #[test]
 fn refusals_are_handed_on() {
-    assert_eq!(why(Limits::STANDARD, &example("damaged"), &Names::default(), 0, 1), Err(Refusal::Order));
+    assert_eq!(why(Limits::STANDARD, &example("damaged"), &Names::default(), (0, 1), BUDGET, Of::Reduce), Err(Refusal::Order));
 }
 
 /// How many moves tell two states apart in a table of internals without choice: one more than to where one has a move, or accepts, and the other does not.
@@ -281,7 +284,7 @@ fn chains_are_short() {
         table.internals.dedup_by_key(|record| [record[0], record[1]]);
         let far = distances(&table);
         for (p, q) in (0..9u8).flat_map(|q| (0..q).map(move |p| (p, q))) {
-            let answer = why(Limits::STANDARD, &table.to_bytes(), &Names::numbered(&table), p, q).expect("a readable table");
+            let answer = why(Limits::STANDARD, &table.to_bytes(), &Names::numbered(&table), (p, q), BUDGET, Of::Reduce).expect("a readable table");
             let [chain] = &answer.chains[..] else { continue };
             let direct = chain.steps.iter().all(|(clause, _)| clause.len() < 3);
             let shortest = far[usize::from(p)][usize::from(q)];

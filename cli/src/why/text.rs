@@ -7,7 +7,7 @@ use std::collections::HashMap;
 
 /// That two states are one in the reduced table.
 pub fn joined(asked: &Asked, p: u8, q: u8) -> String {
-    format!("{} and {} are joined. Their moves match:\n", asked.names.state(p), asked.names.state(q))
+    format!("{} and {} are joined by {}. Their moves match:\n", asked.names.state(p), asked.names.state(q), asked.who)
 }
 
 /// That two states can not be joined, by one chain.
@@ -41,20 +41,21 @@ pub fn cases(asked: &Asked, (p, q): (u8, u8), chains: &[Chain]) -> String {
 pub fn open(asked: &Asked, p: u8, q: u8) -> String {
     let [first, second] = [p, q].map(|q| asked.names.state(q));
     format!(
-        "{first} and {second} are not joined in the delivered map. Whether they could be is open: no chain was found that forbids it, and {} guesses did not \
-         decide it.\n",
-        super::BUDGET
+        "{first} and {second} are not joined by {}. Whether they could be is open: no chain was found that forbids it, and {} guesses did not decide \
+         it.\n",
+        asked.who, asked.budget
     )
 }
 
-/// That two states could be joined, and why the delivered map does not.
-pub fn alone(asked: &Asked, (p, q): (u8, u8), chain: Option<&Chain>, spent: bool) -> String {
+/// That two states could be joined, and why the map does not.
+pub fn alone(asked: &Asked, (p, q): (u8, u8), chain: Option<&Chain>, spent: bool, beside: bool) -> String {
     let [first, second] = [p, q].map(|q| asked.names.state(q));
-    let head = format!("{first} and {second} could be joined, but the delivered map joins others in their place");
+    let head = format!("{first} and {second} could be joined, but {} joins others in their place", asked.who);
     let why = match chain {
         Some(chain) => {
-            Telling::new(asked, (p, q), " in the delivered map").tell(format!("{head}. With those joined and these two as well:\n"), chain)
+            Telling::new(asked, (p, q), &format!(" by {}", asked.who)).tell(format!("{head}. With those joined and these two as well:\n"), chain)
         }
+        None if beside && !spent => format!("{first} and {second} could be joined beside all that {} joins.\n", asked.who),
         None if spent => format!("{first} and {second} could be joined, but the guesses were spent before the search came to them.\n"),
         None => format!("{head}: the search has found no way to join all of them, though no single chain shows it.\n"),
     };
@@ -68,7 +69,7 @@ const SUPPOSED: &str = ", as supposed";
 struct Telling<'a> {
     asked: &'a Asked<'a>,
     main: (u8, u8),
-    assumed: &'static str,
+    assumed: String,
     text: String,
     number: usize,
     told: HashMap<u16, usize>,
@@ -76,8 +77,8 @@ struct Telling<'a> {
 
 impl<'a> Telling<'a> {
     /// Nothing told yet; what is said of pairs that are assumed to be joined, beside the one that is asked for.
-    fn new(asked: &'a Asked<'a>, (p, q): (u8, u8), assumed: &'static str) -> Telling<'a> {
-        Telling { asked, main: (p.min(q), p.max(q)), assumed, text: String::new(), number: 0, told: HashMap::new() }
+    fn new(asked: &'a Asked<'a>, (p, q): (u8, u8), assumed: &str) -> Telling<'a> {
+        Telling { asked, main: (p.min(q), p.max(q)), assumed: assumed.into(), text: String::new(), number: 0, told: HashMap::new() }
     }
 
     /// The text so far and the whole chain behind it: what would be joined, in order, then what can not be.
@@ -153,7 +154,7 @@ impl<'a> Telling<'a> {
         match self.told.get(&literal) {
             Some(step) => format!(" by step {step}"),
             None if pair(literal / 2) == self.main => SUPPOSED.into(),
-            None => self.assumed.into(),
+            None => self.assumed.clone(),
         }
     }
 

@@ -1,0 +1,60 @@
+//! `compare`: two tables, both ways.
+
+use crate::arguments::{Call, Command, NAMES};
+use crate::compared::{Compared, Fit, alone};
+use crate::ends::{Outcome, Status, say};
+use crate::progress::Progress;
+use basilvault::Refusal;
+
+pub const COMMAND: Command = Command {
+    name: "compare",
+    summary: "compare two tables both ways: which scripts one of them alone accepts",
+    usage: "FIRST SECOND",
+    help: "\
+Asks both ways whether every script of one table is accepted by the other. The first line is `equal`, with status 0, or `the first fits`, `the second fits` or `neither`, with
+status 1; then a line for each table that alone accepts a script, with a shortest one. A table with a choice (38) cannot be fitted into: then a line says which way is not told,
+and the status is 2. Symbols are matched as by `fit`.
+
+Example:
+
+    basilvault compare tables/t.txt tables/atlas.txt
+",
+    least: 2,
+    most: 2,
+    choices: &[NAMES],
+    run,
+};
+
+/// Compares the tables.
+fn run(call: &Call) -> Outcome {
+    let compared = Compared::of(call)?;
+    let progress = Progress::start("compare", 1);
+    let both = [compared.fit(false), compared.fit(true)];
+    drop(progress);
+    // symbols that differ do so both ways
+    if let [Fit::Refused(refusal), _] = both
+        && refusal != Refusal::Choice
+    {
+        return Err(compared.second.refused(refusal));
+    }
+    let head = match &both {
+        [Fit::Yes, Fit::Yes] => "equal",
+        [Fit::Yes, _] => "the first fits",
+        [_, Fit::Yes] => "the second fits",
+        [Fit::No(_), Fit::No(_)] => "neither",
+        _ => "not told",
+    };
+    let mut said = format!("{head}\n");
+    let mut status = if head == "equal" { Status::Done } else { Status::No };
+    for (fit, (which, into)) in both.iter().zip([("the first", &compared.second), ("the second", &compared.first)]) {
+        match fit {
+            Fit::Yes => {}
+            Fit::No(script) => said += &format!("{}\n", alone(which, script)),
+            Fit::Refused(_) => {
+                said += &format!("whether {which} fits is not told: {} has a choice\n", into.file.display());
+                status = Status::Refused;
+            }
+        }
+    }
+    say(said.as_bytes()).map(|()| status)
+}

@@ -1,0 +1,128 @@
+//! Two tables that are compared: their symbols matched by name where both have names, else by place.
+
+use crate::apart::{self, Found};
+use crate::arguments::{Call, NAMES};
+use crate::ends::{Failure, note};
+use crate::lent::Lent;
+use crate::model::{Kind, Table};
+use crate::names::Names;
+use basilvault::{Limits, Refusal};
+
+/// Two tables with one numbering of their symbols.
+pub struct Compared {
+    pub first: Lent,
+    pub second: Lent,
+    tables: [Table; 2],
+    names: Names,
+}
+
+/// Whether one table fits in the other.
+pub enum Fit {
+    Yes,
+    /// No, with a script that tells the two apart, by its symbols' names, where one can be tried.
+    No(Option<String>),
+    /// The library refuses to say.
+    Refused(Refusal),
+}
+
+impl Compared {
+    /// The tables that a call names, read at the limits of the comparison.
+    pub fn of(call: &Call) -> Result<Compared, Failure> {
+        let limits = Limits::STANDARD;
+        let [first, second] = [0, 1].map(|place| Lent::of(limits, call.file(place)));
+        let (first, second) = (first?, second?);
+        let (table, names) = first.named_symbols(limits, call).map_err(smaller)?;
+        let mut other = Table::from_bytes(limits, &second.bytes).map_err(|refusal| smaller(second.refused(refusal)))?;
+        let named = [first.own_names().is_some() || call.has(NAMES.name), second.own_names().is_some()];
+        match (named, second.own_names()) {
+            ([true, true], Some(others)) => other = renumbered((&first, &table, &names), (&second, &other, others))?,
+            ([true, false] | [false, true], _) => {
+                let without = if named[0] { &second } else { &first };
+                note(&format!("basilvault: {} has no names: symbols are compared by their places", without.file.display()));
+            }
+            _ => {}
+        }
+        Ok(Compared { first, second, tables: [table, other], names })
+    }
+
+    /// Whether the first fits in the second or, turned, the second in the first.
+    pub fn fit(&self, turned: bool) -> Fit {
+        let [one, other] = if turned { [&self.tables[1], &self.tables[0]] } else { [&self.tables[0], &self.tables[1]] };
+        let [bytes, others] = [one, other].map(Table::to_bytes);
+        match basilvault::fit(&bytes, &others) {
+            Err(refusal) => Fit::Refused(refusal),
+            Ok(true) => Fit::Yes,
+            Ok(false) => match apart::script(one, other) {
+                // the library has the last word on a script that is printed
+                Found::Script(script) if basilvault::script(&bytes, &script) == Ok(true) && basilvault::script(&others, &script) == Ok(false) => {
+                    let words: Vec<_> = script.iter().map(|&symbol| self.names.symbol(symbol)).collect();
+                    Fit::No(Some(words.join(" ")))
+                }
+                _ => Fit::No(None),
+            },
+        }
+    }
+}
+
+/// What is said of a script that one table alone accepts.
+pub fn alone(which: &str, script: &Option<String>) -> String {
+    match script.as_deref() {
+        Some("") => format!("{which} alone accepts the empty script"),
+        Some(script) => format!("{which} alone accepts: {script}"),
+        None => format!("{which} alone accepts scripts, but with more calls open, or longer, than can be tried"),
+    }
+}
+
+/// The failure of a table that is too large to be compared says what helps.
+fn smaller(failure: Failure) -> Failure {
+    match failure {
+        Failure::Refused(what, refusal @ Refusal::Count, values) => {
+            let Limits { states, symbols } = Limits::STANDARD;
+            let help = format!("{values}: tables of at most {states} states and {symbols} symbols can be compared; reduce both first");
+            Failure::Refused(what, refusal, help)
+        }
+        other => other,
+    }
+}
+
+/// The second table with its symbols in the order of the first's, by their names.
+fn renumbered((first, table, names): (&Lent, &Table, &Names), (second, other, others): (&Lent, &Table, &Names)) -> Result<Table, Failure> {
+    let place = |name: &str, names: &Names| names.symbols.iter().position(|symbol| symbol == name);
+    let fault = |text: String| Failure::Mistaken(vec![format!("basilvault: {text}")]);
+    for (own, lent, missing, there) in [(names, first, second, others), (others, second, first, names)] {
+        if let Some(name) = own.symbols.iter().find(|name| place(name, there).is_none()) {
+            return Err(fault(format!("{} has the symbol {name}, and {} has none of that name", lent.file.display(), missing.file.display())));
+        }
+    }
+    let mut numbers = vec![0; others.symbols.len()];
+    for (number, name) in others.symbols.iter().enumerate() {
+        let to = place(name, names).unwrap_or_default();
+        let [here, there] = [table.symbols[to], other.symbols[number]];
+        if here != there {
+            let [here, there] = [here, there].map(kind);
+            return Err(fault(format!("{name} is {here} in {}, and {there} in {}", first.file.display(), second.file.display())));
+        }
+        numbers[number] = to as u8;
+    }
+    let moved = |&[state, symbol, target]: &[u8; 3]| [state, numbers[usize::from(symbol)], target];
+    let mut renumbered = Table {
+        symbols: table.symbols.clone(),
+        internals: other.internals.iter().map(moved).collect(),
+        calls: other.calls.iter().map(moved).collect(),
+        returns: other.returns.iter().map(|&[state, symbol, stack, target]| [state, numbers[usize::from(symbol)], stack, target]).collect(),
+        ..other.clone()
+    };
+    renumbered.internals.sort_unstable();
+    renumbered.calls.sort_unstable();
+    renumbered.returns.sort_unstable();
+    Ok(renumbered)
+}
+
+/// A symbol's kind in words.
+fn kind(kind: Kind) -> &'static str {
+    match kind {
+        Kind::Internal => "an internal",
+        Kind::Call => "a call",
+        Kind::Return => "a return",
+    }
+}
