@@ -5,9 +5,6 @@ ghost use Prim.Native.Nat.{_+_, _≤_};
 ghost use lib.ListN.{length, take};
 ghost use Rattle.io.specs.Counts.{Counts};
 ghost use Rattle.printed.specs.Program.{widest};
-ghost use Rattle.format.specs.File.{tableOf};
-ghost use Rattle.format.specs.Reading.{Readable};
-ghost use Rattle.format.specs.Language.{count};
 ghost use Rattle.relations.specs.Check.{checkNumber};
 ghost use Rattle.printed.specs.Text.{goingText, printed};
 ghost use Rattle.printed.specs.Lines.{Put};
@@ -34,13 +31,6 @@ fn widest() -> Limits
     }
 }
 
-// How many states a table has that reduce did not refuse.
-fn state_count(table: &[u8]) -> usize
-    ensures { λ r. ⌜ (r ≤ 40) × (Readable widest (now (table .entry)) → r ≡ count (tableOf (now (table .entry)))) ⌝ }
-{
-    reduce::state_count(widest(), table)
-}
-
 // Where the records of a table went under a map that the check accepts.
 fn put_going(table: &[u8], map: &[u8], text: &mut [u8], at: usize) -> usize
     requires { ⌜ (checkNumber widest (now table) (now map) ≡ 0) × (at + 120 ≤ length (now text)) ⌝ }
@@ -65,10 +55,11 @@ fn reduce_lent(table: &[u8], text: &mut [u8]) -> usize
     ensures { λ r. ⌜ take r (now (text .exit)) ≡ printed (now (table .entry)) ⌝ }
     ensures there { λ r. ⌜ Counts r (now (text .exit)) ⌝ }
 {
+    let limits = widest();
     let mut list = [0u16; 32768];
     let mut map = [0u8; 40];
     let mut out = [0u8; 22644];
-    let answer = reduce::reduce_within(widest(), table, 100000, &mut list, &mut map, &mut out);
+    let answer = reduce::reduce_within(limits, table, 100000, &mut list, &mut map, &mut out);
     match answer {
         Reduction::Delivered {
             classes,
@@ -79,7 +70,7 @@ fn reduce_lent(table: &[u8], text: &mut [u8]) -> usize
             ceiling,
             spent,
         } => {
-            let n = state_count(table);
+            let n = reduce::state_count(limits, table);
             let mut at = put_counts(n, classes, guesses, words, joined, ceiling, spent, text);
             at = put_map(&map[..n], text, at);
             at = put_table(&out[..length], text, at);

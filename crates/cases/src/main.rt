@@ -21,7 +21,11 @@
 //
 // A line is the name, the refusal's number or 0, the answer's values and, each behind a bar, the buffers at exit, which are filled with 7
 // beforehand. Choose prints which map it is, 1 or 2, or 0 with a refusal, and behind the bar the map that is handed back.
+ghost use mathlib.Core.Path.{_≡_};
 ghost use Prim.Native.Nat.{_<_};
+ghost use lib.ListN.{length, take};
+ghost use Rattle.lists.specs.Lists.{over};
+ghost use Rattle.cases.specs.Numbers.{wordAt, doubleAt, longAt, wordsIn, longsIn};
 use casts::long;
 use choices::Which;
 use libc::STDIN_FILENO;
@@ -67,7 +71,9 @@ fn say_bytes(bytes: &[u8]) {
 }
 
 // A word as a number that can be printed.
-fn of_word(x: u16) -> u64 {
+fn of_word(x: u16) -> u64
+    ensures { λ r. ⌜ r ≡ x ⌝ }
+{
     x as u64
 }
 
@@ -83,7 +89,7 @@ fn say_words(words: &[u16]) {
 
 // The 16-bit number at a place, 0 past the end.
 fn word_at(bytes: &[u8], at: usize) -> usize
-    ensures { λ r. ⌜ r < 65536 ⌝ }
+    ensures { λ r. ⌜ (r ≡ wordAt (now (bytes .entry)) at) × (r < 65536) ⌝ }
 {
     if bytes.len() < 2 {
         return 0;
@@ -97,6 +103,7 @@ fn word_at(bytes: &[u8], at: usize) -> usize
 // The 32-bit number at a place.
 fn double_at(bytes: &[u8], at: usize) -> u32
     requires { ⌜ at < 256 ⌝ }
+    ensures { λ r. ⌜ r ≡ doubleAt (now (bytes .entry)) at ⌝ }
 {
     word_at(bytes, at) as u32 + 65536 * word_at(bytes, at + 2) as u32
 }
@@ -104,12 +111,15 @@ fn double_at(bytes: &[u8], at: usize) -> u32
 // The 64-bit number at a place.
 fn long_at(bytes: &[u8], at: usize) -> u64
     requires { ⌜ at < 128 ⌝ }
+    ensures { λ r. ⌜ r ≡ longAt (now (bytes .entry)) at ⌝ }
 {
     double_at(bytes, at) as u64 + 4294967296 * double_at(bytes, at + 4) as u64
 }
 
 // As many bytes of a space as the number at a place says, or all.
-fn bytes_of<'a>(space: &'a mut [u8], numbers: &[u8], at: usize) -> &'a mut [u8] {
+fn bytes_of<'a>(space: &'a mut [u8], numbers: &[u8], at: usize) -> &'a mut [u8]
+    ensures { λ r. ⌜ now r ≡ take (wordAt (now (numbers .entry)) at) (now (space .entry)) ⌝ }
+{
     let n = word_at(numbers, at);
     if space.len() < n {
         return space;
@@ -118,7 +128,9 @@ fn bytes_of<'a>(space: &'a mut [u8], numbers: &[u8], at: usize) -> &'a mut [u8] 
 }
 
 // As many words of a space as the number at a place says, or all.
-fn words_of<'a>(space: &'a mut [u16], numbers: &[u8], at: usize) -> &'a mut [u16] {
+fn words_of<'a>(space: &'a mut [u16], numbers: &[u8], at: usize) -> &'a mut [u16]
+    ensures { λ r. ⌜ now r ≡ take (wordAt (now (numbers .entry)) at) (now (space .entry)) ⌝ }
+{
     let n = word_at(numbers, at);
     if space.len() < n {
         return space;
@@ -153,7 +165,9 @@ fn say_clauses(limits: Limits, table: &[u8], case: &[u8]) {
 }
 
 // Fills a list with words from their bytes.
-fn fill(list: &mut [u16], bytes: &[u8]) {
+fn fill(list: &mut [u16], bytes: &[u8])
+    ensures { λ _. ⌜ now (list .exit) ≡ over (take (length (now (list .entry))) (wordsIn (now (bytes .entry)))) (now (list .entry)) ⌝ }
+{
     let mut i: usize = 0;
     'words: while i < list.len() {
         if bytes.len() / 2 <= i {
@@ -244,7 +258,9 @@ fn say_uses(limits: Limits, map: &[u8], lines: &[u8], table: &[u8]) {
 }
 
 // The lengths of 16 tables, from their bytes.
-fn lengths_from(bytes: &[u8]) -> [u64; 16] {
+fn lengths_from(bytes: &[u8]) -> [u64; 16]
+    ensures { λ r. ⌜ r ≡ longsIn 16 (now (bytes .entry)) ⌝ }
+{
     let mut lengths = [0u64; 16];
     let mut i: usize = 0;
     'lengths: while i < 16 {

@@ -6,13 +6,14 @@ use Prim.Native.Nat.{ℕ, _+_, _/_, _<_, _≤_}
 use native.Mathlib.Numerals.{add-one}
 use native.Mathlib.Omega.{arith}
 use lib.ListN.{length, getD, set, take, drop, length-append, length-map, length-set, drop-of-length-le}
-use lib.Seq.{drop-cons, take-suc-set, append-snoc, length-take-le}
-use borrow.Author.Tests.{le-leb, lt-leb}
+use lib.Seq.{drop-cons, take-all, take-at, take-suc-set, append-snoc, length-take-le}
+use borrow.Author.Tests.{le-leb, lt-leb, leb-true}
 use Rattle.keyed.specs.Keys.{key}
-use Rattle.writing.specs.Keys.{keysOf}
+use Rattle.writing.specs.Keys.{keysOf, Holds}
 use Rattle.loads.specs.Loads.{draw, present, after}
 use Rattle.loads.proofs.Present.{present-in, present-out}
 use Rattle.draws.specs.Draws.{recordAt, Draws}
+use Rattle.draws.specs.declared.Drawn.{Drawn}
 
 -- ---- the walk that collects the keys
 
@@ -60,22 +61,25 @@ module _ {d s₀ : ℕ} {rs : List (List ℕ)} {room : ℕ} {keys : List ℕ} {s
       }
 
       -- one more than there is room for
-      pub over-full : count ≡ length keys → Draws d s₀ rs room (record { fits = false; count = count; s = t }) keys
+      pub over-full : count ≡ length keys → Draws d s₀ rs room (record { fits = false; count = count; s = s₀ }) keys
       over-full l = record {
         fits = sym (lt-leb (length (present d s₀ rs)) room (omega (arith, sym (length-map (present d s₀ rs) key) ∙ ap length there ∙ length-append (take count keys) (recordAt rs next ∷ keysOf (present d t (drop (next + 1) rs))), length-take-le count keys (w .few), w .same-room)));
-        holds = λ f. absurd (no f);
-        last = λ f. absurd (no f);
+        holds = record { count = sym (ap length first ∙ long); same = sym first };
+        last = refl;
       }
         where
-          no : false ≡ true → ⊥
-          no f = let z : _≡_ {A = ℕ} 0 1 = ap (λ b. elim b [ true ↦ 1 | false ↦ 0 ]) f in omega (arith, z)
+          long : length (take count keys) ≡ count
+          long = length-take-le count keys (w .few)
+
+          first : take room (keysOf (present d s₀ rs)) ≡ take count keys
+          first = ap (take room) there ∙ take-at (take count keys) (recordAt rs next ∷ keysOf (present d t (drop (next + 1) rs))) room (long ∙ l ∙ w .same-room)
 
   pub all-drawn : length rs ≤ next → Draws d s₀ rs room (record { fits = true; count = count; s = s }) keys
   unfolding present after
   all-drawn h = record {
     fits = sym (le-leb (length (present d s₀ rs)) room (omega (arith, counted, length-map (present d s₀ rs) key, w .same-room, w .few)));
-    holds = λ f. record { count = counted; same = sym listed };
-    last = λ f. sym (w .seeded ∙ ap (after s) done);
+    holds = record { count = counted ∙ ap length (sym all); same = sym (all ∙ listed) };
+    last = sym (w .seeded ∙ ap (after s) done);
   }
     where
       done : drop next rs ≡ []
@@ -86,3 +90,18 @@ module _ {d s₀ : ℕ} {rs : List (List ℕ)} {room : ℕ} {keys : List ℕ} {s
 
       counted : count ≡ length (keysOf (present d s₀ rs))
       counted = sym (ap length listed ∙ length-take-le count keys (w .few))
+
+      all : take room (keysOf (present d s₀ rs)) ≡ keysOf (present d s₀ rs)
+      all = take-all room (keysOf (present d s₀ rs)) (omega (arith, counted, w .few, w .same-room))
+
+-- ---- where all that are present have room
+
+module _ {d s room : ℕ} {rs : List (List ℕ)} {r : Drawn} {keys : List ℕ} (w : Draws d s rs room r keys) (f : r .fits ≡ true) where
+  pub held-few : length (present d s rs) ≤ room
+  held-few = leb-true (length (present d s rs)) room (sym (w .fits) ∙ f)
+
+  pub held-all : Holds keys (r .count) (keysOf (present d s rs))
+  held-all = subst (Holds keys (r .count)) (take-all room (keysOf (present d s rs)) (omega (arith, held-few, length-map (present d s rs) key))) (w .holds)
+
+  pub last-drawn : r .s ≡ after s rs
+  last-drawn = w .last ∙ rw f

@@ -1,10 +1,10 @@
 -- What the functions of src/ are stated with: the possible records of a section by number, and what the draws for them give. Assumes nothing.
 use mathlib.Core.Path.{_≡_}
 use mathlib.Core.Logic.{_⊎_}
-use mathlib.Core.Bool.{true}
+use mathlib.Core.Bool.{true, false}
 use mathlib.Core.List.{List, []}
 use Prim.Native.Nat.{ℕ, _+_, _-_, _≤_}
-use lib.ListN.{length, getD, replicate}
+use lib.ListN.{length, getD, take, replicate}
 use lib.Dec.{leb}
 use Rattle.lists.specs.Lists.{upto}
 use Rattle.limits.specs.Limits.{stateMost, symbolMost}
@@ -27,8 +27,9 @@ tails w n = length (tuples (replicate (w - 2) (upto n)))
 unfoldable pub recordAt : List (List ℕ) → ℕ → ℕ
 recordAt rs i = key (getD rs i [])
 
--- what the draws for records give, from s on, with room for so many
+-- what the draws for records give, from s on, with room for so many: the keys of the first records present, as many as there is room for, and the
+-- last s, or the first where the records do not fit
 pub record Draws (density s : ℕ) (rs : List (List ℕ)) (room : ℕ) (r : Drawn) (keys : List ℕ) : Type 0 where
   pub fits : r .fits ≡ leb (length (present density s rs)) room
-  pub holds : r .fits ≡ true → Holds keys (r .count) (keysOf (present density s rs))
-  pub last : r .fits ≡ true → r .s ≡ after s rs
+  pub holds : Holds keys (r .count) (take room (keysOf (present density s rs)))
+  pub last : r .s ≡ (elim (r .fits) [ true ↦ after s rs | false ↦ s ])

@@ -5,7 +5,7 @@ ghost use lib.ListN.{length};
 ghost use Rattle.loads.specs.Loads.{draw, possible};
 ghost use Rattle.draws.specs.Draws.{Shape, tails, recordAt, Draws};
 
-// What the draws of a section give: whether the records present fit, how many they are, and the last s.
+// What the draws of a section give: whether the records present fit, how many of them have room, and the last s, or the first where they do not fit.
 pub struct Drawn {
     pub fits: bool,
     pub count: usize,
@@ -82,7 +82,7 @@ pub fn collect(
             return Drawn {
                 fits: false,
                 count,
-                s,
+                s: seed,
             };
         }
         keys[count] = key_at(width, states, from, symbols, at);

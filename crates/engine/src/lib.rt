@@ -9,6 +9,7 @@ ghost use Rattle.pairs.specs.Entries.{PairTable};
 ghost use Rattle.rows.specs.Conclusions.{withTriangles};
 ghost use Rattle.rows.specs.Rows.{Rows};
 ghost use Rattle.engine.specs.Room.{WordRoom};
+ghost use Rattle.engine.specs.Worth.{worthLightening};
 ghost use Rattle.turning.specs.Turns.{noneSet, Fresh, Begun, Rested, EndsWith};
 use lightening::lighten;
 use lightening::lighten_all;
@@ -201,7 +202,9 @@ fn turns_any(
 }
 
 // Whether what is left of a list at rest is looked for: where it is too long to be indexed, or not short and half of the variables are set.
-fn worth_lightening(words: usize, set: usize, variables: usize) -> bool {
+fn worth_lightening(words: usize, set: usize, variables: usize) -> bool
+    ensures { λ r. ⌜ r ≡ worthLightening words set variables ⌝ }
+{
     if words <= 4096 {
         return false;
     }

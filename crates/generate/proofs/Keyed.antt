@@ -20,6 +20,7 @@ use Rattle.writing.specs.Tables.{keyedTable, writtenFor}
 use Rattle.writing.proofs.Keys.{Same, keys-back}
 use Rattle.loads.specs.Loads.{Load, symbolBytes, stateBytes, possible, present, possibleInternals, possibleCalls, possibleReturns, seedCalls, seedReturns, described, describedBytes, recordsFew}
 use Rattle.draws.specs.Draws.{Draws}
+use Rattle.draws.proofs.Drawing.{held-few, held-all, last-drawn}
 use Rattle.draws.specs.declared.Drawn.{Drawn}
 use Rattle.generate.specs.Counts.{Counts, FewKeys, drawnFor}
 use Rattle.loads.proofs.Tuples.{Possible, possible-of}
@@ -46,7 +47,7 @@ present-back w n from k d s l m h z = keys-back w l (present d s (possible w n f
 
 -- as many keys as there is room for
 pub held : {d s room : ℕ} {rs : List (List ℕ)} {r : Drawn} {keys : List ℕ} → Draws d s rs room r keys → r .fits ≡ true → r .count ≤ room
-held {d} {s} {room} {rs} {r} w f = omega (arith, w .holds f .count, length-map (present d s rs) key, leb-true (length (present d s rs)) room (sym (w .fits) ∙ f))
+held {d} {s} {room} {rs} {r} w f = omega (arith, held-all w f .count, length-map (present d s rs) key, held-few w f)
 
 -- ---- 36, kind by kind
 
@@ -87,7 +88,7 @@ module _ (g : Load) (out : List ℕ) where
     module _ (f1 : r1 .fits ≡ true) {r2 : Drawn} {k2 : List ℕ} (d2 : Draws (g .density) (r1 .s) (possible 3 (g .states) (g .internals) (g .calls)) 1024 r2 k2) where
       calls-drawn : Draws (g .density) (seedCalls g) (possibleCalls g) 1024 r2 k2
       unfolding seedCalls possibleInternals possibleCalls
-      calls-drawn = subst (λ (s : ℕ). Draws (g .density) s (possibleCalls g) 1024 r2 k2) (d1 .last f1) d2
+      calls-drawn = subst (λ (s : ℕ). Draws (g .density) s (possibleCalls g) 1024 r2 k2) (last-drawn d1 f1) d2
 
       pub calls-many : r2 .fits ≡ false → refused ≡ drawnFor g out
       unfolding recordsFew described
@@ -96,7 +97,7 @@ module _ (g : Load) (out : List ℕ) where
       module _ (f2 : r2 .fits ≡ true) {r3 : Drawn} {k3 : List ℕ} (d3 : Draws (g .density) (r2 .s) (possible 4 (g .states) (g .internals + g .calls) (g .returns)) 4096 r3 k3) where
         returns-drawn : Draws (g .density) (seedReturns g) (possibleReturns g) 4096 r3 k3
         unfolding seedReturns possibleReturns
-        returns-drawn = subst (λ (s : ℕ). Draws (g .density) s (possibleReturns g) 4096 r3 k3) (calls-drawn .last f2) d3
+        returns-drawn = subst (λ (s : ℕ). Draws (g .density) s (possibleReturns g) 4096 r3 k3) (last-drawn calls-drawn f2) d3
 
         pub returns-many : r3 .fits ≡ false → refused ≡ drawnFor g out
         unfolding recordsFew described
@@ -104,13 +105,13 @@ module _ (g : Load) (out : List ℕ) where
 
         module _ (f3 : r3 .fits ≡ true) where
           abbrev i : Holds k1 (r1 .count) (keysOf (present (g .density) (g .seed) (possible 3 (g .states) 0 (g .internals))))
-          i = d1 .holds f1
+          i = held-all d1 f1
 
           abbrev c : Holds k2 (r2 .count) (keysOf (present (g .density) (seedCalls g) (possibleCalls g)))
-          c = calls-drawn .holds f2
+          c = held-all calls-drawn f2
 
           abbrev r : Holds k3 (r3 .count) (keysOf (present (g .density) (seedReturns g) (possibleReturns g)))
-          r = returns-drawn .holds f3
+          r = held-all returns-drawn f3
 
           pub few-keys : FewKeys (take (r1 .count) k1) (take (r2 .count) k2) (take (r3 .count) k3)
           few-keys = record {

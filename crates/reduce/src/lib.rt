@@ -4,7 +4,6 @@ ghost use Prim.Native.Nat.{_≤_};
 ghost use lib.ListN.{length};
 ghost use Rattle.limits.specs.Limits.{standard};
 ghost use Rattle.format.specs.File.{tableOf};
-ghost use Rattle.format.specs.Reading.{Readable};
 ghost use Rattle.format.specs.Language.{count};
 ghost use Rattle.maps.specs.Known.{Known, WhereReadable};
 ghost use Rattle.encoding.specs.Clauses.{shortWords};
@@ -12,6 +11,7 @@ ghost use Rattle.encoding.specs.Maps.{mapOf};
 ghost use Rattle.reductions.specs.Reduce.{Reduced, triedOfTable, deliver, afterSearch, reduceOf, ReduceSays};
 ghost use Rattle.reductions.specs.Demands.{Promises};
 ghost use Rattle.reduce.specs.Held.{MadeBy, HeldFor, ListWritten};
+ghost use Rattle.reduce.specs.States.{statesOf};
 use encoding::Listed;
 use format::Reading;
 use format::Starts;
@@ -208,7 +208,7 @@ pub fn reduce(
 // How many states a table has that is readable at the limits; 0 where it is not.
 pub fn state_count(limits: Limits, table: &[u8]) -> usize
     ensures few { λ r. ⌜ r ≤ 40 ⌝ }
-    ensures states { λ r. ⌜ (Readable limits (now (table .entry)) → r ≡ count (tableOf (now (table .entry)))) ⌝ }
+    ensures states { λ r. ⌜ r ≡ statesOf limits (now (table .entry)) ⌝ }
 {
     let reading = table::read_within(limits, table);
     match reading {

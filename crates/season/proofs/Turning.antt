@@ -5,15 +5,15 @@ use mathlib.Core.List.{List, [], _∷_}
 use Prim.Native.Nat.{ℕ}
 use native.Mathlib.Omega.{arith}
 use Rattle.limits.specs.declared.Limits.{Limits}
-use Rattle.format.specs.File.{tableOf}
 use Rattle.format.specs.Reading.{Readable}
-use Rattle.format.specs.Language.{count}
 use Rattle.scripts.specs.Script.{yesValue}
 use Rattle.reductions.specs.Reduce.{Reduced, reduceOf}
 use Rattle.reductions.specs.declared.Reduction.{Reduction}
 use Rattle.reductions.specs.declared.Reduction.the-variants.{Delivered, Refused}
 use Rattle.reductions.proofs.Ways.{Ways, refused-first, refused-short, delivers, reduce-ways}
 use Rattle.seasons.specs.Seasons.{row, guessesIn, mapTaken, outTaken}
+use Rattle.reduce.specs.States.{statesOf}
+use Rattle.reduce.proofs.States.{readable-states}
 use Rattle.season.specs.Turns.{Turned}
 
 module _ (L : Limits) (b : List ℕ) (budget : ℕ) (list map out : List ℕ) where
@@ -27,14 +27,14 @@ module _ (L : Limits) (b : List ℕ) (budget : ℕ) (list map out : List ℕ) wh
   done = reduceOf L b budget list map out
 
   pub turn-delivered : {r : Reduction} {list' map' out' : List ℕ} {c g w l j u : ℕ} {s : Bool} {x n : ℕ}
-      → record { answer = r; list = list'; map = map'; out = out' } ≡ done → r ≡ Delivered c g w l j u s → x ≡ yesValue s → (Readable L b → n ≡ count (tableOf b))
+      → record { answer = r; list = list'; map = map'; out = out' } ≡ done → r ≡ Delivered c g w l j u s → x ≡ yesValue s → n ≡ statesOf L b
       → Turned L b budget list map out (record { row = 0 ∷ c ∷ g ∷ w ∷ l ∷ j ∷ u ∷ x ∷ []; states = n; length = l; guesses = g }) list' map' out'
   unfolding row guessesIn mapTaken outTaken
   turn-delivered {r} {list'} {map'} {out'} {c} {g} {w} {l} {j} {u} {s} {x} {n} e d hx hn =
       let f : Delivered c g w l j u s ≡ done .answer = sym d ∙ ap (λ (z : Reduced). z .answer) e in
       record {
         as-row = ap (λ (z : ℕ). 0 ∷ c ∷ g ∷ w ∷ l ∷ j ∷ u ∷ z ∷ []) hx ∙ ap row f;
-        took-map = hn (readable-ways (reduce-ways L b budget list map out) f) ∙ ap (mapTaken b) f;
+        took-map = hn ∙ sym (readable-states L b (readable-ways (reduce-ways L b budget list map out) f)) ∙ ap (mapTaken b) f;
         took-out = ap outTaken f;
         made = ap guessesIn f;
         kept-list = ap (λ (z : Reduced). z .list) e;

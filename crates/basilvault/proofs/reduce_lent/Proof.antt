@@ -8,6 +8,8 @@ use Rattle.format.specs.File.{tableOf}
 use Rattle.format.specs.Language.{count}
 use Rattle.relations.specs.Check.{checkNumber}
 use Rattle.reductions.proofs.Theorems.{delivered-fits}
+use Rattle.reduce.specs.States.{statesOf}
+use Rattle.reduce.proofs.States.{readable-states}
 use Rattle.printed.specs.Program.{widest}
 use Rattle.printed.specs.Lines.{refusedText}
 use Rattle.digits.proofs.Putting.{put-on, put-whole}
@@ -51,7 +53,8 @@ checked c =
     let c11 = c7 .before .before .before .before in
     let c14 = c11 .before .before .before in
     let b = c14 .args .table .now in
-    map-checked widest b _ (c .state-count .ensures .1) (delivered-checked widest b _ (c2 .answer .given .1) (rw (c11 .widest .ensures) at (c7 .reduce-within .ensures .1 .1 .checked)))
+    let n : c .state-count .result ≡ statesOf widest b = rw (c11 .widest .ensures) at (c .state-count .ensures .1) in
+    map-checked widest b _ (λ h. n ∙ sym (readable-states widest b h)) (delivered-checked widest b _ (c2 .answer .given .1) (rw (c11 .widest .ensures) at (c7 .reduce-within .ensures .1 .1 .checked)))
 
 put-counts-requires : tie.Need-put-counts-requires
 put-counts-requires c κs = search needs

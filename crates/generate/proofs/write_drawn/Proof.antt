@@ -4,6 +4,7 @@ use mathlib.Core.Path.{refl}
 use mathlib.Core.Logic.{inl, inr}
 use native.Mathlib.Omega.{arith}
 use Rattle.writing.proofs.Keys.{holds-long}
+use Rattle.draws.proofs.Drawing.{held-all}
 use Rattle.loads.specs.Loads.{Load, loadOf}
 use Rattle.generate.proofs.Keyed.{held, internals-many, calls-many, returns-many, few-keys, few-drawn}
 use borrow.Author.Needs.{needs}
@@ -71,7 +72,7 @@ slice-aggregate-write-keys : tie.Need-slice-aggregate-write-keys
 slice-aggregate-write-keys c =
     let c11 = c .before .before .before .before .before .before .before .before .before .before .before in
     let c14 = c11 .before .before .before in
-    holds-long (c14 .collect .ensures .holds (not-false _ (c11 .if1 .left)))
+    holds-long (held-all (c14 .collect .ensures) (not-false _ (c11 .if1 .left)))
 
 array-share-prefix-call-keys : tie.Need-array-share-prefix-call-keys
 array-share-prefix-call-keys c =
@@ -83,7 +84,7 @@ slice-aggregate-write-keys-2 : tie.Need-slice-aggregate-write-keys-2
 slice-aggregate-write-keys-2 c =
     let c7 = c .before .before .before .before .before .before .before in
     let c10 = c7 .before .before .before in
-    holds-long (c10 .collect2 .ensures .holds (not-false _ (c7 .if2 .left)))
+    holds-long (held-all (c10 .collect2 .ensures) (not-false _ (c7 .if2 .left)))
 
 array-share-prefix-return-keys : tie.Need-array-share-prefix-return-keys
 array-share-prefix-return-keys c = omega (arith, held (c .before .before .before .before .before .collect3 .ensures) (not-false _ (c .before .before .if3 .left)))
@@ -92,7 +93,7 @@ slice-aggregate-write-keys-3 : tie.Need-slice-aggregate-write-keys-3
 slice-aggregate-write-keys-3 c =
     let c3 = c .before .before .before in
     let c6 = c3 .before .before .before in
-    holds-long (c6 .collect3 .ensures .holds (not-false _ (c3 .if3 .left)))
+    holds-long (held-all (c6 .collect3 .ensures) (not-false _ (c3 .if3 .left)))
 
 write-keys-requires : tie.Need-write-keys-requires
 write-keys-requires c κs =

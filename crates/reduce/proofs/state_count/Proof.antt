@@ -4,6 +4,7 @@ use mathlib.Core.Path.{sym, _∙_}
 use native.Mathlib.Omega.{arith}
 use Rattle.view.proofs.Handed.{read-as, read-refused}
 use Rattle.reduce.proofs.Stages.{states-count, states-few}
+use Rattle.reduce.proofs.States.{readable-states, unread-states}
 use Rattle.reduce.proofs.state_count.Statement.{statement}
 use Rattle.reduce.proofs.state_count.Tie as tie
 
@@ -23,12 +24,12 @@ returns : tie.Need-returns
 returns c =
     let h = read-as _ _ _ (sym (c .before .before .before .before .read-within .ensures .0) ∙ c .before .before .reading .given .1) in
     let e = states-count h (c .part .ensures) in
-    (omega (arith, e, states-few _ _ (h .readable)), λ _. e)
+    (omega (arith, e, states-few _ _ (h .readable)), e ∙ readable-states _ _ (h .readable))
 
 returns-2 : tie.Need-returns-2
 returns-2 c =
     let r = read-refused _ _ _ (sym (c .before .before .read-within .ensures .0) ∙ c .enum-told .given .1) in
-    (omega arith, λ e. absurd (r .1 (sym (r .0) ∙ e)))
+    (omega arith, unread-states _ _ (r .0) (r .1))
 
 pub state-count-spec : {M : Type 1} → statement M
 state-count-spec =
