@@ -10,7 +10,7 @@ use lib.ListN.{length, getD, take, drop, replicate, length-append, length-drop, 
 use lib.Seq.{paste, drop-cons, drop-drop, take-all, take-append-add, drop-append-add, length-take-le, length-paste, take-paste, drop-paste}
 use Rattle.lists.specs.Lists.{gather, over, sum}
 use Rattle.limits.specs.declared.Limits.{Limits}
-use Rattle.reductions.specs.Reduce.{Reduced, reduceOf}
+use Rattle.reductions.specs.Reduce.{Reduced, reduceOf, reductionValues}
 use Rattle.reductions.specs.declared.Reduction.{Reduction}
 use Rattle.reductions.specs.declared.Reduction.the-variants.{Delivered, Refused}
 use Rattle.seasons.specs.Seasons.{row, guessesIn, mapTaken, outTaken, Reductions, reductionsFrom, lengthsFit}
@@ -22,7 +22,7 @@ use Rattle.lengths.proofs.Lengths.{fitting, sum-next}
 -- ---- a row among the values
 
 row-long : (r : Reduction) → length (row r) ≡ 8
-unfolding row
+unfolding over row reductionValues
 row-long (Delivered c g w l j u s) = refl
 row-long (Refused k) = refl
 

@@ -7,7 +7,8 @@ use native.Mathlib.Omega.{arith}
 use Rattle.limits.specs.declared.Limits.{Limits}
 use Rattle.format.specs.Reading.{Readable}
 use Rattle.scripts.specs.Script.{yesValue}
-use Rattle.reductions.specs.Reduce.{Reduced, reduceOf}
+use Rattle.lists.specs.Lists.{over}
+use Rattle.reductions.specs.Reduce.{Reduced, reduceOf, reductionNumber, reductionValues}
 use Rattle.reductions.specs.declared.Reduction.{Reduction}
 use Rattle.reductions.specs.declared.Reduction.the-variants.{Delivered, Refused}
 use Rattle.reductions.proofs.Ways.{Ways, refused-first, refused-short, delivers, reduce-ways}
@@ -29,7 +30,7 @@ module _ (L : Limits) (b : List ℕ) (budget : ℕ) (list map out : List ℕ) wh
   pub turn-delivered : {r : Reduction} {list' map' out' : List ℕ} {c g w l j u : ℕ} {s : Bool} {x n : ℕ}
       → record { answer = r; list = list'; map = map'; out = out' } ≡ done → r ≡ Delivered c g w l j u s → x ≡ yesValue s → n ≡ statesOf L b
       → Turned L b budget list map out (record { row = 0 ∷ c ∷ g ∷ w ∷ l ∷ j ∷ u ∷ x ∷ []; states = n; length = l; guesses = g }) list' map' out'
-  unfolding row guessesIn mapTaken outTaken
+  unfolding over row guessesIn mapTaken outTaken reductionNumber reductionValues
   turn-delivered {r} {list'} {map'} {out'} {c} {g} {w} {l} {j} {u} {s} {x} {n} e d hx hn =
       let f : Delivered c g w l j u s ≡ done .answer = sym d ∙ ap (λ (z : Reduced). z .answer) e in
       record {
@@ -45,7 +46,7 @@ module _ (L : Limits) (b : List ℕ) (budget : ℕ) (list map out : List ℕ) wh
   pub turn-refused : {r : Reduction} {list' map' out' : List ℕ} {k : ℕ}
       → record { answer = r; list = list'; map = map'; out = out' } ≡ done → r ≡ Refused k
       → Turned L b budget list map out (record { row = k ∷ 0 ∷ 0 ∷ 0 ∷ 0 ∷ 0 ∷ 0 ∷ 0 ∷ []; states = 0; length = 0; guesses = 0 }) list' map' out'
-  unfolding row guessesIn mapTaken outTaken
+  unfolding over row guessesIn mapTaken outTaken reductionNumber reductionValues
   turn-refused {r} {list'} {map'} {out'} {k} e d =
       let f : Refused k ≡ done .answer = sym d ∙ ap (λ (z : Reduced). z .answer) e in
       record {

@@ -24,7 +24,7 @@ use Rattle.encoding.specs.Clauses.{clauseList, shortWords}
 use Rattle.encoding.specs.Maps.{mapOf}
 use Rattle.encoding.proofs.Theorems.{map-proper}
 use Rattle.quotients.specs.Quotient.{quotientBytes, quotientNumber}
-use Rattle.reductions.specs.Reduce.{Reduced, beforeSearch, searchOfTable, triedOfTable, joinedPairs, deliver, afterSearch, reduceOf}
+use Rattle.reductions.specs.Reduce.{Reduced, beforeSearch, searchOfTable, triedOfTable, joinedPairs, deliver, afterSearch, reduceOf, reductionValues}
 use Rattle.reductions.specs.declared.Reduction.the-variants.{Delivered, Refused}
 use Rattle.reductions.proofs.Ways.{Held, Ways, refused-first, refused-short, delivers, reduce-ways}
 use Rattle.seasons.specs.Seasons.{guessesIn, mapTaken, outTaken}
@@ -48,7 +48,7 @@ module _ (L : Limits) (b : List ℕ) (budget : ℕ) (list map out : List ℕ) wh
   map-long v g u z s = map-proper L (tableOf b) (read-well-formed L b (s .begun .readable)) v (s .model) .long
 
   leaves-ways : {r : Reduced} → Ways L b budget list map out r → Leaves b budget list map out r
-  unfolding guessesIn mapTaken outTaken searchOfTable
+  unfolding guessesIn mapTaken outTaken reductionValues searchOfTable
   leaves-ways (refused-first k e n) = record { guesses = omega arith; list-long = refl; map-fits = omega arith; map-rest = refl; out-fits = omega arith; out-rest = refl }
   leaves-ways (refused-short v g u z s l) = record { guesses = omega arith; list-long = length-over _ list (s .begun .listed); map-fits = omega arith; map-rest = refl; out-fits = omega arith; out-rest = refl }
   leaves-ways (delivers v g u z s l) =

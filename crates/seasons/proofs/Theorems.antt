@@ -60,7 +60,7 @@ none-reported zero zs h = refl
 none-reported (suc k) zs h = omega (arith, getD-take 8 zs 2 0 (omega arith), h 2, none-reported k (drop 8 zs) (later-zeros 8 zs h))
 
 rows-reported : (rs : List Reduction) (n : ℕ) (zs : List ℕ) → length rs ≤ n → Zeros zs → reportedIn (parts n 8 (gather row rs ++ zs)) ≡ sum (map guessesIn rs)
-unfolding parts sum gather row guessesIn
+unfolding parts sum gather over row guessesIn reductionNumber reductionValues
 rows-reported [] n zs l h = none-reported n zs h
 rows-reported (r ∷ rs) zero zs l h = absurd (omega arith)
 rows-reported (Delivered c g w k j u s ∷ rs) (suc n) zs l h = ap (λ (m : ℕ). g + m) (rows-reported rs n zs (omega arith) h)
@@ -70,7 +70,7 @@ rows-reported (Refused k ∷ rs) (suc n) zs l h = ap (λ (m : ℕ). 0 + m) (rows
 
 -- what a reduction took of the maps and of the reduced tables is what it delivered
 taken : (L : Limits) (b : List ℕ) (a : ℕ) (list map out : List ℕ) → let r = reduceOf L b a list map out .answer in OnDelivery r (λ c g w l j u s. (mapTaken b r ≡ count (tableOf b)) × (outTaken r ≡ l))
-unfolding mapTaken outTaken
+unfolding mapTaken outTaken reductionValues
 taken L b a list map out = on-delivery L b a list map out (λ d c g w l j u s. (mapTaken b (d .answer) ≡ count (tableOf b)) × (outTaken (d .answer) ≡ l)) (λ v g u z s l. (refl, refl))
 
 -- what is promised of a reduction is promised of what stands at its place

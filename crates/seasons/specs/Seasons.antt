@@ -2,37 +2,31 @@
 use mathlib.Core.Bool.{Bool, true, false, _&&_}
 use mathlib.Core.List.{List, [], _∷_, _++_}
 use Prim.Native.Nat.{ℕ, _+_, _-_, _/_}
-use lib.ListN.{length, take, drop, replicate}
+use lib.ListN.{length, getD, take, drop, replicate}
 use lib.Dec.{eqb, leb}
 use Rattle.lists.specs.Lists.{gather, sum, over, firstFailed}
 use Rattle.limits.specs.declared.Limits.{Limits}
 use Rattle.limits.specs.Limits.{limitsFit}
 use Rattle.format.specs.File.{tableOf}
 use Rattle.format.specs.Language.{count}
-use Rattle.scripts.specs.Script.{yesValue}
-use Rattle.reductions.specs.Reduce.{reduceOf}
+use Rattle.reductions.specs.Reduce.{reduceOf, reductionNumber, reductionValues}
 use Rattle.reductions.specs.declared.Reduction.{Reduction}
-use Rattle.reductions.specs.declared.Reduction.the-variants.{Delivered, Refused}
 use Rattle.seasons.specs.declared.Season.{Season}
 
--- an answer as 8 numbers: its refusal's number, or 0 and its values
+-- an answer as 8 numbers: its number and its values, zeros with a refusal
 unfoldable pub row : Reduction → List ℕ
-row (Delivered c g w l j u s) = 0 ∷ c ∷ g ∷ w ∷ l ∷ j ∷ u ∷ yesValue s ∷ []
-row (Refused k) = k ∷ 0 ∷ 0 ∷ 0 ∷ 0 ∷ 0 ∷ 0 ∷ 0 ∷ []
+row r = reductionNumber r ∷ over (reductionValues r) (replicate 7 0)
 
 -- "A refused table .. counts as no guesses"
 unfoldable pub guessesIn : Reduction → ℕ
-guessesIn (Delivered c g w l j u s) = g
-guessesIn (Refused k) = 0
+guessesIn r = getD (reductionValues r) 1 0
 
 -- "A refused table writes no map or reduced table": how many bytes of the maps, and of the reduced tables, the table b took
 unfoldable pub mapTaken : List ℕ → Reduction → ℕ
-mapTaken b (Delivered c g w l j u s) = count (tableOf b)
-mapTaken b (Refused k) = 0
+mapTaken b r = elim (reductionValues r) [ [] ↦ 0 | v ∷ vs ↦ count (tableOf b) ]
 
 unfoldable pub outTaken : Reduction → ℕ
-outTaken (Delivered c g w l j u s) = l
-outTaken (Refused k) = 0
+outTaken r = getD (reductionValues r) 3 0
 
 -- the answers in the tables' order, and the clause buffer, the maps and the reduced tables at exit
 pub record Reductions : Type 0 where
