@@ -25,6 +25,9 @@
 extern "C" {
 #endif
 
+/* The version of the library, which the crate for Rust and the command have too. */
+#define BASILVAULT_VERSION "1.0.0"
+
 /* The largest limits, and those of a function without limits. */
 #define BASILVAULT_MOST_STATES 40
 #define BASILVAULT_MOST_SYMBOLS 64

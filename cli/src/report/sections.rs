@@ -3,6 +3,7 @@
 use super::html::{LONG, count, escaped, folded, grouped, paragraph, section, table};
 use super::reduction::Reduction;
 use super::{picture, words};
+use crate::facts::Facts;
 use crate::model::Kind;
 
 /// The title, what happened in one line, and the numbers that matter.
@@ -50,7 +51,14 @@ pub fn came_in(it: &Reduction) -> String {
     let records = records.map(|(number, noun)| count(number, noun)).join(", ");
     let said = format!("{}. Symbols: {counts}. Records: {records}.", count(it.before.states.len(), "state"));
     let map = (!it.joined().is_empty()).then_some(&it.map[..]);
-    section("What came in", &(paragraph(&said) + &picture::shown(&it.before, &it.tops, it.names, map, "in")))
+    let facts: String = Facts::of(&it.before, &it.tops).told(it.names).iter().map(|fact| paragraph(&sentence(fact))).collect();
+    section("What came in", &(paragraph(&said) + &facts + &picture::shown(&it.before, &it.tops, it.names, map, "in")))
+}
+
+/// A fact as a sentence.
+fn sentence(fact: &str) -> String {
+    let mut letters = fact.chars();
+    letters.next().map_or(String::new(), |first| format!("{}{}.", first.to_uppercase(), letters.as_str()))
 }
 
 /// The table that goes out.
