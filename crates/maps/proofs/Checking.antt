@@ -11,18 +11,16 @@ use Rattle.lists.specs.Lists.{firstFailed}
 use Rattle.lists.proofs.Refusals.{passes, fails, no-test, stage-fails, by-number}
 use Rattle.limits.specs.declared.Limits.{Limits}
 use Rattle.format.specs.File.{records, tableOf, ofStates}
-use Rattle.format.specs.Reading.{readNumber, Readable, ascend}
+use Rattle.format.specs.Reading.{readNumber, Readable}
 use Rattle.format.specs.Maps.{numbered}
 use Rattle.format.specs.declared.Starts.{Starts}
-use Rattle.format.proofs.Passed.{formed-tested}
-use Rattle.format.proofs.Bytes.{read-well-formed}
-use Rattle.format.proofs.Facts.{most-states}
 use Rattle.view.specs.Sections.{partOf}
 use Rattle.view.specs.declared.Section.the-variants.{States, Internals, Calls, Returns}
 use Rattle.view.proofs.Parts.{states-read, internals-read, calls-read, returns-read}
 use Rattle.tops.specs.declared.Examined.{Examined}
 use Rattle.tops.specs.Steps.{examinedOf}
 use Rattle.relations.specs.Check.{looksAgree, movesMatched, returnsMatched, mapTests, checkNumber}
+use Rattle.index.proofs.Parts.{parts-lent}
 use Rattle.maps.specs.Known.{Known, Parted, partTests}
 use Rattle.matching.specs.Matching.{recordMatched, recordsMatched, Lent}
 
@@ -75,12 +73,11 @@ module _ {b f : List ℕ} {s : Starts} (k : Known b s f) {states internals calls
     (e1 : states ≡ partOf b s States) (e2 : internals ≡ partOf b s Internals) (e3 : calls ≡ partOf b s Calls) (e4 : returns ≡ partOf b s Returns) where
   pub known-parts : Parted states internals calls returns
   known-parts =
-      let wf = read-well-formed (k .limits) b (k .read .readable) in
-      let few : length states ≤ 256 = omega (arith, ap length (states-read (k .read) e1), most-states wf) in
+      let h = parts-lent b (k .read) e1 e2 e3 e4 in
       record {
-        internals-lent = record { moves = omega arith; returns = omega arith; in-order = ap ascend (internals-read (k .read) e2) ∙ formed-tested wf .internals-ascend; few = few };
-        calls-lent = record { moves = omega arith; returns = omega arith; in-order = ap ascend (calls-read (k .read) e3) ∙ formed-tested wf .calls-ascend; few = few };
-        returns-lent = record { moves = omega arith; returns = omega arith; in-order = ap ascend (returns-read (k .read) e4) ∙ formed-tested wf .returns-ascend; few = few };
+        internals-lent = record { moves = omega arith; returns = omega arith; lent = h .internals-lent; few = h .few };
+        calls-lent = record { moves = omega arith; returns = omega arith; lent = h .calls-lent; few = h .few };
+        returns-lent = record { moves = omega arith; returns = omega arith; lent = h .returns-lent; few = h .few };
       }
 
   -- of records of 3 and 4 bytes the conditions over the width are (ii) to (iv)

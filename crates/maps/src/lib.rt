@@ -6,10 +6,11 @@ ghost use Rattle.format.specs.File.{tableOf};
 ghost use Rattle.relations.specs.Check.{mapTests, checkOf, CheckSays};
 ghost use Rattle.relations.specs.Demands.{AcceptsExactly};
 ghost use Rattle.maps.specs.Known.{Known, Parted, partTests};
+use covering::live_matched;
+use covering::records_matched;
 use format::Starts;
 use limits::Limits;
 use matching::looks_agree;
-use matching::records_matched;
 use numbering::class_count;
 use numbering::numbered;
 use relations::Checked;
@@ -42,7 +43,7 @@ fn tests_number(
     if !records_matched(calls, 3, words, map) {
         return 19;
     }
-    if !records_matched(returns, 4, words, map) {
+    if !live_matched(returns, words, map) {
         return 20;
     }
     0

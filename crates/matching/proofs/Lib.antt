@@ -1,2 +1,3 @@
 pub mod Matched
+pub mod Looks
 pub mod Reaching

@@ -22,6 +22,12 @@ use Rattle.reach.specs.Tops.{live}
 use Rattle.relations.specs.Check.{moveMatched, returnMatched}
 use Rattle.matching.specs.Matching.{kept, returnMet, recordMatched, recordMet, Lent}
 
+-- two tests that give each other are one
+pub same-test : (a b : Bool) → (a ≡ true → b ≡ true) → (b ≡ true → a ≡ true) → a ≡ b
+same-test true b f g = sym (f refl)
+same-test false true f g = g refl
+same-test false false f g = refl
+
 -- ---- no word past the end, no bit past 63
 
 pub past-words : (f : List ℕ) (q x : ℕ) → length f ≤ q → false ≡ has f q x

@@ -1,21 +1,16 @@
 -- What the functions of src/ are stated with: records matched, over the parts of a table. Assumes nothing.
-use mathlib.Core.Path.{_≡_}
 use mathlib.Core.Bool.{Bool, true, false, _||_, not}
-use mathlib.Core.List.{List, []}
+use mathlib.Core.List.{List}
 use Prim.Native.Nat.{ℕ, _≤_}
 use lib.ListN.{length, getD}
-use lib.Dec.{eqb, ltb}
+use lib.Dec.{eqb, leb, ltb}
 use Rattle.lists.specs.Lists.{all, upto}
-use Rattle.format.specs.File.{Table, records}
-use Rattle.format.specs.Reading.{ascend}
+use Rattle.limits.specs.Limits.{stateMost}
 use Rattle.format.specs.Language.{agreedOn}
 use Rattle.format.specs.Maps.{joins}
 use Rattle.reach.specs.Tops.{live}
 use Rattle.relations.specs.Check.{moveMatched, returnMatched}
-
--- (i) for one state: those joined to it agree with it
-abbrev pub agreesAt : List ℕ → List ℕ → ℕ → Bool
-agreesAt states m p = all (λ q. not (joins m p q) || eqb (agreedOn (getD states p 0)) (agreedOn (getD states q 0))) (upto (length states))
+use Rattle.index.specs.Index as index
 
 -- a move, and a return where it is live under the top words
 unfoldable pub kept : List ℕ → List ℕ → Bool
@@ -39,9 +34,9 @@ recordMet w f rs n m r = all (recordMatched w f rs n m r) (upto n)
 abbrev pub recordsMatched : ℕ → List ℕ → List (List ℕ) → ℕ → List ℕ → Bool
 recordsMatched w f rs n m = all (recordMet w f rs n m) rs
 
--- a section's records as they are matched: moves or returns, in order, and few states
+-- a section's records as they are matched: moves or returns, in order, of symbols and states that are there, and few states
 pub record Lent (w : ℕ) (section : List ℕ) (n : ℕ) : Type 0 where
   pub moves : 3 ≤ w
   pub returns : w ≤ 4
-  pub in-order : ascend (records w section) ≡ true
-  pub few : n ≤ 256
+  pub lent : index.Lent w n section
+  pub few : n ≤ stateMost

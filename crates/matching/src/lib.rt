@@ -12,7 +12,7 @@ ghost use Rattle.format.specs.Language.{targets};
 ghost use Rattle.format.specs.Maps.{classOf, joins};
 ghost use Rattle.keyed.specs.Keys.{ByKey};
 ghost use Rattle.relations.specs.Check.{looksAgree, returnMatched};
-ghost use Rattle.matching.specs.Matching.{agreesAt, kept, returnMet, recordMatched, recordMet, recordsMatched, Lent};
+ghost use Rattle.matching.specs.Matching.{kept, returnMet, recordMatched, recordMet, recordsMatched, Lent};
 use casts::wide;
 use numbering::class_of;
 
@@ -54,33 +54,24 @@ fn is_in(map: &[u8], class: u8, q: usize) -> bool
     class == class_of(map, q)
 }
 
-// (i) for one state: those joined to it agree with it.
-fn agrees(states: &[u8], map: &[u8], p: usize) -> bool
-    requires { ⌜ p < length (now states) ⌝ }
-    ensures { λ r. ⌜ r ≡ agreesAt (now (states .entry)) (now (map .entry)) p ⌝ }
+// (i) "joined states agree on mark and accepting": what the first state of each class has, plus one, is kept by its class.
+pub fn looks_agree(states: &[u8], map: &[u8]) -> bool
+    ensures { λ r. ⌜ r ≡ looksAgree (ofStates (now (states .entry))) (now (map .entry)) ⌝ }
 {
+    let mut looks = [0u8; 256];
     let mut q: usize = 0;
     'states: while q < states.len() {
-        if joined(map, p, q) {
-            if states[p] / 2 != states[q] / 2 {
+        let class = wide(class_of(map, q));
+        let look = states[q] / 2 + 1;
+        let held = looks[class];
+        if held == 0 {
+            looks[class] = look;
+        } else {
+            if held != look {
                 return false;
             }
         }
         q += 1;
-    }
-    true
-}
-
-// (i) "joined states agree on mark and accepting".
-pub fn looks_agree(states: &[u8], map: &[u8]) -> bool
-    ensures { λ r. ⌜ r ≡ looksAgree (ofStates (now (states .entry))) (now (map .entry)) ⌝ }
-{
-    let mut p: usize = 0;
-    'states: while p < states.len() {
-        if !agrees(states, map, p) {
-            return false;
-        }
-        p += 1;
     }
     true
 }

@@ -60,8 +60,8 @@ returns-5 c =
     let c8 = c7 .before in
     number-19 _ _ _ _ _ _ (c8 .if1 .left) (sym (c7 .numbered .ensures) ∙ not-false _ (c6 .if2 .left)) (sym (c5 .looks-agree .ensures) ∙ not-false _ (c4 .if3 .left)) (sym (c3 .records-matched .ensures) ∙ not-false _ (c2 .if4 .left)) (sym (c1 .records-matched2 .ensures) ∙ not-true _ (c .if5 .taken))
 
-records-matched-requires-3 : tie.Need-records-matched-requires-3
-records-matched-requires-3 c κs =
+live-matched-requires : tie.Need-live-matched-requires
+live-matched-requires c κs =
     let c8 = c .before .before .before .before .before .before .before .before in
     let c15 = c8 .before .before .before .before .before .before .before in
     lent-states (c8 .if1 .left) (c15 .pre .returns-lent)
@@ -78,7 +78,7 @@ returns-6 c =
     let c8 = c7 .before in
     let c9 = c8 .before in
     let c10 = c9 .before in
-    number-20 _ _ _ _ _ _ (c10 .if1 .left) (sym (c9 .numbered .ensures) ∙ not-false _ (c8 .if2 .left)) (sym (c7 .looks-agree .ensures) ∙ not-false _ (c6 .if3 .left)) (sym (c5 .records-matched .ensures) ∙ not-false _ (c4 .if4 .left)) (sym (c3 .records-matched2 .ensures) ∙ not-false _ (c2 .if5 .left)) (sym (c1 .records-matched3 .ensures) ∙ not-true _ (c .if6 .taken))
+    number-20 _ _ _ _ _ _ (c10 .if1 .left) (sym (c9 .numbered .ensures) ∙ not-false _ (c8 .if2 .left)) (sym (c7 .looks-agree .ensures) ∙ not-false _ (c6 .if3 .left)) (sym (c5 .records-matched .ensures) ∙ not-false _ (c4 .if4 .left)) (sym (c3 .records-matched2 .ensures) ∙ not-false _ (c2 .if5 .left)) (sym (c1 .live-matched .ensures) ∙ not-true _ (c .if6 .taken))
 
 returns-7 : tie.Need-returns-7
 returns-7 c =
@@ -92,7 +92,7 @@ returns-7 c =
     let c8 = c7 .before in
     let c9 = c8 .before in
     let c10 = c9 .before in
-    number-0 _ _ _ _ _ _ (c10 .if1 .left) (sym (c9 .numbered .ensures) ∙ not-false _ (c8 .if2 .left)) (sym (c7 .looks-agree .ensures) ∙ not-false _ (c6 .if3 .left)) (sym (c5 .records-matched .ensures) ∙ not-false _ (c4 .if4 .left)) (sym (c3 .records-matched2 .ensures) ∙ not-false _ (c2 .if5 .left)) (sym (c1 .records-matched3 .ensures) ∙ not-false _ (c .if6 .left))
+    number-0 _ _ _ _ _ _ (c10 .if1 .left) (sym (c9 .numbered .ensures) ∙ not-false _ (c8 .if2 .left)) (sym (c7 .looks-agree .ensures) ∙ not-false _ (c6 .if3 .left)) (sym (c5 .records-matched .ensures) ∙ not-false _ (c4 .if4 .left)) (sym (c3 .records-matched2 .ensures) ∙ not-false _ (c2 .if5 .left)) (sym (c1 .live-matched .ensures) ∙ not-false _ (c .if6 .left))
 
 pub tests-number-spec : {M : Type 1} → statement M
 tests-number-spec =
@@ -107,6 +107,6 @@ tests-number-spec =
     returns-4
     records-matched-requires-2
     returns-5
-    records-matched-requires-3
+    live-matched-requires
     returns-6
     returns-7)

@@ -31,7 +31,7 @@ wide-requires c κs = search needs
 reaches-requires : tie.Need-reaches-requires
 reaches-requires c κs =
     let the-pre = c .before .before .before .before .before .before .before .before .before .pre in
-    (the-pre .0 .0 .moves, the-pre .0 .0 .in-order)
+    (the-pre .0 .0 .moves, the-pre .0 .0 .lent .in-order)
 
 returns : tie.Need-returns
 returns c =

@@ -36,7 +36,7 @@ return-matched-requires c κs =
     let c2 = c .before .before in
     let c3 = c2 .before in
     let c9 = c3 .before .before .before .before .before .before in
-    let a = c9 in ((a .pre .0 .0 .in-order, a .pre .0 .1, a .pre .0 .2, omega (arith, a .pre .0 .0 .few, c .states-test .taken), c2 .class-of .ensures ∙ ap (classOf (a .args .map .now)) (c3 .wide .ensures)), a .pre .1)
+    let a = c9 in ((a .pre .0 .0 .lent .in-order, a .pre .0 .1, a .pre .0 .2, omega (arith, a .pre .0 .0 .few, c .states-test .taken), c2 .class-of .ensures ∙ ap (classOf (a .args .map .now)) (c3 .wide .ensures)), a .pre .1)
 
 returns : tie.Need-returns Inv-states μ-states
 returns c = all-failed _ (c .before .before .before .states .inv) (c .before .before .states-test .taken) (sym (c .before .return-matched .ensures) ∙ not-true _ (c .if1 .taken))
