@@ -33,7 +33,13 @@ fn of_repository() -> PathBuf {
     match Command::new(root.join(".ci/archive")).output() {
         Err(e) => fail(&format!("the library's script does not run ({e})")),
         Ok(done) if !done.status.success() => fail(&format!("the library is not built\n{}", String::from_utf8_lossy(&done.stderr))),
-        Ok(_) => root.join("target/staticlib/libcapi.a"),
+        Ok(done) => {
+            // what was built anew is said
+            if let Some(said) = String::from_utf8_lossy(&done.stderr).lines().next() {
+                println!("cargo::warning={said}");
+            }
+            root.join("target/staticlib/libcapi.a")
+        }
     }
 }
 
