@@ -155,6 +155,10 @@ module _ {ws v : List ℕ} {first end at unset last : ℕ} (w : SeenSoFar ws v f
           meets = w .meets ∙ rw (cons-at, from-wrong v (oneOf unset last) (getD ws at 0) (slice (at + 1) end ws) u r);
         }
 
+-- where none was unset, it does not matter which was the last
+pub last-any : {ws v : List ℕ} {first end at last : ℕ} (other : ℕ) → SeenSoFar ws v first end at 0 last → SeenSoFar ws v first end at 0 other
+last-any other w = record { started = w .started; inside = w .inside; ends = w .ends; few = w .few; below = w .below; meets = w .meets }
+
 -- ---- a literal that tells
 
 pub right-tells : (v c : List ℕ) (l : ℕ) → List·Memᴰ l c → isRight v l ≡ true → quiet ≡ seen v c

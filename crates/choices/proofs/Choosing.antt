@@ -86,13 +86,13 @@ module _ (L : Limits) (b m n : List ℕ) where
 
   -- ---- the number
 
-  read-number : Readable L b → chooseNumber L b m n ≡ firstFailed ((40, some (whichOf L b m n)) ∷ [])
-  unfolding chooseNumber
-  read-number r = stage-passes _ _ r
-
   pub unread-number : (Readable L b → ⊥) → chooseNumber L b m n ≡ readNumber L b
   unfolding chooseNumber
   unread-number h = stage-fails _ _ refl h
+
+  read-number : Readable L b → chooseNumber L b m n ≡ firstFailed ((40, some (whichOf L b m n)) ∷ [])
+  unfolding chooseNumber
+  read-number r = stage-passes _ _ r
 
   number-40 : Neither ≡ whichOf L b m n → Readable L b → chooseNumber L b m n ≡ 40
   unfolding some

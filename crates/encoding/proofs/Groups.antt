@@ -292,6 +292,23 @@ module _ (t : Table) (v : List ℕ) (full : Assignment (pairs (count t)) v) wher
     end-below : {p a s q : ℕ} → List·Memᴰ (p ∷ a ∷ s ∷ q ∷ []) (t .returns) → q < count t
     end-below m = fit .states _ m 3 (omega arith) (omega arith)
 
+    pub returns-satisfied : ReturnsMatch → Satisfied v (returnClauses t)
+    unfolding returnClauses returnClause liveReturns live topStates
+    returns-satisfied h = satisfied-each v _ (liveReturns t) (λ r mr. satisfied-each v _ (upto (count t)) (λ q mq. satisfied-each v _ (topStates (topWords t) (count t) q) (λ u mu. satisfied-unless v (eqb q (getD r 0 0) && eqb u (getD r 2 0)) _ (λ e.
+        let k = keep-mem (live (topWords t)) (t .returns) r mr in
+        let j = keep-mem (has (topWords t) q) (upto (count t)) u mu in
+        one (getD r 0 0) (getD r 1 0) (getD r 2 0) (getD r 3 0) q u (k .1) (j .1) (subst (λ (x : List ℕ). List·Memᴰ x (t .returns)) (four-bytes r (fit .wide r (k .0))) (k .0)) (upto-mem (count t) q mq) (upto-mem (count t) u (j .0))))))
+      where
+        one : (p a s p' q u : ℕ) → has (topWords t) p s ≡ true → has (topWords t) q u ≡ true → List·Memᴰ (p ∷ a ∷ s ∷ p' ∷ []) (t .returns) → q < count t → u < count t → Satisfied v (matching (premise p q ++ premise s u) p' (targets (t .returns) (q ∷ a ∷ u ∷ [])))
+        one p a s p' q u hp hq m lq lu =
+            reaches-satisfied (t .returns) (q ∷ a ∷ u ∷ []) p' (fit .wide) (λ x k. end-below k) (end-below m) (premise p q ++ premise s u)
+            (pick (related-dec (count t) v full (fit .states _ m 0 (omega arith) (omega arith)) lq) (related-dec (count t) v full (fit .states _ m 2 (omega arith) (omega arith)) lu))
+          where
+            pick : Related (count t) v p q ⊎ ((p ≢ q) × (valueOf v (variableOf p q) ≡ 0)) → Related (count t) v s u ⊎ ((s ≢ u) × (valueOf v (variableOf s u) ≡ 0)) → HasRight v (premise p q ++ premise s u) ⊎ Reaches (t .returns) (q ∷ a ∷ u ∷ []) p'
+            pick (inr z) k = let r = premise-apart (count t) v (z .0) (z .1) in inl (r .0, Memᴰ·append-left (premise s u) (r .1), r .2)
+            pick (inl k) (inr z) = let r = premise-apart (count t) v (z .0) (z .1) in inl (r .0, Memᴰ·append-right (premise p q) (r .1), r .2)
+            pick (inl k) (inl j) = inr (h p q s u p' a k j hp hq m)
+
     pub returns-of : Satisfied v (returnClauses t) → ReturnsMatch
     unfolding returnClauses returnClause liveReturns live topStates
     returns-of h p q s u p' a r z hp hq m = go (ℕ-discrete q p) (ℕ-discrete u s)
@@ -311,20 +328,3 @@ module _ (t : Table) (v : List ℕ) (full : Assignment (pairs (count t)) v) wher
         go (yes e) (yes f) = (p', subst (λ (x : List ℕ). List·Memᴰ x (t .returns)) (λ i. sym e i ∷ a ∷ sym f i ∷ p' ∷ []) m, related-refl (count t) v (end-below m))
         go (no d) f = found (rw (ne-eqb q p d))
         go (yes e) (no f) = found (rw (eq-eqb q p e, ne-eqb u s f))
-
-    pub returns-satisfied : ReturnsMatch → Satisfied v (returnClauses t)
-    unfolding returnClauses returnClause liveReturns live topStates
-    returns-satisfied h = satisfied-each v _ (liveReturns t) (λ r mr. satisfied-each v _ (upto (count t)) (λ q mq. satisfied-each v _ (topStates (topWords t) (count t) q) (λ u mu. satisfied-unless v (eqb q (getD r 0 0) && eqb u (getD r 2 0)) _ (λ e.
-        let k = keep-mem (live (topWords t)) (t .returns) r mr in
-        let j = keep-mem (has (topWords t) q) (upto (count t)) u mu in
-        one (getD r 0 0) (getD r 1 0) (getD r 2 0) (getD r 3 0) q u (k .1) (j .1) (subst (λ (x : List ℕ). List·Memᴰ x (t .returns)) (four-bytes r (fit .wide r (k .0))) (k .0)) (upto-mem (count t) q mq) (upto-mem (count t) u (j .0))))))
-      where
-        one : (p a s p' q u : ℕ) → has (topWords t) p s ≡ true → has (topWords t) q u ≡ true → List·Memᴰ (p ∷ a ∷ s ∷ p' ∷ []) (t .returns) → q < count t → u < count t → Satisfied v (matching (premise p q ++ premise s u) p' (targets (t .returns) (q ∷ a ∷ u ∷ [])))
-        one p a s p' q u hp hq m lq lu =
-            reaches-satisfied (t .returns) (q ∷ a ∷ u ∷ []) p' (fit .wide) (λ x k. end-below k) (end-below m) (premise p q ++ premise s u)
-            (pick (related-dec (count t) v full (fit .states _ m 0 (omega arith) (omega arith)) lq) (related-dec (count t) v full (fit .states _ m 2 (omega arith) (omega arith)) lu))
-          where
-            pick : Related (count t) v p q ⊎ ((p ≢ q) × (valueOf v (variableOf p q) ≡ 0)) → Related (count t) v s u ⊎ ((s ≢ u) × (valueOf v (variableOf s u) ≡ 0)) → HasRight v (premise p q ++ premise s u) ⊎ Reaches (t .returns) (q ∷ a ∷ u ∷ []) p'
-            pick (inr z) k = let r = premise-apart (count t) v (z .0) (z .1) in inl (r .0, Memᴰ·append-left (premise s u) (r .1), r .2)
-            pick (inl k) (inr z) = let r = premise-apart (count t) v (z .0) (z .1) in inl (r .0, Memᴰ·append-right (premise p q) (r .1), r .2)
-            pick (inl k) (inl j) = inr (h p q s u p' a k j hp hq m)

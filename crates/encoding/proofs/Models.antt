@@ -32,7 +32,7 @@ module _ (L : Limits) (t : Table) (wf : WellFormed L t) (v : List ℕ) (full : A
 
   pub satisfied-transitive : Satisfied v (clauseList t) → Transitive t v full
   unfolding clauseList
-  satisfied-transitive h = transitive-of t v full (satisfied-right v one _ (satisfied-left v two _ (satisfied-left v three _ (satisfied-left v four _ h))))
+  satisfied-transitive h = transitive-of t v full (satisfied-right v one _ (satisfied-left v _ _ (satisfied-left v _ _ (satisfied-left v _ _ h))))
 
   pub satisfied-matched : Satisfied v (clauseList t) → Matched (automaton t) (Related (count t) v)
   unfolding clauseList

@@ -22,7 +22,7 @@ pub struct Sifted {
 
 // One pass over the clauses, which sets what is forced as it meets it and is left at a clause whose literals are all false. It puts down the places
 // of the clauses that neither hold nor force, as many as there is room for. In a clause that starts at `place`, `at` is its end, where the
-// next one starts, and `i` the place of the next literal.
+// next one starts, and `i` the place of the next literal. The first literal is looked at before the loop: most clauses hold by it.
 pub fn sift(
     list: &[u16],
     n: u8,
@@ -50,6 +50,16 @@ pub fn sift(
         at = i + wide(list[place]);
         let mut unset: usize = 0;
         let mut last: u16 = 0;
+        if i < at {
+            last = list[i];
+            if is_right(values, last) {
+                continue 'clauses;
+            }
+            if is_unset(values, last) {
+                unset = 1;
+            }
+            i += 1;
+        }
         'literals: loop {
             if i == at {
                 if unset == 0 {

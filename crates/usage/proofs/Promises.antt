@@ -107,18 +107,6 @@ module _ (L : Limits) (b m s : List ℕ) where
   uses-accepted e =
       ap (λ k. answerBy (firstFailed (linesTests k s)) m s) (map-long L b m e) ∙ ap (λ j. answerBy j m s) (sym (stage-passes _ _ e))
 
-  same-order : AnyOrder L b m s (usesOf L b m s)
-  unfolding usesOf usesNumber answerBy counted classSums classSum linesTests linesFit statesFit
-  same-order other l p =
-      let n = count (tableOf b) in
-      let tests : linesTests n other ≡ linesTests n s =
-      λ i. (32, eqb (l i % 5) 0 && leb (l i / 5) 65536) ∷ (33, sym (all-any-order (λ x. ltb (x .state) n) p) i) ∷ [] in
-      let number : usesNumber L b m other ≡ usesNumber L b m s =
-      ap (λ ts. firstFailed (stage (checkNumber L b m) ∷ ts)) tests in
-      let counts : counted m other ≡ counted m s =
-      λ i. record { number = 0; sums = map (λ c. sym (any-order (λ x. eqb (classOf m (x .state)) c) p) i) (upto stateMost); total = sym (total-any-order p) i } in
-      λ i. elim (eqb (number i) 0) as (λ _. Counted) [ true ↦ counts i | false ↦ refusedBy (number i) ]
-
   module _ (z : usesNumber L b m s ≡ 0) where
     nothing-refused : (checkNumber L b m ≡ 0) × (firstFailed (linesTests (count (tableOf b)) s) ≡ 0)
     unfolding usesNumber
@@ -163,6 +151,18 @@ module _ (L : Limits) (b m s : List ℕ) where
       Kept
       (λ z. (by-states z, sums-total z, none-past z))
       (λ n. (record { classes = λ e. absurd (n e); total = λ e. absurd (n e) }, refl, λ c h. zeros stateMost c))
+
+  same-order : AnyOrder L b m s (usesOf L b m s)
+  unfolding usesOf usesNumber answerBy counted classSums classSum linesTests linesFit statesFit
+  same-order other l p =
+      let n = count (tableOf b) in
+      let tests : linesTests n other ≡ linesTests n s =
+      λ i. (32, eqb (l i % 5) 0 && leb (l i / 5) 65536) ∷ (33, sym (all-any-order (λ x. ltb (x .state) n) p) i) ∷ [] in
+      let number : usesNumber L b m other ≡ usesNumber L b m s =
+      ap (λ ts. firstFailed (stage (checkNumber L b m) ∷ ts)) tests in
+      let counts : counted m other ≡ counted m s =
+      λ i. record { number = 0; sums = map (λ c. sym (any-order (λ x. eqb (classOf m (x .state)) c) p) i) (upto stateMost); total = sym (total-any-order p) i } in
+      λ i. elim (eqb (number i) 0) as (λ _. Counted) [ true ↦ counts i | false ↦ refusedBy (number i) ]
 
   pub promised : {r : Counted} → r ≡ usesOf L b m s → Fits r → (r ≡ usesOf L b m s) × Promises L b m s r
   promised {r} e f =

@@ -1,4 +1,5 @@
 -- `limits::limits_fit` meets its contract, limit by limit. Assumes nothing.
+use native.Mathlib.Omega.{arith}
 use Rattle.limits.proofs.Within as laws
 use Rattle.limits.proofs.limits_fit.Statement.{statement}
 use Rattle.limits.proofs.limits_fit.Tie as tie
@@ -7,10 +8,10 @@ returns : tie.Need-returns
 returns c = laws.no-state _ (c .if1 .taken)
 
 returns-2 : tie.Need-returns-2
-returns-2 c = laws.many-states _ (c .before .before .if1 .left) (c .if2 .taken)
+returns-2 c = laws.many-states _ (c .before .before .if1 .left) (omega (arith, c .if2 .taken))
 
 returns-3 : tie.Need-returns-3
-returns-3 c = laws.no-symbol _ (c .before .before .before .before .if1 .left) (c .before .before .if2 .left) (c .if3 .taken)
+returns-3 c = laws.no-symbol _ (c .before .before .before .before .if1 .left) (c .before .before .if2 .left) (omega (arith, c .if3 .taken))
 
 returns-4 : tie.Need-returns-4
 returns-4 c =

@@ -53,7 +53,7 @@ same-length : tie.Need-same-length Inv-tops μ-tops
 same-length c = c .before .before .before .tops .inv .0 .coming .long
 
 returns : tie.Need-returns Inv-tops μ-tops
-returns c = toward-past (c .before .before .before .tops .inv .0) (c .before .before .tops-test .taken) (c .before .next-state .ensures) (c .if1 .taken)
+returns c = toward-past (c .before .before .before .tops .inv .0) (c .before .before .tops-test .taken) (c .before .next-state .ensures) (omega (arith, c .if1 .taken))
 
 cast-u : tie.Need-cast-u Inv-tops μ-tops
 cast-u c = search needs
