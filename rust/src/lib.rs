@@ -26,7 +26,7 @@
 //! let _ = basilvault::quotient(&table, &[0, 1, 1, 2], &mut table);
 //! ```
 //!
-//! What each operation means, and what is proved of it, says the repository's README. This crate's build script takes the archive that the environment
+//! What each operation means, and what is proved of it, say docs/SCOPE.md and docs/PROMISES.md of the repository. This crate's build script takes the archive that the environment
 //! variable `BASILVAULT_LIBRARY` names by an absolute path, or the one that `rt staticlib capi` writes in the repository around this crate.
 
 #![warn(missing_docs)]

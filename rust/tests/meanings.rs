@@ -1,11 +1,11 @@
-//! The meanings are those of the README, and there is a refusal for each of its numbers.
+//! The meanings are those of docs/SCOPE.md, and there is a refusal for each of its numbers.
 
 use basilvault::Refusal;
 
 #[test]
-fn meanings_are_those_of_the_readme() {
-    let readme = std::fs::read_to_string("../README.md").expect("the crate stands in its repository");
-    let listed = readme.split_once("## Every refusal").expect("the refusals have a section").1.split_once("\n## ").expect("and another follows").0;
+fn meanings_are_those_of_the_scope() {
+    let scope = std::fs::read_to_string("../docs/SCOPE.md").expect("the crate stands in its repository");
+    let listed = scope.split_once("## Refusals").expect("the refusals have a section").1.split_once("\n## ").expect("and another follows").0;
     let mut rows: Vec<(u8, &str)> = listed
         .lines()
         .filter_map(|line| line.strip_prefix("| ")?.strip_suffix(" |")?.split_once(" | "))

@@ -1,4 +1,4 @@
-//! What is promised and what is not, in plain words. The README has the whole of it.
+//! What is promised and what is not, in plain words. docs/PROMISES.md has the whole of it.
 
 use super::html::{escaped, folded, grouped, list, paragraph, section};
 use super::reduction::Reduction;
