@@ -1,14 +1,14 @@
 //! The arguments of a command: plain ones, and options with or without a value.
 
-use crate::ends::{Failure, Outcome};
-use crate::words::{self, meant, nearest};
+use crate::exit::{Failure, Outcome};
+use crate::lexer::{self, meant, nearest};
 use basilvault::Limits;
 use std::ffi::{OsStr, OsString};
 use std::os::unix::ffi::OsStrExt;
 use std::path::Path;
 
 /// An option: its name, what its value is called where it has one, and what it does.
-pub struct Choice {
+pub struct Opt {
     pub name: &'static str,
     pub value: &'static str,
     pub says: &'static str,
@@ -22,19 +22,19 @@ pub struct Command {
     pub help: &'static str,
     pub least: usize,
     pub most: usize,
-    pub choices: &'static [Choice],
+    pub options: &'static [Opt],
     pub run: fn(&Call) -> Outcome,
 }
 
 /// Options that several commands have.
-pub const STATES: Choice = Choice { name: "--states", value: "N", says: "the most states of a table, 40 where it is not given" };
-pub const SYMBOLS: Choice = Choice { name: "--symbols", value: "N", says: "the most symbols of a table, 64 where it is not given" };
-pub const NAMES: Choice = Choice { name: "--names", value: "TEXT", says: "the text with the table's names, where it is no text itself" };
-pub const BUDGET: Choice = Choice { name: "--budget", value: "N", says: "make at most N guesses, 1,000,000 where it is not given" };
-pub const ROOM: Choice = Choice { name: "--room", value: "WORDS", says: "take at most so many clause words; all that are needed without" };
-pub const TEXT: Choice = Choice { name: "--text", value: "FILE", says: "write it as text too, each class named by its states" };
-pub const OUT: Choice = Choice { name: "-o", value: "OUT", says: "the file to write, - for standard output" };
-pub const INTO: Choice = Choice { name: "--into", value: "FOLDER", says: "the folder to write to, made where there is none" };
+pub const STATES: Opt = Opt { name: "--states", value: "N", says: "the most states of a table, 40 where it is not given" };
+pub const SYMBOLS: Opt = Opt { name: "--symbols", value: "N", says: "the most symbols of a table, 64 where it is not given" };
+pub const NAMES: Opt = Opt { name: "--names", value: "TEXT", says: "the text with the table's names, where it is no text itself" };
+pub const BUDGET: Opt = Opt { name: "--budget", value: "N", says: "make at most N guesses, 1,000,000 where it is not given" };
+pub const ROOM: Opt = Opt { name: "--room", value: "WORDS", says: "take at most so many clause words; all that are needed without" };
+pub const TEXT: Opt = Opt { name: "--text", value: "FILE", says: "write it as text too, each class named by its states" };
+pub const OUT: Opt = Opt { name: "-o", value: "OUT", says: "the file to write, - for standard output" };
+pub const INTO: Opt = Opt { name: "--into", value: "FOLDER", says: "the folder to write to, made where there is none" };
 
 /// A command's arguments.
 pub struct Call {
@@ -67,20 +67,20 @@ impl Call {
         let mut parts = option.as_bytes().splitn(2, |&byte| byte == b'=').map(OsStr::from_bytes);
         let (name, joined) = (parts.next().unwrap_or(option), parts.next());
         let shown = name.display();
-        let Some(choice) = command.choices.iter().find(|choice| choice.name == name) else {
-            let nearest = nearest(&name.to_string_lossy(), command.choices.iter().map(|choice| choice.name).chain(["--help"]));
+        let Some(option) = command.options.iter().find(|option| option.name == name) else {
+            let nearest = nearest(&name.to_string_lossy(), command.options.iter().map(|option| option.name).chain(["--help"]));
             return Err(wrong(command, format!("there is no option {shown}{}", meant(nearest))));
         };
-        if self.has(choice.name) {
+        if self.has(option.name) {
             return Err(wrong(command, format!("{shown} is given twice")));
         }
-        let value = match (choice.value.is_empty(), joined) {
+        let value = match (option.value.is_empty(), joined) {
             (true, Some(_)) => return Err(wrong(command, format!("{shown} takes no value"))),
             (true, None) => OsString::new(),
             (false, Some(value)) => value.into(),
-            (false, None) => rest.next().cloned().ok_or_else(|| wrong(command, format!("{shown} needs a value: {}", choice.value)))?,
+            (false, None) => rest.next().cloned().ok_or_else(|| wrong(command, format!("{shown} needs a value: {}", option.value)))?,
         };
-        self.chosen.push((choice.name, value));
+        self.chosen.push((option.name, value));
         Ok(())
     }
 
@@ -145,7 +145,7 @@ pub const GUESSES: u64 = 1_000_000;
 fn number(given: &OsStr, what: &str) -> Result<u64, Failure> {
     let fail = |why: &str| Failure::Wrong(format!("{what}: {} is {why}", given.display()), None);
     let digits = given.to_str().filter(|text| text.starts_with(|c: char| c.is_ascii_digit())).map(|text| text.replace([',', '_'], ""));
-    let digits = digits.filter(|digits| words::is_number(digits)).ok_or_else(|| fail("no number"))?;
+    let digits = digits.filter(|digits| lexer::is_number(digits)).ok_or_else(|| fail("no number"))?;
     digits.parse().map_err(|_| fail("too large"))
 }
 

@@ -20,9 +20,9 @@ mod uses;
 mod why;
 
 use crate::arguments::{Call, Command};
-use crate::ends::{Failure, Outcome, Status, say};
+use crate::exit::{Failure, Outcome, Status, say};
 use crate::help;
-use crate::words::{meant, nearest};
+use crate::lexer::{meant, nearest};
 use std::ffi::{OsStr, OsString};
 
 /// All commands, in the order of the help.

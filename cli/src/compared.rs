@@ -1,17 +1,17 @@
 //! Two tables that are compared: their symbols matched by name where both have names, else by place.
 
-use crate::apart::{self, Found};
+use crate::counterexample::{self, Found};
 use crate::arguments::{Call, NAMES};
-use crate::ends::{Failure, note};
-use crate::lent::Lent;
+use crate::exit::{Failure, note};
+use crate::input::Input;
 use crate::model::{Kind, Table};
 use crate::names::Names;
 use basilvault::{Limits, Refusal};
 
 /// Two tables with one numbering of their symbols.
 pub struct Compared {
-    pub first: Lent,
-    pub second: Lent,
+    pub first: Input,
+    pub second: Input,
     tables: [Table; 2],
     names: Names,
 }
@@ -29,7 +29,7 @@ impl Compared {
     /// The tables that a call names, read at the limits of the comparison.
     pub fn of(call: &Call) -> Result<Compared, Failure> {
         let limits = Limits::STANDARD;
-        let [first, second] = [0, 1].map(|place| Lent::of(limits, call.file(place)));
+        let [first, second] = [0, 1].map(|place| Input::of(limits, call.file(place)));
         let (first, second) = (first?, second?);
         let (table, names) = first.named_symbols(limits, call).map_err(smaller)?;
         let mut other = Table::from_bytes(limits, &second.bytes).map_err(|refusal| smaller(second.refused(refusal)))?;
@@ -52,7 +52,7 @@ impl Compared {
         match basilvault::fit(&bytes, &others) {
             Err(refusal) => Fit::Refused(refusal),
             Ok(true) => Fit::Yes,
-            Ok(false) => match apart::script(one, other) {
+            Ok(false) => match counterexample::script(one, other) {
                 // the library has the last word on a script that is printed
                 Found::Script(script) if basilvault::script(&bytes, &script) == Ok(true) && basilvault::script(&others, &script) == Ok(false) => {
                     let words: Vec<_> = script.iter().map(|&symbol| self.names.symbol(symbol)).collect();
@@ -86,12 +86,12 @@ fn smaller(failure: Failure) -> Failure {
 }
 
 /// The second table with its symbols in the order of the first's, by their names.
-fn renumbered((first, table, names): (&Lent, &Table, &Names), (second, other, others): (&Lent, &Table, &Names)) -> Result<Table, Failure> {
+fn renumbered((first, table, names): (&Input, &Table, &Names), (second, other, others): (&Input, &Table, &Names)) -> Result<Table, Failure> {
     let place = |name: &str, names: &Names| names.symbols.iter().position(|symbol| symbol == name);
     let fault = |text: String| Failure::Mistaken(vec![format!("basilvault: {text}")]);
-    for (own, lent, missing, there) in [(names, first, second, others), (others, second, first, names)] {
+    for (own, input, missing, there) in [(names, first, second, others), (others, second, first, names)] {
         if let Some(name) = own.symbols.iter().find(|name| place(name, there).is_none()) {
-            return Err(fault(format!("{} has the symbol {name}, and {} has none of that name", lent.file.display(), missing.file.display())));
+            return Err(fault(format!("{} has the symbol {name}, and {} has none of that name", input.file.display(), missing.file.display())));
         }
     }
     let mut numbers = vec![0; others.symbols.len()];

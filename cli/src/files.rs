@@ -1,6 +1,6 @@
 //! Files that are read whole, and written whole or not at all.
 
-use crate::ends::{Failure, say};
+use crate::exit::{Failure, say};
 use std::collections::HashMap;
 use std::fs::{self, File};
 use std::io::{self, Read, Write};

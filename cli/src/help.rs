@@ -1,6 +1,6 @@
 //! What the command says of itself.
 
-use crate::arguments::{Choice, Command};
+use crate::arguments::{Opt, Command};
 use std::fmt::Write;
 
 /// What stands before the list of commands.
@@ -31,10 +31,10 @@ pub fn general(commands: &[&Command]) -> String {
 /// The help of a command.
 pub fn of(command: &Command) -> String {
     let text = flowing(command.help);
-    let choices: String =
-        command.choices.iter().map(|Choice { name, value, says }| format!("    {:18}{says}\n", format!("{name} {value}"))).collect();
+    let options: String =
+        command.options.iter().map(|Opt { name, value, says }| format!("    {:18}{says}\n", format!("{name} {value}"))).collect();
     let (before, example) = text.split_once("Example:").unwrap_or((&text, ""));
-    let options = if choices.is_empty() { String::new() } else { format!("Options:\n\n{choices}\n") };
+    let options = if options.is_empty() { String::new() } else { format!("Options:\n\n{options}\n") };
     format!("basilvault {} {}\n\n{before}{options}Example:{example}", command.name, command.usage)
 }
 

@@ -3,16 +3,17 @@
 
 #![forbid(unsafe_code)]
 
-pub mod apart;
 pub mod arguments;
 pub mod commands;
 pub mod compared;
+pub mod counterexample;
 pub mod draw;
-pub mod ends;
+pub mod exit;
 pub mod facts;
 pub mod files;
 pub mod help;
-pub mod lent;
+pub mod input;
+pub mod lexer;
 pub mod maps;
 pub mod model;
 pub mod names;
@@ -23,7 +24,6 @@ pub mod text;
 pub mod trace;
 pub mod values;
 pub mod why;
-pub mod words;
 
 #[cfg(test)]
 mod samples;

@@ -2,12 +2,12 @@
 
 mod broken;
 
-use crate::ends::Failure;
+use crate::exit::Failure;
 use crate::files;
-use crate::lent::Lent;
+use crate::input::Input;
 use crate::model::Table;
 use crate::names::{self, Names};
-use crate::words::{Line, Mistake, Word, collected, lines, meant, mistaken, nearest, text, words};
+use crate::lexer::{Line, Mistake, Word, collected, lines, meant, mistaken, nearest, text, words};
 use basilvault::Refusal;
 use std::collections::HashSet;
 use std::path::{Path, PathBuf};
@@ -26,7 +26,7 @@ impl Map {
     pub fn read(file: &Path, names: &Names) -> Result<Map, Failure> {
         let bytes = files::read(file)?;
         let text = text(file, &bytes, WHAT)?;
-        let classes = if words(text).any(|word| !crate::words::is_number(word.text)) {
+        let classes = if words(text).any(|word| !crate::lexer::is_number(word.text)) {
             by_names(file, text, names)
         } else {
             let class = |word: Word| word.number().and_then(|n| n.try_into().ok()).ok_or_else(|| word.mistake("a class number, 0 to 255"));
@@ -36,10 +36,10 @@ impl Map {
     }
 
     /// The failure of a refused call on this map of a table. What is the map's fault is told of its file, with the states that break it.
-    pub fn refused(&self, lent: &Lent, table: &Table, names: &Names, refusal: Refusal) -> Failure {
+    pub fn refused(&self, input: &Input, table: &Table, names: &Names, refusal: Refusal) -> Failure {
         match refusal.number() {
-            15..=20 => Failure::Refused(self.file.display().to_string(), refusal, broken::told(lent, table, names, &self.classes, refusal)),
-            _ => lent.refused(refusal),
+            15..=20 => Failure::Refused(self.file.display().to_string(), refusal, broken::told(input, table, names, &self.classes, refusal)),
+            _ => input.refused(refusal),
         }
     }
 }

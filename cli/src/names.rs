@@ -43,7 +43,7 @@ impl Names {
 
 /// The number of a name among these, or the number that the word itself is, 255 at most.
 pub fn find(names: &[String], word: &str) -> Option<u8> {
-    match crate::words::is_number(word) {
+    match crate::lexer::is_number(word) {
         true => Some(word.parse().unwrap_or(u8::MAX)),
         false => names.iter().position(|name| name == word).map(|place| place as u8),
     }

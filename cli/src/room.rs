@@ -1,7 +1,7 @@
 //! Room for clause lists: as much as a table can need, up to what the caller permits. Memory is taken as it is touched.
 
-use crate::ends::Failure;
-use crate::lent::Lent;
+use crate::exit::Failure;
+use crate::input::Input;
 use basilvault::{Limits, Refusal};
 
 /// The words that are there, and how many there may be.
@@ -30,14 +30,14 @@ impl Room {
     }
 
     /// The failure of a reduction: where the list was longer than the room, how long it is.
-    pub fn refused(&self, limits: Limits, lent: &Lent, refusal: Refusal) -> Failure {
+    pub fn refused(&self, limits: Limits, input: &Input, refusal: Refusal) -> Failure {
         let needed = match refusal {
-            Refusal::ListShort => needed(limits, &lent.bytes),
+            Refusal::ListShort => needed(limits, &input.bytes),
             _ => None,
         };
         match needed {
-            Some(words) => lent.refused_as(refusal, &format!("{words} words are needed, and --room permits {}", self.most)),
-            None => lent.refused(refusal),
+            Some(words) => input.refused_as(refusal, &format!("{words} words are needed, and --room permits {}", self.most)),
+            None => input.refused(refusal),
         }
     }
 }

@@ -1,8 +1,8 @@
 //! `check`: whether a map may be used.
 
 use crate::arguments::{Call, Command, NAMES, STATES, SYMBOLS};
-use crate::ends::{Outcome, Status, say};
-use crate::lent;
+use crate::exit::{Outcome, Status, say};
+use crate::input;
 
 pub const COMMAND: Command = Command {
     name: "check",
@@ -19,14 +19,14 @@ Example:
 ",
     least: 2,
     most: 2,
-    choices: &[NAMES, STATES, SYMBOLS],
+    options: &[NAMES, STATES, SYMBOLS],
     run,
 };
 
 /// Checks the map.
 fn run(call: &Call) -> Outcome {
-    let (limits, lent, table, names, map) = lent::with_map(call)?;
-    let checked = basilvault::check_within(limits, &lent.bytes, &map.classes);
-    let classes = checked.map_err(|refusal| map.refused(&lent, &table, &names, refusal))?;
+    let (limits, input, table, names, map) = input::with_map(call)?;
+    let checked = basilvault::check_within(limits, &input.bytes, &map.classes);
+    let classes = checked.map_err(|refusal| map.refused(&input, &table, &names, refusal))?;
     say(format!("classes {classes}\n").as_bytes()).map(|()| Status::Done)
 }

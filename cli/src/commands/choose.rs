@@ -1,10 +1,10 @@
 //! `choose`: the better of two maps.
 
 use crate::arguments::{Call, Command, NAMES, OUT, STATES, SYMBOLS};
-use crate::ends::{Outcome, Status, note, say};
+use crate::exit::{Outcome, Status, note, say};
 use crate::files::{Spared, is_stream};
 use crate::maps::{self, Map};
-use crate::lent;
+use crate::input;
 use basilvault::Refusal;
 
 pub const COMMAND: Command = Command {
@@ -21,30 +21,30 @@ Example:
 ",
     least: 3,
     most: 3,
-    choices: &[OUT, NAMES, STATES, SYMBOLS],
+    options: &[OUT, NAMES, STATES, SYMBOLS],
     run,
 };
 
 /// Chooses.
 fn run(call: &Call) -> Outcome {
-    let (limits, lent, table, names, first) = lent::with_map(call)?;
+    let (limits, input, table, names, first) = input::with_map(call)?;
     let second = Map::read(call.file(2), &names)?;
-    let chosen = basilvault::choose_within(limits, &lent.bytes, &first.classes, &second.classes);
+    let chosen = basilvault::choose_within(limits, &input.bytes, &first.classes, &second.classes);
     let chosen = chosen.map_err(|refusal| {
         // of neither map the check says why
         for map in [&first, &second].into_iter().filter(|_| refusal == Refusal::Neither) {
-            let checked = basilvault::check_within(limits, &lent.bytes, &map.classes);
+            let checked = basilvault::check_within(limits, &input.bytes, &map.classes);
             checked.err().into_iter().for_each(|why| {
-                map.refused(&lent, &table, &names, why).tell();
+                map.refused(&input, &table, &names, why).tell();
             });
         }
-        lent.refused(refusal)
+        input.refused(refusal)
     })?;
-    let classes = basilvault::check_within(limits, &lent.bytes, chosen).map_err(|refusal| lent.refused(refusal))?;
+    let classes = basilvault::check_within(limits, &input.bytes, chosen).map_err(|refusal| input.refused(refusal))?;
     let place = if std::ptr::eq(chosen, &first.classes[..]) { 1 } else { 2 };
     let line = format!("{}: map {place} of 2, classes {classes}", call.file(place).display());
     if let Some(out) = call.path(OUT.name) {
-        Spared::of([call.file(0), call.file(1), call.file(2)]).write(out, maps::shown(chosen, lent.own_names()).as_bytes())?;
+        Spared::of([call.file(0), call.file(1), call.file(2)]).write(out, maps::shown(chosen, input.own_names()).as_bytes())?;
         if is_stream(out) {
             note(&line);
             return Ok(Status::Done);

@@ -1,13 +1,13 @@
 //! `clauses`: which pairs of states exclude or force which.
 
-use crate::arguments::{Call, Choice, Command, NAMES, ROOM, STATES, SYMBOLS};
-use crate::ends::{Outcome, Status, say};
-use crate::lent;
+use crate::arguments::{Call, Opt, Command, NAMES, ROOM, STATES, SYMBOLS};
+use crate::exit::{Outcome, Status, say};
+use crate::input;
 use crate::names::Names;
 use crate::progress::Progress;
 use std::fmt::Write;
 
-const DIMACS: Choice = Choice { name: "--dimacs", value: "", says: "print them as DIMACS, for a solver" };
+const DIMACS: Opt = Opt { name: "--dimacs", value: "", says: "print them as DIMACS, for a solver" };
 
 pub const COMMAND: Command = Command {
     name: "clauses",
@@ -23,17 +23,17 @@ Example:
 ",
     least: 1,
     most: 1,
-    choices: &[DIMACS, NAMES, ROOM, STATES, SYMBOLS],
+    options: &[DIMACS, NAMES, ROOM, STATES, SYMBOLS],
     run,
 };
 
 /// Prints the clauses.
 fn run(call: &Call) -> Outcome {
-    let (limits, lent) = lent::first(call)?;
-    let (_, names) = lent.named(limits, call)?;
+    let (limits, input) = input::first(call)?;
+    let (_, names) = input.named(limits, call)?;
     let progress = Progress::start("clauses", 1);
     let mut list = vec![0; call.room()?];
-    let listed = basilvault::clauses_within(limits, &lent.bytes, &mut list).map_err(|refusal| lent.refused(refusal))?;
+    let listed = basilvault::clauses_within(limits, &input.bytes, &mut list).map_err(|refusal| input.refused(refusal))?;
     let list = &list[..listed.words];
     let pairs: Vec<_> = (0..names.states.len()).flat_map(|q| (0..q).map(move |p| (p, q))).collect();
     let text = if call.has(DIMACS.name) {

@@ -2,7 +2,7 @@
 
 use crate::arguments::{Call, Command, NAMES};
 use crate::compared::{Compared, Fit, alone};
-use crate::ends::{Outcome, Status, say};
+use crate::exit::{Outcome, Status, say};
 use crate::progress::Progress;
 use basilvault::Refusal;
 
@@ -21,7 +21,7 @@ Example:
 ",
     least: 2,
     most: 2,
-    choices: &[NAMES],
+    options: &[NAMES],
     run,
 };
 
@@ -33,7 +33,7 @@ fn run(call: &Call) -> Outcome {
     drop(progress);
     // symbols that differ do so both ways
     if let [Fit::Refused(refusal), _] = both
-        && refusal != Refusal::Choice
+        && refusal != Refusal::Opt
     {
         return Err(compared.second.refused(refusal));
     }

@@ -1,13 +1,13 @@
 //! `draw`: a table as a graph.
 
-use crate::arguments::{Call, Choice, Command, NAMES, OUT, STATES, SYMBOLS};
-use crate::ends::{Outcome, Status};
+use crate::arguments::{Call, Opt, Command, NAMES, OUT, STATES, SYMBOLS};
+use crate::exit::{Outcome, Status};
 use crate::files::Spared;
 use crate::maps::Map;
-use crate::{draw, lent};
+use crate::{draw, input};
 use std::path::Path;
 
-const MAP: Choice = Choice { name: "--map", value: "MAP", says: "the map whose classes are drawn" };
+const MAP: Opt = Opt { name: "--map", value: "MAP", says: "the map whose classes are drawn" };
 
 pub const COMMAND: Command = Command {
     name: "draw",
@@ -24,18 +24,18 @@ Example:
 ",
     least: 1,
     most: 1,
-    choices: &[MAP, NAMES, OUT, STATES, SYMBOLS],
+    options: &[MAP, NAMES, OUT, STATES, SYMBOLS],
     run,
 };
 
 /// Draws the table.
 fn run(call: &Call) -> Outcome {
-    let (limits, lent) = lent::first(call)?;
-    let (table, names) = lent.named(limits, call)?;
+    let (limits, input) = input::first(call)?;
+    let (table, names) = input.named(limits, call)?;
     let map = call.path(MAP.name).map(|file| Map::read(file, &names)).transpose()?;
-    let tops = basilvault::tops_within(limits, &lent.bytes).map_err(|refusal| lent.refused(refusal))?;
+    let tops = basilvault::tops_within(limits, &input.bytes).map_err(|refusal| input.refused(refusal))?;
     if let Some(map) = &map {
-        basilvault::check_within(limits, &lent.bytes, &map.classes).map_err(|refusal| map.refused(&lent, &table, &names, refusal))?;
+        basilvault::check_within(limits, &input.bytes, &map.classes).map_err(|refusal| map.refused(&input, &table, &names, refusal))?;
     }
     let spared = Spared::of([Some(call.file(0)), call.path(MAP.name), call.path(NAMES.name)].into_iter().flatten());
     let out = call.path(OUT.name).unwrap_or(Path::new("-"));

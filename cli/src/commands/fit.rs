@@ -2,7 +2,7 @@
 
 use crate::arguments::{Call, Command, NAMES};
 use crate::compared::{Compared, Fit, alone};
-use crate::ends::{Outcome, Status, say};
+use crate::exit::{Outcome, Status, say};
 use crate::progress::Progress;
 
 pub const COMMAND: Command = Command {
@@ -20,7 +20,7 @@ Example:
 ",
     least: 2,
     most: 2,
-    choices: &[NAMES],
+    options: &[NAMES],
     run,
 };
 

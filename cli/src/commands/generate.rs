@@ -1,13 +1,13 @@
 //! `generate`: random tables.
 
-use crate::arguments::{Call, Choice, Command, INTO, OUT, STATES, SYMBOLS};
-use crate::ends::{Failure, Outcome, Status};
+use crate::arguments::{Call, Opt, Command, INTO, OUT, STATES, SYMBOLS};
+use crate::exit::{Failure, Outcome, Status};
 use crate::files::{Spared, folder};
 use crate::progress::Progress;
 use crate::values;
 use basilvault::{LONGEST_FILE, Load};
 
-const COUNT: Choice = Choice { name: "--count", value: "N", says: "make N tables, of this seed and those behind it" };
+const COUNT: Opt = Opt { name: "--count", value: "N", says: "make N tables, of this seed and those behind it" };
 
 pub const COMMAND: Command = Command {
     name: "generate",
@@ -24,7 +24,7 @@ Example:
 ",
     least: 6,
     most: 6,
-    choices: &[OUT, INTO, COUNT, STATES, SYMBOLS],
+    options: &[OUT, INTO, COUNT, STATES, SYMBOLS],
     run,
 };
 

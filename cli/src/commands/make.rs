@@ -1,9 +1,9 @@
 //! `make`: a table from text.
 
 use crate::arguments::{Call, Command, OUT, STATES, SYMBOLS};
-use crate::ends::{Failure, Outcome, Status};
+use crate::exit::{Failure, Outcome, Status};
 use crate::files::{self, Spared};
-use crate::{lent, values};
+use crate::{input, values};
 
 pub const COMMAND: Command = Command {
     name: "make",
@@ -33,14 +33,14 @@ Example:
 ",
     least: 1,
     most: 1,
-    choices: &[OUT, STATES, SYMBOLS],
+    options: &[OUT, STATES, SYMBOLS],
     run,
 };
 
 /// Makes the table.
 fn run(call: &Call) -> Outcome {
     let (limits, file, out) = (call.limits()?, call.file(0), call.out()?);
-    let (table, _) = lent::from_text(file, &files::read(file)?)?;
+    let (table, _) = input::from_text(file, &files::read(file)?)?;
     let bytes = table.to_bytes();
     basilvault::read_within(limits, &bytes).map_err(|refusal| Failure::Refused(file.display().to_string(), refusal, values::of_table(refusal, limits, &bytes)))?;
     Spared::of([file]).write(out, &bytes).map(|()| Status::Done)

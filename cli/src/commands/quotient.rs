@@ -1,9 +1,9 @@
 //! `quotient`: the smaller table of a map.
 
 use crate::arguments::{Call, Command, NAMES, OUT, STATES, SYMBOLS, TEXT};
-use crate::ends::{Outcome, Status, note, say};
+use crate::exit::{Outcome, Status, note, say};
 use crate::files::{Spared, one_streams};
-use crate::{lent, maps, model, text};
+use crate::{input, maps, model, text};
 use basilvault::LONGEST_FILE;
 
 pub const COMMAND: Command = Command {
@@ -21,7 +21,7 @@ Example:
 ",
     least: 2,
     most: 2,
-    choices: &[OUT, TEXT, NAMES, STATES, SYMBOLS],
+    options: &[OUT, TEXT, NAMES, STATES, SYMBOLS],
     run,
 };
 
@@ -29,18 +29,18 @@ Example:
 fn run(call: &Call) -> Outcome {
     let outs = [call.path(OUT.name), call.path(TEXT.name)];
     let streams = one_streams(outs)?;
-    let (limits, lent, table, names, map) = lent::with_map(call)?;
+    let (limits, input, table, names, map) = input::with_map(call)?;
     let mut small = [0; LONGEST_FILE];
-    let written = basilvault::quotient_within(limits, &lent.bytes, &map.classes, &mut small);
-    let written = written.map_err(|refusal| map.refused(&lent, &table, &names, refusal))?;
+    let written = basilvault::quotient_within(limits, &input.bytes, &map.classes, &mut small);
+    let written = written.map_err(|refusal| map.refused(&input, &table, &names, refusal))?;
     let small = &small[..written];
-    let quotient = model::Table::from_bytes(limits, small).map_err(|refusal| lent.refused(refusal))?;
+    let quotient = model::Table::from_bytes(limits, small).map_err(|refusal| input.refused(refusal))?;
     let shown = text::show(&quotient, &maps::class_names(&map.classes, &names, &quotient), None);
     let spared = Spared::of([call.file(0), call.file(1)].into_iter().chain(call.path(NAMES.name)));
     for (path, bytes) in outs.into_iter().zip([small, shown.as_bytes()]) {
         path.map_or(Ok(()), |path| spared.write(path, bytes))?;
     }
-    let line = format!("{}: states {} classes {} bytes {written}", lent.file.display(), table.states.len(), quotient.states.len());
+    let line = format!("{}: states {} classes {} bytes {written}", input.file.display(), table.states.len(), quotient.states.len());
     if streams {
         note(&line);
         return Ok(Status::Done);

@@ -1,8 +1,8 @@
 //! `records`: where each record goes.
 
 use crate::arguments::{Call, Command, NAMES, STATES, SYMBOLS};
-use crate::ends::{Outcome, Status, say};
-use crate::{lent, text};
+use crate::exit::{Outcome, Status, say};
+use crate::{input, text};
 use basilvault::{MOST_RECORDS, Recorded};
 use std::collections::HashMap;
 use std::fmt::Write;
@@ -22,16 +22,16 @@ Example:
 ",
     least: 2,
     most: 2,
-    choices: &[NAMES, STATES, SYMBOLS],
+    options: &[NAMES, STATES, SYMBOLS],
     run,
 };
 
 /// Prints the records.
 fn run(call: &Call) -> Outcome {
-    let (limits, lent, table, names, map) = lent::with_map(call)?;
+    let (limits, input, table, names, map) = input::with_map(call)?;
     let mut fates = [0; MOST_RECORDS];
-    let recorded = basilvault::records_within(limits, &lent.bytes, &map.classes, &mut fates);
-    let recorded = recorded.map_err(|refusal| map.refused(&lent, &table, &names, refusal))?;
+    let recorded = basilvault::records_within(limits, &input.bytes, &map.classes, &mut fates);
+    let recorded = recorded.map_err(|refusal| map.refused(&input, &table, &names, refusal))?;
     let class = |state: u8| map.classes[usize::from(state)];
     let moves = table.internals.iter().chain(&table.calls);
     let moves = moves.map(|&r| (text::internal(&names, r), vec![class(r[0]), r[1], class(r[2])]));

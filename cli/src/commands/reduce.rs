@@ -1,10 +1,10 @@
 //! `reduce`: tables made smaller.
 
-use crate::arguments::{BUDGET, Call, Choice, Command, INTO, NAMES, OUT, ROOM, STATES, SYMBOLS, TEXT};
-use crate::ends::{Failure, Outcome, Status, note, say};
+use crate::arguments::{BUDGET, Call, Opt, Command, INTO, NAMES, OUT, ROOM, STATES, SYMBOLS, TEXT};
+use crate::exit::{Failure, Outcome, Status, note, say};
 use crate::files::{Spared, folder, is_stream, one_streams, places, tables_in};
 use crate::facts::Facts;
-use crate::lent::Lent;
+use crate::input::Input;
 use crate::model::Table;
 use crate::{maps, text};
 use crate::progress::Progress;
@@ -12,7 +12,7 @@ use crate::room::Room;
 use basilvault::{LONGEST_FILE, Limits, MOST_RECORDS, MOST_STATES, Recorded, Reduced, Refusal};
 use std::path::{Path, PathBuf};
 
-const MAP: Choice = Choice { name: "--map", value: "FILE", says: "write the map to this file, by names where there are some" };
+const MAP: Opt = Opt { name: "--map", value: "FILE", says: "write the map to this file, by names where there are some" };
 
 pub const COMMAND: Command = Command {
     name: "reduce",
@@ -33,7 +33,7 @@ Example:
 ",
     least: 1,
     most: usize::MAX,
-    choices: &[OUT, INTO, MAP, TEXT, NAMES, BUDGET, ROOM, STATES, SYMBOLS],
+    options: &[OUT, INTO, MAP, TEXT, NAMES, BUDGET, ROOM, STATES, SYMBOLS],
     run,
 };
 
@@ -103,24 +103,24 @@ fn outs(call: &Call, files: &[&Path]) -> Result<Vec<PathBuf>, Failure> {
 impl Reducer<'_> {
     /// Reduces a table: its line.
     fn one(&mut self, file: &Path, out: Option<&Path>, written: &Written) -> Result<String, Failure> {
-        let lent = Lent::of(self.limits, file)?;
-        let (table, names) = lent.named(self.limits, self.call)?;
+        let input = Input::of(self.limits, file)?;
+        let (table, names) = input.named(self.limits, self.call)?;
         let (mut map, mut small) = ([0; MOST_STATES], [0; LONGEST_FILE]);
-        let list = self.room.for_tables(self.limits, [&lent.bytes[..]])?;
-        let reduced = basilvault::reduce_within(self.limits, &lent.bytes, self.budget, list, &mut map, &mut small);
-        let reduced = reduced.map_err(|refusal| self.room.refused(self.limits, &lent, refusal))?;
-        let (line, states, length) = summary(self.limits, &lent, reduced, &map).map_err(|refusal| lent.refused(refusal))?;
-        tell_spent(&lent, reduced);
+        let list = self.room.for_tables(self.limits, [&input.bytes[..]])?;
+        let reduced = basilvault::reduce_within(self.limits, &input.bytes, self.budget, list, &mut map, &mut small);
+        let reduced = reduced.map_err(|refusal| self.room.refused(self.limits, &input, refusal))?;
+        let (line, states, length) = summary(self.limits, &input, reduced, &map).map_err(|refusal| input.refused(refusal))?;
+        tell_spent(&input, reduced);
         if self.alone {
-            let facts = Facts::of(&table, &lent.tops()?).told(&names);
+            let facts = Facts::of(&table, &input.tops()?).told(&names);
             facts.iter().for_each(|fact| note(&format!("basilvault: {}: {fact}", file.display())));
         }
         let (map, small) = (&map[..states], &small[..length]);
         let text = written.text.map_or(Ok(String::new()), |_| {
-            let quotient = Table::from_bytes(self.limits, small).map_err(|refusal| lent.refused(refusal))?;
+            let quotient = Table::from_bytes(self.limits, small).map_err(|refusal| input.refused(refusal))?;
             Ok(text::show(&quotient, &maps::class_names(map, &names, &quotient), None))
         })?;
-        let own = lent.own_names().or(self.call.has(NAMES.name).then_some(&names));
+        let own = input.own_names().or(self.call.has(NAMES.name).then_some(&names));
         for (path, bytes) in [(out, small), (written.map, maps::shown(map, own).as_bytes()), (written.text, text.as_bytes())] {
             path.map_or(Ok(()), |path| self.spared.write(path, bytes))?;
         }
@@ -129,23 +129,23 @@ impl Reducer<'_> {
 }
 
 /// Says on standard error what it means that the budget was spent.
-pub fn tell_spent(lent: &Lent, reduced: Reduced) {
+pub fn tell_spent(input: &Input, reduced: Reduced) {
     if reduced.spent {
         let guesses = reduced.guesses;
         note(&format!(
             "basilvault: {}: all {guesses} guesses are spent: the reduced table accepts the same scripts, but a smaller one may exist; a larger --budget may find it",
-            lent.file.display()
+            input.file.display()
         ));
     }
 }
 
 /// The line of a reduced table whose map these bytes start with, how many states it has, and how long the smaller table is.
-pub fn summary(limits: Limits, lent: &Lent, reduced: Reduced, map: &[u8]) -> Result<(String, usize, usize), Refusal> {
-    let states = basilvault::read_within(limits, &lent.bytes)?.counts(lent.bytes.len()).states;
-    let Recorded { records, kept, folded, dead } = basilvault::records_within(limits, &lent.bytes, &map[..states], &mut [0; MOST_RECORDS])?;
+pub fn summary(limits: Limits, input: &Input, reduced: Reduced, map: &[u8]) -> Result<(String, usize, usize), Refusal> {
+    let states = basilvault::read_within(limits, &input.bytes)?.counts(input.bytes.len()).states;
+    let Recorded { records, kept, folded, dead } = basilvault::records_within(limits, &input.bytes, &map[..states], &mut [0; MOST_RECORDS])?;
     let Reduced { classes, guesses, words, length, joined, ceiling, spent } = reduced;
     let counts = format!("states {states} classes {classes} guesses {guesses} words {words} joined {joined} of {ceiling}");
     let spent = if spent { " spent" } else { "" };
-    let line = format!("{}: {counts}{spent} records {records} kept {kept} folded {folded} dead {dead}", lent.file.display());
+    let line = format!("{}: {counts}{spent} records {records} kept {kept} folded {folded} dead {dead}", input.file.display());
     Ok((line, states, length))
 }

@@ -1,17 +1,17 @@
 //! `script`: whether a table accepts a script.
 
-use crate::arguments::{Call, Choice, Command, NAMES, STATES, SYMBOLS};
-use crate::ends::{Failure, Outcome, Status, say};
+use crate::arguments::{Call, Opt, Command, NAMES, STATES, SYMBOLS};
+use crate::exit::{Failure, Outcome, Status, say};
 use crate::names::Names;
-use crate::words::{Word, collected, meant, nearest, quoted, text, words};
+use crate::lexer::{Word, collected, meant, nearest, quoted, text, words};
 use crate::maps::Map;
-use crate::{files, lent, names, trace};
+use crate::{files, input, names, trace};
 use std::path::Path;
 
-const FILE: Choice = Choice { name: "--file", value: "F", says: "the file that has the script" };
+const FILE: Opt = Opt { name: "--file", value: "F", says: "the file that has the script" };
 
-const TRACE: Choice = Choice { name: "--trace", value: "", says: "print the states that runs can be in after each symbol" };
-const MAP: Choice = Choice { name: "--map", value: "MAP", says: "print their classes in this map as well, which the check must accept" };
+const TRACE: Opt = Opt { name: "--trace", value: "", says: "print the states that runs can be in after each symbol" };
+const MAP: Opt = Opt { name: "--map", value: "MAP", says: "print their classes in this map as well, which the check must accept" };
 
 pub const COMMAND: Command = Command {
     name: "script",
@@ -28,7 +28,7 @@ Example:
 ",
     least: 1,
     most: usize::MAX,
-    choices: &[FILE, TRACE, MAP, NAMES, STATES, SYMBOLS],
+    options: &[FILE, TRACE, MAP, NAMES, STATES, SYMBOLS],
     run,
 };
 
@@ -37,14 +37,14 @@ fn run(call: &Call) -> Outcome {
     if call.has(FILE.name) && call.plain.len() > 1 {
         return Err(Failure::Wrong("the script can not stand in a file and in the call".into(), None));
     }
-    let (limits, lent) = lent::first(call)?;
+    let (limits, input) = input::first(call)?;
     let traced = call.has(TRACE.name) || call.has(MAP.name);
-    let (table, names) = if traced { lent.named(limits, call)? } else { lent.named_symbols(limits, call)? };
+    let (table, names) = if traced { input.named(limits, call)? } else { input.named_symbols(limits, call)? };
     let script = call.path(FILE.name).map_or_else(|| given(call, &names), |file| from_file(file, &names))?;
-    let yes = basilvault::script_within(limits, &lent.bytes, &script).map_err(|refusal| lent.refused(refusal))?;
+    let yes = basilvault::script_within(limits, &input.bytes, &script).map_err(|refusal| input.refused(refusal))?;
     let map = call.path(MAP.name).map(|file| Map::read(file, &names)).transpose()?;
     if let Some(map) = &map {
-        basilvault::check_within(limits, &lent.bytes, &map.classes).map_err(|refusal| map.refused(&lent, &table, &names, refusal))?;
+        basilvault::check_within(limits, &input.bytes, &map.classes).map_err(|refusal| map.refused(&input, &table, &names, refusal))?;
     }
     let lines = if traced { trace::lines(&table, &names, &script, map.as_ref().map(|map| &map.classes[..])) } else { String::new() };
     say(format!("{lines}{}\n", if yes { "yes" } else { "no" }).as_bytes()).map(|()| Status::from(yes))

@@ -2,9 +2,9 @@
 
 use super::reduce::{once_from_input, summary, tell_spent};
 use crate::arguments::{BUDGET, Call, Command, INTO, ROOM, STATES, SYMBOLS};
-use crate::ends::{Failure, Outcome, Status, say};
+use crate::exit::{Failure, Outcome, Status, say};
 use crate::files::{Spared, folder, places, tables_in};
-use crate::lent::Lent;
+use crate::input::Input;
 use crate::progress::Progress;
 use crate::room::Room;
 use crate::values;
@@ -26,7 +26,7 @@ Example:
 ",
     least: 1,
     most: usize::MAX,
-    choices: &[INTO, BUDGET, ROOM, STATES, SYMBOLS],
+    options: &[INTO, BUDGET, ROOM, STATES, SYMBOLS],
     run,
 };
 
@@ -37,24 +37,24 @@ fn run(call: &Call) -> Outcome {
     let files: Vec<&Path> = files.iter().map(PathBuf::as_path).collect();
     once_from_input(&files)?;
     let outs = call.path(INTO.name).map_or(Ok(Vec::new()), |into| places(into, &files))?;
-    let lent = files.iter().map(|file| Lent::of(limits, file)).collect::<Result<Vec<_>, _>>()?;
-    let tables: Vec<u8> = lent.iter().flat_map(|lent| lent.bytes.iter().copied()).collect();
-    let lengths: Vec<u64> = lent.iter().map(|lent| lent.bytes.len() as u64).collect();
+    let input = files.iter().map(|file| Input::of(limits, file)).collect::<Result<Vec<_>, _>>()?;
+    let tables: Vec<u8> = input.iter().flat_map(|input| input.bytes.iter().copied()).collect();
+    let lengths: Vec<u64> = input.iter().map(|input| input.bytes.len() as u64).collect();
     let mut room = Room::new(call.room()?);
     let (mut maps, mut out) = (vec![0; MOST_TABLES * MOST_STATES], vec![0; MOST_TABLES * LONGEST_FILE]);
-    let list = room.for_tables(limits, lent.iter().map(|lent| &lent.bytes[..]))?;
+    let list = room.for_tables(limits, input.iter().map(|input| &input.bytes[..]))?;
     let progress = Progress::start("season", 1);
     let season = basilvault::season_within(limits, &tables, &lengths, budget, list, &mut maps, &mut out);
     drop(progress);
     let season = season.map_err(|refusal| Failure::Refused(format!("a season of {} tables", files.len()), refusal, values::of_limits(refusal, limits)))?;
     call.path(INTO.name).map_or(Ok(()), folder)?;
-    deliver(limits, &lent, &season, &room, (&maps, &out), &outs, &Spared::of(files))
+    deliver(limits, &input, &season, &room, (&maps, &out), &outs, &Spared::of(files))
 }
 
 /// Prints the line of each table and writes the smaller ones: maps and tables stand back to back.
 fn deliver(
     limits: Limits,
-    lent: &[Lent],
+    input: &[Input],
     season: &[Result<Reduced, Refusal>],
     room: &Room,
     (mut maps, mut tables): (&[u8], &[u8]),
@@ -62,9 +62,9 @@ fn deliver(
     spared: &Spared,
 ) -> Outcome {
     let mut worst = Status::Done;
-    for (place, (lent, answer)) in lent.iter().zip(season).enumerate() {
-        let done = answer.and_then(|reduced| summary(limits, lent, reduced, maps)).map_err(|refusal| room.refused(limits, lent, refusal));
-        answer.iter().for_each(|reduced| tell_spent(lent, *reduced));
+    for (place, (input, answer)) in input.iter().zip(season).enumerate() {
+        let done = answer.and_then(|reduced| summary(limits, input, reduced, maps)).map_err(|refusal| room.refused(limits, input, refusal));
+        answer.iter().for_each(|reduced| tell_spent(input, *reduced));
         let written = done.and_then(|(line, states, length)| {
             let small = &tables[..length];
             (maps, tables) = (&maps[states..], &tables[length..]);

@@ -1,13 +1,13 @@
 //! `show`: a table as text.
 
-use crate::arguments::{Call, Choice, Command, NAMES, OUT, STATES, SYMBOLS};
-use crate::ends::{Outcome, Status};
+use crate::arguments::{Call, Opt, Command, NAMES, OUT, STATES, SYMBOLS};
+use crate::exit::{Outcome, Status};
 use crate::facts::Facts;
 use crate::files::Spared;
-use crate::{lent, text};
+use crate::{input, text};
 use std::path::Path;
 
-const FACTS: Choice = Choice { name: "--facts", value: "", says: "end with comments on states that serve no script" };
+const FACTS: Opt = Opt { name: "--facts", value: "", says: "end with comments on states that serve no script" };
 
 pub const COMMAND: Command = Command {
     name: "show",
@@ -23,15 +23,15 @@ Example:
 ",
     least: 1,
     most: 1,
-    choices: &[FACTS, NAMES, OUT, STATES, SYMBOLS],
+    options: &[FACTS, NAMES, OUT, STATES, SYMBOLS],
     run,
 };
 
 /// Shows the table.
 fn run(call: &Call) -> Outcome {
-    let (limits, lent) = lent::first(call)?;
-    let (table, names) = lent.named(limits, call)?;
-    let tops = basilvault::tops_within(limits, &lent.bytes).map_err(|refusal| lent.refused(refusal))?;
+    let (limits, input) = input::first(call)?;
+    let (table, names) = input.named(limits, call)?;
+    let tops = basilvault::tops_within(limits, &input.bytes).map_err(|refusal| input.refused(refusal))?;
     let spared = Spared::of([call.file(0)].into_iter().chain(call.path(NAMES.name)));
     let out = call.path(OUT.name).unwrap_or(Path::new("-"));
     let facts = if call.has(FACTS.name) { Facts::of(&table, &tops).told(&names) } else { Vec::new() };

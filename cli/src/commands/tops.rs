@@ -1,8 +1,8 @@
 //! `tops`: what each state can have on top of the stack.
 
 use crate::arguments::{Call, Command, NAMES, STATES, SYMBOLS};
-use crate::ends::{Outcome, Status, say};
-use crate::lent;
+use crate::exit::{Outcome, Status, say};
+use crate::input;
 use basilvault::BOTTOM;
 use std::fmt::Write;
 
@@ -20,15 +20,15 @@ Example:
 ",
     least: 1,
     most: 1,
-    choices: &[NAMES, STATES, SYMBOLS],
+    options: &[NAMES, STATES, SYMBOLS],
     run,
 };
 
 /// Prints the tops.
 fn run(call: &Call) -> Outcome {
-    let (limits, lent) = lent::first(call)?;
-    let (_, names) = lent.named(limits, call)?;
-    let tops = basilvault::tops_within(limits, &lent.bytes).map_err(|refusal| lent.refused(refusal))?;
+    let (limits, input) = input::first(call)?;
+    let (_, names) = input.named(limits, call)?;
+    let tops = basilvault::tops_within(limits, &input.bytes).map_err(|refusal| input.refused(refusal))?;
     let mut text = String::new();
     for (name, word) in names.states.iter().zip(tops.words) {
         let states = (0..BOTTOM).filter(|top| word >> top & 1 != 0).map(|top| names.state(top as u8));

@@ -1,14 +1,14 @@
 //! `uses`: use counts added up by class.
 
-use crate::arguments::{Call, Choice, Command, NAMES, STATES, SYMBOLS};
-use crate::ends::{Failure, Outcome, Status, say};
+use crate::arguments::{Call, Opt, Command, NAMES, STATES, SYMBOLS};
+use crate::exit::{Failure, Outcome, Status, say};
 use crate::names::Names;
-use crate::words::{Line, Mistake, collected, lines, text};
-use crate::{files, lent, maps, names};
+use crate::lexer::{Line, Mistake, collected, lines, text};
+use crate::{files, input, maps, names};
 use std::fmt::Write;
 use std::path::Path;
 
-const BINARY: Choice = Choice { name: "--binary", value: "FILE", says: "lines of 5 bytes: a state, and 32 bits, little-endian" };
+const BINARY: Opt = Opt { name: "--binary", value: "FILE", says: "lines of 5 bytes: a state, and 32 bits, little-endian" };
 
 pub const COMMAND: Command = Command {
     name: "uses",
@@ -24,19 +24,19 @@ Example:
 ",
     least: 2,
     most: 3,
-    choices: &[BINARY, NAMES, STATES, SYMBOLS],
+    options: &[BINARY, NAMES, STATES, SYMBOLS],
     run,
 };
 
 /// Adds up the counts.
 fn run(call: &Call) -> Outcome {
-    let (limits, lent, table, names, map) = lent::with_map(call)?;
+    let (limits, input, table, names, map) = input::with_map(call)?;
     let counts = match (call.plain.get(2), call.path(BINARY.name)) {
         (Some(file), None) => from_text(Path::new(file), &names)?,
         (None, Some(file)) => files::read(file)?,
         _ => return Err(Failure::Wrong("the use counts are missing, or given twice: LINES or --binary FILE".into(), None)),
     };
-    let uses = basilvault::uses_within(limits, &lent.bytes, &map.classes, &counts).map_err(|refusal| map.refused(&lent, &table, &names, refusal))?;
+    let uses = basilvault::uses_within(limits, &input.bytes, &map.classes, &counts).map_err(|refusal| map.refused(&input, &table, &names, refusal))?;
     let map = &map.classes;
     let classes = map.iter().max().map_or(0, |&last| usize::from(last) + 1);
     let mut said = String::new();

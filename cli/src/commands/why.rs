@@ -1,14 +1,14 @@
 //! `why`: why two states are joined, or stay apart.
 
-use crate::arguments::{BUDGET, Call, Choice, Command, NAMES, STATES, SYMBOLS};
-use crate::ends::{Failure, Outcome, Status, say};
+use crate::arguments::{BUDGET, Call, Opt, Command, NAMES, STATES, SYMBOLS};
+use crate::exit::{Failure, Outcome, Status, say};
 use crate::progress::Progress;
 use crate::maps::Map;
 use crate::why::{self, Of};
-use crate::words::{meant, nearest, quoted};
-use crate::{lent, names};
+use crate::lexer::{meant, nearest, quoted};
+use crate::{input, names};
 
-const MAP: Choice = Choice { name: "--map", value: "MAP", says: "the map to speak of, in place of the one that reduce delivers" };
+const MAP: Opt = Opt { name: "--map", value: "MAP", says: "the map to speak of, in place of the one that reduce delivers" };
 
 pub const COMMAND: Command = Command {
     name: "why",
@@ -25,17 +25,17 @@ Example:
 ",
     least: 3,
     most: 3,
-    choices: &[MAP, BUDGET, NAMES, STATES, SYMBOLS],
+    options: &[MAP, BUDGET, NAMES, STATES, SYMBOLS],
     run,
 };
 
 /// Tells it.
 fn run(call: &Call) -> Outcome {
-    let (limits, lent) = lent::first(call)?;
-    let (table, names) = lent.named(limits, call)?;
+    let (limits, input) = input::first(call)?;
+    let (table, names) = input.named(limits, call)?;
     let map = call.path(MAP.name).map(|file| Map::read(file, &names)).transpose()?;
     if let Some(map) = &map {
-        basilvault::check_within(limits, &lent.bytes, &map.classes).map_err(|refusal| map.refused(&lent, &table, &names, refusal))?;
+        basilvault::check_within(limits, &input.bytes, &map.classes).map_err(|refusal| map.refused(&input, &table, &names, refusal))?;
     }
     let state = |place: usize| {
         let word = call.plain[place].to_string_lossy();
@@ -48,8 +48,8 @@ fn run(call: &Call) -> Outcome {
     let progress = Progress::start("why", 1);
     let file = call.path(MAP.name).map(|file| file.display().to_string()).unwrap_or_default();
     let of = map.as_ref().map_or(Of::Reduce, |map| Of::Map(&file, &map.classes));
-    let answer = why::why(limits, &lent.bytes, &names, (p, q), call.budget()?, of);
+    let answer = why::why(limits, &input.bytes, &names, (p, q), call.budget()?, of);
     drop(progress);
-    let answer = answer.map_err(|refusal| lent.refused(refusal))?;
+    let answer = answer.map_err(|refusal| input.refused(refusal))?;
     say(format!("{}\n", answer.text.trim_end()).as_bytes()).map(|()| Status::from(answer.joined))
 }

@@ -1,6 +1,6 @@
 //! What breaks a map: the states, the symbol and the targets. The library has refused it; this finds the place and says it.
 
-use crate::lent::Lent;
+use crate::input::Input;
 use crate::model::Table;
 use crate::names::Names;
 use basilvault::{Refusal, Tops};
@@ -14,14 +14,14 @@ struct Told<'a> {
 }
 
 /// What breaks the condition that the library names; nothing where no place is found.
-pub fn told(lent: &Lent, table: &Table, names: &Names, map: &[u8], refusal: Refusal) -> String {
+pub fn told(input: &Input, table: &Table, names: &Names, map: &[u8], refusal: Refusal) -> String {
     if refusal == Refusal::MapLength {
-        return format!("it has {} states, and {} has {}", map.len(), lent.file.display(), table.states.len());
+        return format!("it has {} states, and {} has {}", map.len(), input.file.display(), table.states.len());
     }
     if refusal == Refusal::Numbering {
         return numbering(names, map);
     }
-    let Ok(tops) = lent.tops() else { return String::new() };
+    let Ok(tops) = input.tops() else { return String::new() };
     let told = Told { table, names, tops, map };
     let found = match refusal {
         Refusal::Agreement => told.agreement(),

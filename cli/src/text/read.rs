@@ -3,7 +3,7 @@
 use super::is_name;
 use crate::model::{Kind, State, Table};
 use crate::names::Names;
-use crate::words::{Line, Mistake, Word, lines};
+use crate::lexer::{Line, Mistake, Word, lines};
 use basilvault::{MOST_CALLS, MOST_INTERNALS, MOST_RETURNS, MOST_STATES, MOST_SYMBOLS};
 use std::collections::HashMap;
 

@@ -1,17 +1,17 @@
 //! Tables that a command is lent, as bytes or as text, and their names.
 
 use crate::arguments::{Call, NAMES};
-use crate::ends::Failure;
+use crate::exit::Failure;
 use crate::files;
 use crate::maps::Map;
 use crate::model::Table;
 use crate::names::Names;
-use crate::{text, values, words};
+use crate::{lexer, text, values};
 use basilvault::{Limits, Refusal, Tops};
 use std::path::{Path, PathBuf};
 
 /// A table: its file, its bytes, readable or not, and, where it is a text, its names.
-pub struct Lent {
+pub struct Input {
     pub file: PathBuf,
     pub bytes: Vec<u8>,
     limits: Limits,
@@ -21,19 +21,19 @@ pub struct Lent {
 /// The table and the names of a text.
 pub fn from_text(file: &Path, bytes: &[u8]) -> Result<(Table, Names), Failure> {
     let what = "a table in text form";
-    text::read(words::text(file, bytes, what)?).map_err(|mistakes| words::mistaken(file, &mistakes, what))
+    text::read(lexer::text(file, bytes, what)?).map_err(|mistakes| lexer::mistaken(file, &mistakes, what))
 }
 
-impl Lent {
+impl Input {
     /// The table of a file. What the library reads is a table; what else begins as a text is one; the rest is left for the library to refuse.
-    pub fn of(limits: Limits, file: &Path) -> Result<Lent, Failure> {
+    pub fn of(limits: Limits, file: &Path) -> Result<Input, Failure> {
         let bytes = files::read(file)?;
         let file = file.to_path_buf();
         if basilvault::read_within(limits, &bytes).is_ok() || !text::is_meant(&bytes) {
-            return Ok(Lent { file, bytes, limits, names: None });
+            return Ok(Input { file, bytes, limits, names: None });
         }
         let (table, names) = from_text(&file, &bytes)?;
-        Ok(Lent { file, bytes: table.to_bytes(), limits, names: Some(names) })
+        Ok(Input { file, bytes: table.to_bytes(), limits, names: Some(names) })
     }
 
     /// The failure of a refused call on this table.
@@ -97,15 +97,15 @@ fn names_of(file: &Path, table: &Table, symbols_alone: bool) -> Result<Names, Fa
 }
 
 /// The first table that a command is lent, with its sections, its names and the map that the second argument names.
-pub fn with_map(call: &Call) -> Result<(Limits, Lent, Table, Names, Map), Failure> {
-    let (limits, lent) = first(call)?;
-    let (table, names) = lent.named(limits, call)?;
+pub fn with_map(call: &Call) -> Result<(Limits, Input, Table, Names, Map), Failure> {
+    let (limits, input) = first(call)?;
+    let (table, names) = input.named(limits, call)?;
     let map = Map::read(call.file(1), &names)?;
-    Ok((limits, lent, table, names, map))
+    Ok((limits, input, table, names, map))
 }
 
 /// The first table that a command is lent, with its limits.
-pub fn first(call: &Call) -> Result<(Limits, Lent), Failure> {
+pub fn first(call: &Call) -> Result<(Limits, Input), Failure> {
     let limits = call.limits()?;
-    Ok((limits, Lent::of(limits, call.file(0))?))
+    Ok((limits, Input::of(limits, call.file(0))?))
 }

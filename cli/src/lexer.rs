@@ -1,6 +1,6 @@
 //! Text as lines of words, each with its line and column, and mistakes that say where they are. `#` starts a comment.
 
-use crate::ends::Failure;
+use crate::exit::Failure;
 use std::path::Path;
 
 /// The mistakes of a file that are told.
