@@ -19,7 +19,17 @@
 //! # Ok::<(), Refusal>(())
 //! ```
 //!
-//! Output over input does not compile:
+//! [`Table`] owns its bytes and makes the buffers itself:
+//!
+//! ```
+//! use basilvault::{EXAMPLE, Table};
+//!
+//! let reduction = Table::read(EXAMPLE)?.reduce(100_000)?;
+//! assert_eq!((reduction.map, reduction.table.bytes().len()), (vec![0, 1, 1, 2], 31));
+//! # Ok::<(), basilvault::Refusal>(())
+//! ```
+//!
+//! The functions over slices take no memory of their own. Output over input does not compile:
 //!
 //! ```compile_fail,E0502
 //! let mut table = basilvault::EXAMPLE;
@@ -37,11 +47,13 @@ mod operations;
 #[doc(hidden)]
 pub mod raw;
 mod refusal;
+mod table;
 
 pub use answers::{Counts, Listed, Load, Recorded, Reduced, Starts, Tops, Uses};
 pub use limits::*;
 pub use operations::*;
 pub use refusal::{NoRefusal, Refusal};
+pub use table::{Reduction, Table};
 
 /// What a call answers, or why it was refused.
 pub type Result<T> = std::result::Result<T, Refusal>;
