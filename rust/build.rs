@@ -48,7 +48,7 @@ fn main() {
     println!("cargo::rerun-if-changed=build.rs");
     let library = std::env::var_os("BASILVAULT_LIBRARY").map_or_else(of_repository, |path| given(path.into()));
     println!("cargo::rerun-if-changed={}", library.display());
-    let archive = std::fs::read(&library).unwrap_or_else(|e| fail(&format!("{} can not be read ({e})", library.display())));
+    let archive = std::fs::read(&library).unwrap_or_else(|e| fail(&format!("{} cannot be read ({e})", library.display())));
     let out = PathBuf::from(std::env::var_os("OUT_DIR").expect("cargo gives a folder"));
     // under its own name, so that it meets no other library
     std::fs::write(out.join("libbasilvault.a"), archive).expect("cargo's folder takes the library");

@@ -12,7 +12,7 @@ pub enum Status {
     No = 1,
     /// Refused by the library, or not what the file should be.
     Refused = 2,
-    /// A file can not be read or written.
+    /// A file cannot be read or written.
     File = 3,
     /// Called wrongly.
     Wrong = 4,
@@ -31,7 +31,7 @@ pub enum Failure {
     Refused(String, Refusal, String),
     /// A file is not what it should be: lines that say where and why.
     Mistaken(Vec<String>),
-    /// A file can not be read or written.
+    /// A file cannot be read or written.
     File(String),
     /// The command was called wrongly: why, and the subcommand whose help says more.
     Wrong(String, Option<&'static str>),
@@ -90,6 +90,6 @@ pub fn say(bytes: &[u8]) -> Result<(), Failure> {
     let mut out = io::stdout().lock();
     out.write_all(bytes).and_then(|()| out.flush()).map_err(|error| match error.kind() {
         io::ErrorKind::BrokenPipe => Failure::Unread,
-        _ => Failure::File(format!("standard output can not be written ({error})")),
+        _ => Failure::File(format!("standard output cannot be written ({error})")),
     })
 }

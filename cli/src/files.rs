@@ -24,14 +24,14 @@ pub fn one_streams<const OUTS: usize>(outs: [Option<&Path>; OUTS]) -> Result<boo
     let place = |path: &Path| fs::canonicalize(path).or_else(|_| std::path::absolute(path)).unwrap_or_else(|_| path.to_path_buf());
     let mut taken = std::collections::HashSet::new();
     match outs.into_iter().flatten().find(|path| !taken.insert(place(path))) {
-        Some(twice) => Err(Failure::Wrong(format!("two outputs can not both go to {}", twice.display()), None)),
+        Some(twice) => Err(Failure::Wrong(format!("two outputs cannot both go to {}", twice.display()), None)),
         None => Ok(outs.into_iter().flatten().any(is_stream)),
     }
 }
 
 /// The bytes of a file or, for `-`, of standard input.
 pub fn read(path: &Path) -> Result<Vec<u8>, Failure> {
-    let fail = |error: io::Error| Failure::File(format!("{} can not be read ({error})", path.display()));
+    let fail = |error: io::Error| Failure::File(format!("{} cannot be read ({error})", path.display()));
     let mut bytes = Vec::new();
     if is_stream(path) {
         if TAKEN.swap(true, Ordering::Relaxed) {
@@ -63,7 +63,7 @@ impl Spared {
         if is_stream(out) {
             return say(bytes);
         }
-        let fail = |error: io::Error| Failure::File(format!("{} can not be written ({error})", out.display()));
+        let fail = |error: io::Error| Failure::File(format!("{} cannot be written ({error})", out.display()));
         match fs::metadata(out) {
             Ok(there) if there.is_file() => {
                 if let Some(path) = self.0.get(&(there.dev(), there.ino())) {
@@ -116,7 +116,7 @@ fn replace(out: &Path, bytes: &[u8], permissions: Option<fs::Permissions>) -> io
 
 /// Makes a folder where there is none.
 pub fn folder(path: &Path) -> Result<(), Failure> {
-    fs::create_dir_all(path).map_err(|error| Failure::File(format!("the folder {} can not be made ({error})", path.display())))
+    fs::create_dir_all(path).map_err(|error| Failure::File(format!("the folder {} cannot be made ({error})", path.display())))
 }
 
 /// The files that are named; in place of a folder those in it that end in `.bin` or `.txt`, by their names.
@@ -127,7 +127,7 @@ pub fn tables_in<'a>(named: impl IntoIterator<Item = &'a Path>) -> Result<Vec<Pa
             files.push(path.to_path_buf());
             continue;
         }
-        let fail = |error: io::Error| Failure::File(format!("{} can not be read ({error})", path.display()));
+        let fail = |error: io::Error| Failure::File(format!("{} cannot be read ({error})", path.display()));
         let mut inside = Vec::new();
         for entry in fs::read_dir(path).map_err(fail)? {
             let file = entry.map_err(fail)?.path();

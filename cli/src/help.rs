@@ -11,11 +11,11 @@ Reduces, checks, compares and shows tables of map scripts. A table is a file of 
 takes both. A name of - is standard input or output. `basilvault COMMAND --help` says more of a command, with an example.
 ";
 
-/// What stands behind it.
+/// What stands after it.
 const BEHIND: &str = "\
-A map is a text: the class number of each state in turn, parted by blanks. What can be named, a state or a symbol, can be given by its number as well.
+A map is a text: the class number of each state in turn, separated by spaces. What can be named, a state or a symbol, can be given by its number as well.
 
-Status: 0 done, or yes; 1 no; 2 refused, with the number and its meaning on standard error, or a text with a mistake; 3 a file can not be read or
+Status: 0 done, or yes; 1 no; 2 refused, with the number and its meaning on standard error, or a text with a mistake; 3 a file cannot be read or
 written; 4 called wrongly. An output is written whole or not at all, and never over a file that is read.
 ";
 

@@ -71,7 +71,7 @@ impl Input {
     pub fn named(&self, limits: Limits, call: &Call) -> Result<(Table, Names), Failure> {
         let table = Table::from_bytes(limits, &self.bytes).map_err(|refusal| self.refused(refusal))?;
         let names = match (&self.names, call.path(NAMES.name)) {
-            (Some(_), Some(_)) => Err(Failure::Wrong(format!("{} is a text and has names: --names can not give it others", self.file.display()), None)),
+            (Some(_), Some(_)) => Err(Failure::Wrong(format!("{} is a text and has names: --names cannot give it others", self.file.display()), None)),
             (Some(names), None) => Ok(names.clone()),
             (None, Some(file)) => names_of(file, &table, false),
             (None, None) => Ok(Names::numbered(&table)),

@@ -1,4 +1,4 @@
-//! Why two states can not be joined, or that they can: a chain of clauses of the written list, from the pair down to the condition that breaks, in words.
+//! Why two states cannot be joined, or that they can: a chain of clauses of the written list, from the pair down to the condition that breaks, in words.
 
 mod chain;
 mod clause;

@@ -119,12 +119,12 @@ impl Values<41> for Tops {
     }
 }
 
-/// 40 words and the number behind them.
+/// 40 words and the number after them.
 fn words_and_last(values: [u64; 41]) -> ([u64; 40], u64) {
     (std::array::from_fn(|q| values[q]), values[40])
 }
 
-/// A number behind 40 words.
+/// A number after 40 words.
 fn last_behind(words: [u64; 40], last: u64) -> [u64; 41] {
     std::array::from_fn(|q| *words.get(q).unwrap_or(&last))
 }
@@ -134,7 +134,7 @@ fn last_behind(words: [u64; 40], last: u64) -> [u64; 41] {
 pub struct Listed {
     /// Its clauses.
     pub clauses: usize,
-    /// Its words: those of the buffer behind them keep their content.
+    /// Its words: those of the buffer after them keep their content.
     pub words: usize,
 }
 

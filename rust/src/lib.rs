@@ -1,5 +1,5 @@
 //! The reducer of map-script tables from Rust: every operation of the proved library as a safe function, at the limits of a caller that gives none and,
-//! as `.._within`, at given [`Limits`]. Nothing has to hold before a call. A buffer that a call writes can not overlap another one, since it is
+//! as `.._within`, at given [`Limits`]. Nothing has to hold before a call. A buffer that a call writes cannot overlap another one, since it is
 //! borrowed alone. A refused call leaves every buffer as it was, but for the clause list of [`reduce`], which with [`Refusal::OutputShort`] starts with the
 //! list.
 //!

@@ -43,7 +43,7 @@ impl Table {
     /// ```
     /// use basilvault::{Refusal, Table};
     ///
-    /// assert_eq!(Table::read([0; 11]), Err(Refusal::Length));
+    /// assert_eq!(Table::read([0u8; 11]), Err(Refusal::Length));
     /// ```
     pub fn read(bytes: impl Into<Vec<u8>>) -> Result<Table> {
         Table::read_within(Limits::STANDARD, bytes)

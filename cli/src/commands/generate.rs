@@ -7,7 +7,7 @@ use crate::progress::Progress;
 use crate::values;
 use basilvault::{LONGEST_FILE, Load};
 
-const COUNT: Opt = Opt { name: "--count", value: "N", says: "make N tables, of this seed and those behind it" };
+const COUNT: Opt = Opt { name: "--count", value: "N", says: "make N tables, of this seed and those after it" };
 
 pub const COMMAND: Command = Command {
     name: "generate",

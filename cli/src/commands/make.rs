@@ -10,7 +10,7 @@ pub const COMMAND: Command = Command {
     summary: "make a table from its text",
     usage: "TEXT -o TABLE",
     help: "\
-Writes the table that a text describes, which the library then reads. The text is lines of words, parted by blanks; # starts a comment:
+Writes the table that a text describes, which the library then reads. The text is lines of words, separated by spaces; # starts a comment:
 
     table 1                             the version, 1 or 2: the first line
     internal NAME                       symbols, numbered from 0 in this order

@@ -90,10 +90,10 @@ pub fn once_from_input(files: &[&Path]) -> Result<(), Failure> {
 /// Where the reduced tables go: nowhere, to one file, or to a folder.
 fn outs(call: &Call, files: &[&Path]) -> Result<Vec<PathBuf>, Failure> {
     match (call.path(OUT.name), call.path(INTO.name)) {
-        (Some(_), Some(_)) => Err(Failure::Wrong("-o and --into can not both be given".into(), None)),
-        (Some(_), None) if files.len() > 1 => Err(Failure::Wrong("several tables can not go to one file: --into FOLDER takes them".into(), None)),
-        _ if call.has(TEXT.name) && files.len() > 1 => Err(Failure::Wrong("the texts of several tables can not go to one file".into(), None)),
-        _ if call.has(MAP.name) && files.len() > 1 => Err(Failure::Wrong("the maps of several tables can not go to one file".into(), None)),
+        (Some(_), Some(_)) => Err(Failure::Wrong("-o and --into cannot both be given".into(), None)),
+        (Some(_), None) if files.len() > 1 => Err(Failure::Wrong("several tables cannot go to one file: --into FOLDER takes them".into(), None)),
+        _ if call.has(TEXT.name) && files.len() > 1 => Err(Failure::Wrong("the texts of several tables cannot go to one file".into(), None)),
+        _ if call.has(MAP.name) && files.len() > 1 => Err(Failure::Wrong("the maps of several tables cannot go to one file".into(), None)),
         (Some(out), None) => Ok(vec![out.to_path_buf()]),
         (None, Some(into)) => places(into, files).and_then(|places| folder(into).map(|()| places)),
         (None, None) => Ok(Vec::new()),

@@ -35,7 +35,7 @@ Example:
 /// Tries the script.
 fn run(call: &Call) -> Outcome {
     if call.has(FILE.name) && call.plain.len() > 1 {
-        return Err(Failure::Wrong("the script can not stand in a file and in the call".into(), None));
+        return Err(Failure::Wrong("the script cannot stand in a file and in the call".into(), None));
     }
     let (limits, input) = input::first(call)?;
     let traced = call.has(TRACE.name) || call.has(MAP.name);

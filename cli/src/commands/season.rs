@@ -17,7 +17,7 @@ pub const COMMAND: Command = Command {
     usage: "TABLE.. [--into FOLDER]",
     help: "\
 Reduces the tables in turn. Each may use its share of the guesses and what earlier ones left. Prints the line of `reduce` for each table, and writes the
-smaller ones to the folder under their own names, a text's with .bin. Where the library refuses a table the others go on; where a file can not be read, or is
+smaller ones to the folder under their own names, a text's with .bin. Where the library refuses a table the others go on; where a file cannot be read, or is
 a text with a mistake, nothing is reduced.
 
 Example:

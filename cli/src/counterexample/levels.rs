@@ -14,7 +14,7 @@ pub struct Levels {
 }
 
 impl Levels {
-    /// Levels until no length changes any more, one script can not be undercut, or so many calls are open.
+    /// Levels until no length changes any more, one script cannot be undercut, or so many calls are open.
     pub fn new(product: &Product, most: usize) -> Levels {
         let mut filling = Filling::new(product);
         let mut changed = filling.spread(&[]);

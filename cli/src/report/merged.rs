@@ -9,7 +9,7 @@ pub fn became_one(it: &Reduction) -> String {
     let joined = it.joined();
     if joined.is_empty() {
         let said = "None. For every two states there is a condition that keeps them apart: one accepts and the other does not, their marks differ, or \
-                    one has a move that the other can not match. The command why tells which, for any two.";
+                    one has a move that the other cannot match. The command why tells which, for any two.";
         let spent = "None that the search came to before its budget was spent.";
         return section("Which states became one", &paragraph(if it.reduced.spent { spent } else { said }));
     }

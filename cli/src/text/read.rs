@@ -54,7 +54,7 @@ pub fn read(text: &str) -> Result<(Table, Names), Vec<Mistake>> {
         Some(mut line) => version(&mut line),
         None => Err(Mistake { line: 1, column: 1, text: "expected `table`, found the end of the text".into() }),
     };
-    // behind a first line that is mistaken marks are taken
+    // after a first line that is mistaken marks are taken
     reader.table.version = version.unwrap_or_else(|mistake| {
         mistakes.push(mistake);
         2
@@ -90,7 +90,7 @@ fn room(word: Word, count: usize, most: usize, what: &str) -> Result<(), Mistake
 }
 
 impl Reader {
-    /// Reads a line behind the first.
+    /// Reads a line after the first.
     fn line(&mut self, line: &mut Line) -> Result<(), Mistake> {
         let word = line.next("a declaration or a move")?;
         match word.text {
@@ -130,7 +130,7 @@ impl Reader {
         line.done()
     }
 
-    /// Reads a state: its name, then what it is. The name is known though what is behind it be mistaken.
+    /// Reads a state: its name, then what it is. The name is known though what is after it be mistaken.
     fn state(&mut self, line: &mut Line) -> Result<(), Mistake> {
         let word = line.next("a name for a state")?;
         let count = self.table.states.len();
@@ -180,12 +180,12 @@ impl Reader {
         let symbol = self.symbols.find(word, self.table.symbols.len(), SYMBOL)?;
         let kind = self.table.symbols[usize::from(symbol)];
         if kind == Kind::Return {
-            form(line, "`over` behind a return", "over")?;
+            form(line, "`over` after a return", "over")?;
             let stack = self.known(line.next(STATE)?)?;
             let target = self.target(line, "`->`")?;
             return put(&mut self.moves, &mut self.table.returns, MOST_RETURNS, first, [state, symbol, stack, target]);
         }
-        let target = self.target(line, "`->` behind an internal or a call")?;
+        let target = self.target(line, "`->` after an internal or a call")?;
         let (section, most) = if kind == Kind::Call { (&mut self.table.calls, MOST_CALLS) } else { (&mut self.table.internals, MOST_INTERNALS) };
         put(&mut self.moves, section, most, first, [state, symbol, target])
     }

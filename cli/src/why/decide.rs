@@ -117,7 +117,7 @@ fn map_of(values: &[u8], states: usize) -> Vec<u8> {
 /// How many clauses may be looked at for cases.
 const PATIENCE: usize = 100_000_000;
 
-/// Chains for cases: each but the last shows that one more pair can not be joined beside the goal, the last that the goal can not be then. None where one
+/// Chains for cases: each but the last shows that one more pair cannot be joined beside the goal, the last that the goal cannot be then. None where one
 /// case inside another would be needed, or the list is too long to try.
 fn cases(clauses: &Clauses, goal: u16, variables: usize) -> Vec<Chain> {
     let mut known = vec![2 * goal];

@@ -193,16 +193,16 @@ fn reasons_in_words() {
     let t = |p, q| said("t", &["pan", "country", "close"], &["start", "inside", "lost", "end"], p, q);
     assert_eq!(
         t(0, 1),
-        (false, "start and inside can not be joined:\n  1. start takes the call country to inside, inside has no call country.\n".into())
+        (false, "start and inside cannot be joined:\n  1. start takes the call country to inside, inside has no call country.\n".into())
     );
-    assert_eq!(t(3, 0), (false, "end and start can not be joined:\n  1. end is accepting, start is not.\n".into()));
+    assert_eq!(t(3, 0), (false, "end and start cannot be joined:\n  1. end is accepting, start is not.\n".into()));
     assert_eq!(t(2, 2), (true, "lost is one state: there is nothing to join.\n".into()));
     let joined = "inside and lost are joined by reduce. Their moves match:\n\
                   \x20 pan: inside goes to inside, lost to lost; these are joined.\n\
                   \x20 close over start: inside goes to end; lost is never above start, so it needs no match.\n";
     assert_eq!(t(1, 2), (true, joined.into()));
     let marks = said("named_located", &["name", "locate", "place", "close"], &["a", "b", "c", "d"], 2, 3);
-    assert_eq!(marks, (false, "c and d can not be joined:\n  1. c has mark named, d has mark 2.\n".into()));
+    assert_eq!(marks, (false, "c and d cannot be joined:\n  1. c has mark named, d has mark 2.\n".into()));
     let alone = said("not_transitive", &["pan", "country", "close", "place"], &["a", "b", "c", "d", "e"], 2, 3).1;
     let expected = "c and d could be joined, but reduce joins others in their place. With those joined and these two as well:\n\
                     \x20 1. b and c are joined by reduce. With that b and d would be joined too.\n\
@@ -216,20 +216,20 @@ fn reasons_in_words() {
 fn cases_in_words() {
     let states: Vec<String> = (0..8).map(|q| format!("q{q}")).collect();
     let text = said("two_undone", &["i", "j", "k", "l", "c", "r"], &states.iter().map(String::as_str).collect::<Vec<_>>(), 0, 1).1;
-    let expected = "q0 and q1 can not be joined, but no single chain shows it. Suppose that they are joined.\n\
+    let expected = "q0 and q1 cannot be joined, but no single chain shows it. Suppose that they are joined.\n\
                     Were q5 and q6 joined as well:\n\
                     \x20 1. q0 takes i to q2, q1 to q3 or q4: q2 would have to be joined with one of these.\n\
-                    \x20   2. q2 and q3 can not be joined: q2 takes k to q6, q3 to q7: q6 and q7 would have to be joined.\n\
+                    \x20   2. q2 and q3 cannot be joined: q2 takes k to q6, q3 to q7: q6 and q7 would have to be joined.\n\
                     \x20   3. q5 and q6 are joined, as supposed. With that q5 and q7 would be joined too.\n\
                     \x20   4. q5 takes the return r over q0 to q0; q7, which can be above q0 too, has no return r over q0.\n\
-                    \x20   5. q2 and q4 can not be joined: q2 takes k to q6, q4 to q7: q6 and q7 would have to be joined.\n\
-                    \x20   But q6 and q7 can not be joined: step 3.\n\
+                    \x20   5. q2 and q4 cannot be joined: q2 takes k to q6, q4 to q7: q6 and q7 would have to be joined.\n\
+                    \x20   But q6 and q7 cannot be joined: step 3.\n\
                     So q5 and q6 are apart then.\n\
                     And with that:\n\
                     \x20 6. q0 takes i to q2, q1 to q3 or q4: q2 would have to be joined with one of these.\n\
-                    \x20   7. q2 and q3 can not be joined: q2 takes j to q5, q3 to q6: q5 and q6 would have to be joined.\n\
+                    \x20   7. q2 and q3 cannot be joined: q2 takes j to q5, q3 to q6: q5 and q6 would have to be joined.\n\
                     \x20   But q5 and q6 are apart, as shown above.\n\
-                    \x20   8. q2 and q4 can not be joined: q2 takes j to q5, q4 to q6: q5 and q6 would have to be joined.\n\
+                    \x20   8. q2 and q4 cannot be joined: q2 takes j to q5, q4 to q6: q5 and q6 would have to be joined.\n\
                     \x20   But q5 and q6 are apart, as shown above.\n";
     assert_eq!(text, expected);
 }
@@ -239,7 +239,7 @@ fn what_no_chain_shows() {
     let bytes = example("t");
     let names = Names::numbered(&samples::table(&bytes));
     let asked = decide::Asked::new(Limits::STANDARD, &bytes, &names, BUDGET, Of::Reduce).expect("a readable table");
-    assert!(text::cases(&asked, (0, 1), &[]).starts_with("q0 and q1 can not be joined: the search has tried every way and found none."));
+    assert!(text::cases(&asked, (0, 1), &[]).starts_with("q0 and q1 cannot be joined: the search has tried every way and found none."));
     let names = Names::numbered(&samples::table(&example("spent-24")));
     let spent = why(Limits::STANDARD, &example("spent-24"), &names, (4, 9), BUDGET, Of::Reduce).expect("a readable table");
     assert!(

@@ -10,22 +10,22 @@ pub fn joined(asked: &Asked, p: u8, q: u8) -> String {
     format!("{} and {} are joined by {}. Their moves match:\n", asked.names.state(p), asked.names.state(q), asked.who)
 }
 
-/// That two states can not be joined, by one chain.
+/// That two states cannot be joined, by one chain.
 pub fn chain(asked: &Asked, (p, q): (u8, u8), chain: &Chain) -> String {
-    let head = format!("{} and {} can not be joined:\n", asked.names.state(p), asked.names.state(q));
+    let head = format!("{} and {} cannot be joined:\n", asked.names.state(p), asked.names.state(q));
     Telling::new(asked, (p, q), SUPPOSED).tell(head, chain)
 }
 
-/// That two states can not be joined, by cases, or by the search alone where there are none.
+/// That two states cannot be joined, by cases, or by the search alone where there are none.
 pub fn cases(asked: &Asked, (p, q): (u8, u8), chains: &[Chain]) -> String {
     let [first, second] = [p, q].map(|q| asked.names.state(q));
     let Some((last, lemmas)) = chains.split_last() else {
         return format!(
-            "{first} and {second} can not be joined: the search has tried every way and found none. No chain of single steps shows it, only cases \
+            "{first} and {second} cannot be joined: the search has tried every way and found none. No chain of single steps shows it, only cases \
              inside cases.\n"
         );
     };
-    let mut text = format!("{first} and {second} can not be joined, but no single chain shows it. Suppose that they are joined.\n");
+    let mut text = format!("{first} and {second} cannot be joined, but no single chain shows it. Suppose that they are joined.\n");
     let mut telling = Telling::new(asked, (p, q), SUPPOSED);
     for lemma in lemmas {
         let more = lemma.assumed.iter().copied().rfind(|literal| literal % 2 == 0 && pair(literal / 2) != (p.min(q), p.max(q)));
@@ -81,7 +81,7 @@ impl<'a> Telling<'a> {
         Telling { asked, main: (p.min(q), p.max(q)), assumed: assumed.into(), text: String::new(), number: 0, told: HashMap::new() }
     }
 
-    /// The text so far and the whole chain behind it: what would be joined, in order, then what can not be.
+    /// The text so far and the whole chain behind it: what would be joined, in order, then what cannot be.
     fn tell(&mut self, text: String, chain: &Chain) -> String {
         self.text = text;
         self.told.clear();
@@ -93,7 +93,7 @@ impl<'a> Telling<'a> {
         std::mem::take(&mut self.text)
     }
 
-    /// One step behind its head, then what it leaves open.
+    /// One step after its head, then what it leaves open.
     fn step(&mut self, chain: &Chain, place: usize, depth: usize, head: String) {
         let (clause, forces) = &chain.steps[place];
         self.number += 1;
@@ -110,15 +110,15 @@ impl<'a> Telling<'a> {
         }
     }
 
-    /// Why a pair that would have to be joined can not be: in line where it is the only one, else under its own head.
+    /// Why a pair that would have to be joined cannot be: in line where it is the only one, else under its own head.
     fn refuted(&mut self, chain: &Chain, literal: u16, depth: usize, alone: bool) {
         let place = chain.steps.iter().position(|(_, forces)| *forces == Some(literal ^ 1));
         let pad = "  ".repeat(depth + usize::from(!alone));
         match (place, self.told.get(&(literal ^ 1))) {
             (None, _) => self.text += &format!("{pad}But {} are apart, as shown above.\n", self.both(literal / 2)),
-            (_, Some(step)) => self.text += &format!("{pad}But {} can not be joined: step {step}.\n", self.both(literal / 2)),
+            (_, Some(step)) => self.text += &format!("{pad}But {} cannot be joined: step {step}.\n", self.both(literal / 2)),
             (Some(place), None) if alone => self.step(chain, place, depth, String::new()),
-            (Some(place), None) => self.step(chain, place, depth + 1, format!("{} can not be joined: ", self.both(literal / 2))),
+            (Some(place), None) => self.step(chain, place, depth + 1, format!("{} cannot be joined: ", self.both(literal / 2))),
         }
     }
 
