@@ -164,14 +164,14 @@ const LINES: &[(&str, &str)] = &[
     ("p", "9:2: expected a symbol of a line before, found the end of the line"),
     ("p x -> q", "9:3: expected a symbol of a line before, found `x`"),
     ("p 3 -> q", "9:3: expected a symbol of a line before, found `3`"),
-    ("p i", "9:4: expected `->` behind an internal or a call, found the end of the line"),
-    ("p i over q -> q", "9:5: expected `->` behind an internal or a call, found `over`"),
+    ("p i", "9:4: expected `->` after an internal or a call, found the end of the line"),
+    ("p i over q -> q", "9:5: expected `->` after an internal or a call, found `over`"),
     ("p i->q", "9:3: expected a symbol of a line before, found `i->q`"),
     ("p c ->", "9:7: expected a state of a line before, found the end of the line"),
     ("p c -> z", "9:8: expected a state of a line before, found `z`"),
     ("p c -> 300", "9:8: expected a state of a line before, found `300`"),
     ("p c -> q q", "9:10: expected the end of the line, found `q`"),
-    ("p r -> q", "9:5: expected `over` behind a return, found `->`"),
+    ("p r -> q", "9:5: expected `over` after a return, found `->`"),
     ("p r over", "9:9: expected a state of a line before, found the end of the line"),
     ("p r over q q", "9:12: expected `->`, found `q`"),
     ("p r over q -> i", "9:15: expected a state of a line before, found `i`"),
@@ -181,7 +181,7 @@ const LINES: &[(&str, &str)] = &[
     ("é場 é場 -> q", "9:1: expected a declaration, or a move of a state of a line before, found `é場`"),
     ("state é場 first", "9:10: expected `initial` or `accepting` or `mark` or the end of the line, found `first`"),
     ("\u{3000}\u{3000}s i -> q", "9:3: expected a declaration, or a move of a state of a line before, found `s`"),
-    ("p c é場", "9:5: expected `->` behind an internal or a call, found `é場`"),
+    ("p c é場", "9:5: expected `->` after an internal or a call, found `é場`"),
 ];
 
 #[test]
