@@ -8,6 +8,7 @@ mod draw;
 mod fit;
 mod generate;
 mod make;
+mod propose;
 mod quotient;
 mod records;
 mod reduce;
@@ -40,6 +41,7 @@ const COMMANDS: &[&Command] = &[
     &fit::COMMAND,
     &compare::COMMAND,
     &choose::COMMAND,
+    &propose::COMMAND,
     &make::COMMAND,
     &show::COMMAND,
     &draw::COMMAND,

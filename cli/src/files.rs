@@ -4,7 +4,7 @@ use crate::exit::{Failure, say};
 use std::collections::HashMap;
 use std::fs::{self, File};
 use std::io::{self, Read, Write};
-use std::os::unix::fs::MetadataExt;
+use std::os::unix::fs::{DirBuilderExt, MetadataExt};
 use std::path::{Path, PathBuf};
 use std::sync::atomic::{AtomicBool, Ordering};
 
@@ -112,6 +112,34 @@ fn replace(out: &Path, bytes: &[u8], permissions: Option<fs::Permissions>) -> io
             let _ = fs::remove_file(&part);
         }
     })
+}
+
+/// A folder of its own, which is removed with all that is in it.
+pub struct Temporary(PathBuf);
+
+impl Temporary {
+    /// A new one where the system has such folders.
+    pub fn new() -> io::Result<Temporary> {
+        let names = (0..1000).map(|k| std::env::temp_dir().join(format!("basilvault.{}.{k}", std::process::id())));
+        for path in names {
+            match fs::DirBuilder::new().mode(0o700).create(&path) {
+                Err(error) if error.kind() == io::ErrorKind::AlreadyExists => {}
+                done => return done.map(|()| Temporary(path)),
+            }
+        }
+        Err(io::Error::other("no name is free for a temporary folder"))
+    }
+
+    /// Where it is.
+    pub fn path(&self) -> &Path {
+        &self.0
+    }
+}
+
+impl Drop for Temporary {
+    fn drop(&mut self) {
+        let _ = fs::remove_dir_all(&self.0);
+    }
 }
 
 /// Makes a folder where there is none.

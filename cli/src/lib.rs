@@ -20,6 +20,7 @@ pub mod names;
 pub mod progress;
 pub mod report;
 pub mod room;
+pub mod solver;
 pub mod text;
 pub mod trace;
 pub mod values;

@@ -35,6 +35,11 @@ impl Map {
         Ok(Map { file: file.to_path_buf(), classes: classes? })
     }
 
+    /// A map that was made from a file.
+    pub fn of(file: &Path, classes: Vec<u8>) -> Map {
+        Map { file: file.to_path_buf(), classes }
+    }
+
     /// The failure of a refused call on this map of a table. What is the map's fault is told of its file, with the states that break it.
     pub fn refused(&self, input: &Input, table: &Table, names: &Names, refusal: Refusal) -> Failure {
         match refusal.number() {
@@ -98,6 +103,11 @@ pub fn shown(map: &[u8], names: Option<&Names>) -> String {
     };
     let classes = map.iter().max().map_or(0, |&last| usize::from(last) + 1);
     (0..classes).map(|class| of_class(map, class, names).collect::<Vec<_>>().join(" ") + "\n").collect()
+}
+
+/// How many pairs of states a map joins.
+pub fn joined(map: &[u8]) -> usize {
+    (0..map.len()).map(|q| map[..q].iter().filter(|&&class| class == map[q]).count()).sum()
 }
 
 /// The names of a class's states.

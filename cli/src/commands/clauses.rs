@@ -1,18 +1,19 @@
 //! `clauses`: which pairs of states exclude or force which.
 
-use crate::arguments::{Call, Opt, Command, NAMES, ROOM, STATES, SYMBOLS};
+use crate::arguments::{Call, Command, NAMES, Opt, ROOM, STATES, SYMBOLS};
 use crate::exit::{Outcome, Status, say};
 use crate::input;
 use crate::names::Names;
 use crate::progress::Progress;
-use std::fmt::Write;
+use crate::solver;
 
 const DIMACS: Opt = Opt { name: "--dimacs", value: "", says: "print them as DIMACS, for a solver" };
+pub const TURNED: Opt = Opt { name: "--turned", value: "", says: "with every sign turned: most solvers then prefer joined pairs" };
 
 pub const COMMAND: Command = Command {
     name: "clauses",
     summary: "print which pairs of states exclude or force which",
-    usage: "TABLE [--dimacs]",
+    usage: "TABLE [--dimacs [--turned]]",
     help: "\
 Prints the clauses, one a line, and how many there are: a pair in braces says that its two states are joined, and one of the parts of each line must be
 true. Transitivity is among them. As DIMACS, the variable of a pair is named in a comment.
@@ -23,7 +24,7 @@ Example:
 ",
     least: 1,
     most: 1,
-    options: &[DIMACS, NAMES, ROOM, STATES, SYMBOLS],
+    options: &[DIMACS, TURNED, NAMES, ROOM, STATES, SYMBOLS],
     run,
 };
 
@@ -37,22 +38,12 @@ fn run(call: &Call) -> Outcome {
     let list = &list[..listed.words];
     let pairs: Vec<_> = (0..names.states.len()).flat_map(|q| (0..q).map(move |p| (p, q))).collect();
     let text = if call.has(DIMACS.name) {
-        dimacs(list, listed.clauses, &pairs, &names)
+        dimacs(list, &pairs, &names, call.has(TURNED.name))
     } else {
         format!("{}clauses {} words {}\n", readable(list, &pairs, &names), listed.clauses, listed.words)
     };
     drop(progress);
     say(text.as_bytes()).map(|()| Status::Done)
-}
-
-/// The literals of each clause.
-fn each(mut list: &[u16]) -> impl Iterator<Item = &[u16]> {
-    std::iter::from_fn(move || {
-        let (&length, rest) = list.split_first()?;
-        let (clause, after) = rest.split_at(usize::from(length));
-        list = after;
-        Some(clause)
-    })
 }
 
 /// A pair by its names.
@@ -66,21 +57,12 @@ fn readable(list: &[u16], pairs: &[(usize, usize)], names: &Names) -> String {
         let not = if literal % 2 == 1 { "not " } else { "" };
         format!("{not}{}", pair(pairs[usize::from(literal / 2)], names))
     };
-    each(list).map(|clause| clause.iter().map(literal).collect::<Vec<_>>().join(" or ") + "\n").collect()
+    solver::clauses(list).map(|clause| clause.iter().map(literal).collect::<Vec<_>>().join(" or ") + "\n").collect()
 }
 
-/// The clauses as DIMACS: variable v is number v + 1.
-fn dimacs(list: &[u16], clauses: usize, pairs: &[(usize, usize)], names: &Names) -> String {
-    let mut text = String::new();
-    for (variable, &states) in pairs.iter().enumerate() {
-        let _ = writeln!(text, "c {} is {}", variable + 1, pair(states, names));
-    }
-    let _ = writeln!(text, "p cnf {} {clauses}", pairs.len());
-    for clause in each(list) {
-        for literal in clause {
-            let _ = write!(text, "{}{} ", if literal % 2 == 1 { "-" } else { "" }, literal / 2 + 1);
-        }
-        text.push_str("0\n");
-    }
-    text
+/// The clauses as DIMACS, with the pair of each variable.
+fn dimacs(list: &[u16], pairs: &[(usize, usize)], names: &Names, turned: bool) -> String {
+    let not = if turned { "not " } else { "" };
+    let comments: String = pairs.iter().enumerate().map(|(variable, &states)| format!("c {} is {not}{}\n", variable + 1, pair(states, names))).collect();
+    comments + &solver::dimacs(list, pairs.len(), turned)
 }

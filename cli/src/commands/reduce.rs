@@ -1,17 +1,18 @@
 //! `reduce`: tables made smaller.
 
-use crate::arguments::{BUDGET, Call, Opt, Command, INTO, NAMES, OUT, ROOM, STATES, SYMBOLS, TEXT};
+use crate::arguments::{BUDGET, Call, Command, INTO, NAMES, OUT, Opt, ROOM, STATES, SYMBOLS, TEXT};
 use crate::exit::{Failure, Outcome, Status, note, say};
 use crate::files::{Spared, folder, is_stream, one_streams, places, tables_in};
 use crate::facts::Facts;
 use crate::input::Input;
 use crate::model::Table;
-use crate::{maps, text};
+use crate::{maps, solver, text};
 use crate::progress::Progress;
 use crate::room::Room;
 use basilvault::{LONGEST_FILE, Limits, MOST_RECORDS, MOST_STATES, Recorded, Reduced, Refusal};
 use std::path::{Path, PathBuf};
 
+const WITH: Opt = Opt { name: "--with", value: "SOLVER", says: "ask a solver too, such as 'cadical -q', and keep the better of both maps" };
 const MAP: Opt = Opt { name: "--map", value: "FILE", says: "write the map to this file, by names where there are some" };
 
 pub const COMMAND: Command = Command {
@@ -27,13 +28,16 @@ One table goes to -o OUT; several go to --into FOLDER under their own names, a t
 goes to standard output, the line goes to standard error. Where a table is refused the others go on, and the status is the worst of all. A folder stands for
 the files in it that end in .bin or .txt. Of one table standard error also says which states no run reaches, and from which nothing is accepted.
 
+With --with a solver is run on the clauses too, every sign turned, so that it prefers joined pairs. It is not trusted: its map counts only where the check
+accepts it, and of two accepted maps the one with fewer classes is kept. The line then ends with whose map it is.
+
 Example:
 
     basilvault reduce tables/t.bin -o small.bin --map small.map
 ",
     least: 1,
     most: usize::MAX,
-    options: &[OUT, INTO, MAP, TEXT, NAMES, BUDGET, ROOM, STATES, SYMBOLS],
+    options: &[OUT, INTO, MAP, TEXT, WITH, NAMES, BUDGET, ROOM, STATES, SYMBOLS],
     run,
 };
 
@@ -109,7 +113,12 @@ impl Reducer<'_> {
         let list = self.room.for_tables(self.limits, [&input.bytes[..]])?;
         let reduced = basilvault::reduce_within(self.limits, &input.bytes, self.budget, list, &mut map, &mut small);
         let reduced = reduced.map_err(|refusal| self.room.refused(self.limits, &input, refusal))?;
+        let (reduced, whose) = match self.call.path(WITH.name) {
+            Some(command) => proposed(self.limits, &input, table.states.len(), command, (reduced, &mut map, &mut small))?,
+            None => (reduced, String::new()),
+        };
         let (line, states, length) = summary(self.limits, &input, reduced, &map).map_err(|refusal| input.refused(refusal))?;
+        let line = line + &whose;
         tell_spent(&input, reduced);
         if self.alone {
             let facts = Facts::of(&table, &input.tops()?).told(&names);
@@ -126,6 +135,30 @@ impl Reducer<'_> {
         }
         Ok(line)
     }
+}
+
+/// Asks a solver too, and puts its map and quotient in place of those that are there where they are better; what is delivered, and whose map it is.
+fn proposed(
+    limits: Limits, input: &Input, states: usize, command: &Path, (reduced, map, small): (Reduced, &mut [u8], &mut [u8]),
+) -> Result<(Reduced, String), Failure> {
+    let refused = |refusal| input.refused(refusal);
+    let counts = basilvault::read_within(limits, &input.bytes).map_err(refused)?.counts(input.bytes.len());
+    let mut list = vec![0; counts.most_words()];
+    let listed = basilvault::clauses_within(limits, &input.bytes, &mut list).map_err(refused)?;
+    let variables = states * (states - 1) / 2;
+    let name = command.to_string_lossy();
+    let answer = solver::run(&name, &solver::dimacs(&list[..listed.words], variables, true))?;
+    let values = solver::model(&answer, variables).map_err(|why| Failure::File(format!("{name} has no model of {}: {why}", input.file.display())))?;
+    let theirs = solver::map_of(&values.iter().map(|turned| !turned).collect::<Vec<_>>(), states);
+    let ours = map[..states].to_vec();
+    let chosen = basilvault::choose_within(limits, &input.bytes, &ours, &theirs).map_err(refused)?;
+    if std::ptr::eq(chosen, &ours[..]) {
+        return Ok((reduced, " map of the library's search".into()));
+    }
+    let length = basilvault::quotient_within(limits, &input.bytes, &theirs, small).map_err(refused)?;
+    map[..states].copy_from_slice(&theirs);
+    let classes = basilvault::check_within(limits, &input.bytes, &theirs).map_err(refused)?;
+    Ok((Reduced { classes, length, joined: maps::joined(&theirs), ..reduced }, format!(" map of {name}, accepted by the check")))
 }
 
 /// Says on standard error what it means that the budget was spent.
