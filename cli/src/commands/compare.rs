@@ -33,7 +33,7 @@ fn run(call: &Call) -> Outcome {
     drop(progress);
     // symbols that differ do so both ways
     if let [Fit::Refused(refusal), _] = both
-        && refusal != Refusal::Opt
+        && refusal != Refusal::Choice
     {
         return Err(compared.second.refused(refusal));
     }
