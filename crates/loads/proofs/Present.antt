@@ -1,5 +1,5 @@
 -- The draws: what is present of possible records. Assumes nothing.
-use mathlib.Core.Path.{_≡_}
+use mathlib.Core.Path.{_≡_, refl, _∙_}
 use mathlib.Core.Bool.{Bool, true, false}
 use mathlib.Core.List.{List, [], _∷_, List·Memᴰ, List·Memᴰ·head, List·Memᴰ·tail}
 use Prim.Native.Nat.{ℕ, _/_, _<_, _≤_}
@@ -12,13 +12,16 @@ use Rattle.loads.specs.Loads.{draw, present}
 -- ---- one record more
 
 module _ (d s : ℕ) (r : List ℕ) (rs : List (List ℕ)) where
-  pub present-in : draw s / 65536 < d → present d s (r ∷ rs) ≡ r ∷ present d (draw s) rs
+  -- by the new s
+  present-by : present d s (r ∷ rs) ≡ elim (ltb (draw s / 65536) d) [ true ↦ r ∷ present d (draw s) rs | false ↦ present d (draw s) rs ]
   unfolding present
-  present-in h = rw (lt-ltb (draw s / 65536) d h, present)
+  present-by = refl
+
+  pub present-in : draw s / 65536 < d → present d s (r ∷ rs) ≡ r ∷ present d (draw s) rs
+  present-in h = present-by ∙ rw (lt-ltb (draw s / 65536) d h)
 
   pub present-out : d ≤ draw s / 65536 → present d s (r ∷ rs) ≡ present d (draw s) rs
-  unfolding present
-  present-out h = rw (le-ltb (draw s / 65536) d h, present)
+  present-out h = present-by ∙ rw (le-ltb (draw s / 65536) d h)
 
 -- ---- a part of the possible records, in their order
 

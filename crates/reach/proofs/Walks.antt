@@ -82,9 +82,13 @@ pub call-step : (r f : List ℕ) (x : ℕ) → Bit (getD f (getD r 0 0) 0) x →
 unfolding callStep byCalls
 call-step r f x b = rw (ne-eqb (getD f (getD r 0 0) 0) 0 (λ e. no-bit x (rw e at b)), byCalls)
 
+live-by : (r f : List ℕ) → Bit (getD f (getD r 0 0) 0) (getD r 2 0) → live f r ≡ true
+unfolding live
+live-by r f b = has-of f (getD r 0 0) (getD r 2 0) b
+
 pub return-step : (r f : List ℕ) → Bit (getD f (getD r 0 0) 0) (getD r 2 0) → returnStep r f ≡ add f (getD r 3 0) (getD f (getD r 2 0) 0)
-unfolding returnStep byReturns live
-return-step r f b = rw (has-of f (getD r 0 0) (getD r 2 0) b, byReturns)
+unfolding returnStep byReturns
+return-step r f b = rw (live-by r f b, byReturns)
 
 -- the steps of all records, in their order
 unfoldable pub walk : (List ℕ → List ℕ → List ℕ) → List (List ℕ) → List ℕ → List ℕ
