@@ -1,5 +1,5 @@
 -- What has come out in the end: a list measured, a list written, and the list of a table that was read. Assumes nothing.
-use mathlib.Core.Path.{_≡_, refl, sym, ap, _∙_}
+use mathlib.Core.Path.{_≡_, refl, sym, ap, _∙_, subst}
 use mathlib.Core.Bool.{Bool, true, false}
 use mathlib.Core.List.{List, [], _∷_, _++_, append-assoc}
 use Prim.Native.Nat.{ℕ, suc, _+_, _≤_, _<_}
@@ -14,7 +14,7 @@ use Rattle.lists.specs.Lists.{gather, over}
 use Rattle.cnf.specs.Clauses.{wordsOf}
 use Rattle.encoding.specs.declared.Listed.the-variants.{List as Words, Refused}
 use Rattle.emit.specs.declared.emit.Tally.{Tally}
-use Rattle.emit.specs.Emit.{State, state, place, written, emitOne, emit}
+use Rattle.emit.specs.Emit.{State, state, Ordered, place, written, emitOne, emit}
 use Rattle.clauses.specs.Whole.{listedBy}
 use Rattle.emit.proofs.Emitting.{emit-full, length-place, length-written}
 
@@ -123,11 +123,61 @@ unfolding emit
 measures [] s h = refl
 measures (c ∷ cs) s h = let m = one-measured c s h in measures cs (emitOne c s) (m .1) ∙ m .0
 
+-- ---- from nothing counted yet
+
+pub nothing-ordered : {t : Tally} {w : Bool} → t ≡ tally w 0 0 → Ordered t
+nothing-ordered e = subst (λ (t : Tally). Ordered t) (sym e) (omega arith)
+
+-- ---- written where it fits
+
+module _ (cs : List (List ℕ)) (room : List ℕ) {z t : Tally} {room' : List ℕ} (none : z ≡ tally true 0 0) (m : state t room' ≡ emit cs (state z room)) where
+  made : state t room' ≡ emit cs (state (tally true 0 0) room)
+  made = m ∙ ap (λ x. emit cs (state x room)) none
+
+  written-whole : length (wordsOf cs) ≤ length room → state t room' ≡ state (tally true (length cs) (length (wordsOf cs))) (over (wordsOf cs) room)
+  written-whole h = made ∙ fits cs true 0 0 room (omega arith) ∙ (λ i. state (tally true (zero-add (length cs) i) (zero-add (length (wordsOf cs)) i)) (front i))
+    where
+      front : place 0 (wordsOf cs) room ≡ over (wordsOf cs) room
+      front = unfold place in refl
+
+  -- the room was long enough, or it was not
+  shorter : t .words ≤ length room → length (wordsOf cs) ≤ length room
+  shorter h = go (decLt (length room) (length (wordsOf cs)))
+    where
+      go : Dec (length room < length (wordsOf cs)) → length (wordsOf cs) ≤ length room
+      go (yes l) = let e = ap (λ (s : State). s .tally .words) made in absurd (omega (arith, exceeds cs (state (tally true 0 0) room) (omega arith)))
+      go (no l) = omega arith
+
+  longer : length room < t .words → length room < length (wordsOf cs)
+  longer h = go (decLt (length room) (length (wordsOf cs)))
+    where
+      go : Dec (length room < length (wordsOf cs)) → length room < length (wordsOf cs)
+      go (yes l) = l
+      go (no l) = let e = ap (λ (s : State). s .tally .words) (written-whole (omega arith)) in absurd (omega arith)
+
+  pub room-short : (list : List ℕ) → length room < t .words → length room ≡ length list → record { answer = Refused 10; list = list } ≡ listedBy cs list
+  unfolding listedBy
+  room-short list h e = let l : length list < length (wordsOf cs) = omega (arith, longer h) in rw (lt-leb _ _ l, listedBy)
+
+  pub room-copied : (list : List ℕ) {out : List ℕ} → t .words ≤ length room → length room ≤ length list → out ≡ over (take (t .words) room') list → record { answer = Words (t .clauses) (t .words); list = out } ≡ listedBy cs list
+  unfolding listedBy
+  room-copied list {out} h k o =
+      let e = written-whole (shorter h) in
+      let words : take (t .words) room' ≡ wordsOf cs = (λ i. take (e i .tally .words) (e i .list)) ∙ front in
+      let l : length (wordsOf cs) ≤ length list = omega (arith, shorter h) in
+      rw (le-leb _ _ l, listedBy) (λ i. record { answer = Words (e i .tally .clauses) (e i .tally .words); list = (o ∙ ap (λ ws. over ws list) words) i })
+    where
+      front : take (length (wordsOf cs)) (over (wordsOf cs) room) ≡ wordsOf cs
+      front = unfold over in take-at (wordsOf cs) (drop (length (wordsOf cs)) room) (length (wordsOf cs)) refl
+
 -- ---- measured, then written
 
-module _ (cs : List (List ℕ)) (list : List ℕ) {t : Tally} {list' : List ℕ} (m : state t list' ≡ emit cs (state (tally false 0 0) list)) where
+module _ (cs : List (List ℕ)) (list : List ℕ) {z t : Tally} {list' : List ℕ} (none : z ≡ tally false 0 0) (m : state t list' ≡ emit cs (state z list)) where
+  measured : state t list' ≡ emit cs (state (tally false 0 0) list)
+  measured = m ∙ ap (λ x. emit cs (state x list)) none
+
   same-list : list' ≡ list
-  same-list = ap (λ (s : State). s .list) m ∙ measures cs (state (tally false 0 0) list) refl
+  same-list = ap (λ (s : State). s .list) measured ∙ measures cs (state (tally false 0 0) list) refl
 
   pub refused : length list' < t .words → record { answer = Refused 10; list = list' } ≡ listedBy cs list
   unfolding listedBy
@@ -135,20 +185,17 @@ module _ (cs : List (List ℕ)) (list : List ℕ) {t : Tally} {list' : List ℕ}
     where
       go : Dec (length list < length (wordsOf cs)) → record { answer = Refused 10; list = list' } ≡ listedBy cs list
       go (yes l) = rw (lt-leb _ _ l, listedBy) (λ i. record { answer = Refused 10; list = same-list i })
-      go (no l) = let e = ap (λ (s : State). s .tally .words) (m ∙ fits cs false 0 0 list (omega arith)) in absurd (omega (arith, ap length same-list))
+      go (no l) = let e = ap (λ (s : State). s .tally .words) (measured ∙ fits cs false 0 0 list (omega arith)) in absurd (omega (arith, ap length same-list))
 
-  pub delivered : {t' : Tally} {list'' : List ℕ} → t .words ≤ length list' → state t' list'' ≡ emit cs (state (tally true 0 0) list') → record { answer = Words (t' .clauses) (t' .words); list = list'' } ≡ listedBy cs list
+  pub delivered : {y t' : Tally} {list'' : List ℕ} → t .words ≤ length list' → y ≡ tally true 0 0 → state t' list'' ≡ emit cs (state y list') → record { answer = Words (t' .clauses) (t' .words); list = list'' } ≡ listedBy cs list
   unfolding listedBy
-  delivered {t'} {list''} h w = go (decLt (length list) (length (wordsOf cs)))
+  delivered {y} {t'} {list''} h n w = go (decLt (length list) (length (wordsOf cs)))
     where
       go : Dec (length list < length (wordsOf cs)) → record { answer = Words (t' .clauses) (t' .words); list = list'' } ≡ listedBy cs list
       go (yes l) =
-          let e = ap (λ (s : State). s .tally .words) m in
+          let e = ap (λ (s : State). s .tally .words) measured in
           absurd (omega (arith, exceeds cs (state (tally false 0 0) list) (omega arith), ap length same-list))
       go (no l) =
           let k : length (wordsOf cs) ≤ length list = omega arith in
-          let e : state t' list'' ≡ state (tally true (length cs) (length (wordsOf cs))) (over (wordsOf cs) list) = w ∙ ap (λ x. emit cs (state (tally true 0 0) x)) same-list ∙ fits cs true 0 0 list (omega arith) ∙ (λ i. state (tally true (zero-add (length cs) i) (zero-add (length (wordsOf cs)) i)) (front i)) in
+          let e = written-whole cs list n (w ∙ ap (λ x. emit cs (state y x)) same-list) k in
           rw (le-leb _ _ k, listedBy) (λ i. record { answer = Words (e i .tally .clauses) (e i .tally .words); list = e i .list })
-        where
-          front : place 0 (wordsOf cs) list ≡ over (wordsOf cs) list
-          front = unfold place in refl

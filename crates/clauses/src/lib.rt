@@ -1,7 +1,8 @@
 // The clauses of a table.
 ghost use mathlib.Core.Path.{_≡_};
-ghost use Prim.Native.Nat.{_≤_};
+ghost use Prim.Native.Nat.{_≤_, min};
 ghost use lib.ListN.{length};
+ghost use Rattle.lists.specs.Lists.{over};
 ghost use Rattle.limits.specs.Limits.{standard, stateMost};
 ghost use Rattle.format.specs.File.{tableOf, ofStates};
 ghost use Rattle.maps.specs.Known.{Known};
@@ -56,7 +57,134 @@ fn all_groups(
     live_returns(returns, tops, count, fourth, list)
 }
 
+// Nothing counted yet.
+fn nothing(write: bool) -> Tally
+    ensures { λ r. ⌜ r ≡ record { write = write; clauses = 0; words = 0 } ⌝ }
+{
+    Tally {
+        write,
+        clauses: 0,
+        words: 0,
+    }
+}
+
 // The list is measured, and written where it fits.
+fn list_measured(
+    whole: bool,
+    states: &[u8],
+    internals: &[u8],
+    calls: &[u8],
+    returns: &[u8],
+    tops: &[u64; 40],
+    list: &mut [u16],
+) -> Listed
+    requires { ⌜ LentParts (now states) (now internals) (now calls) (now returns) ⌝ }
+    ensures { λ r. ⌜
+        record { answer = r; list = now (list .exit) }
+        ≡ listedBy (listBy whole (now (states .entry)) (now (internals .entry)) (now (calls .entry)) (now (returns .entry)) (now (tops .entry)))
+        (now (list .entry)) ⌝ }
+{
+    let measuring = nothing(false);
+    let measured = all_groups(
+        whole,
+        states,
+        internals,
+        calls,
+        returns,
+        tops,
+        measuring,
+        list,
+    );
+    if list.len() < measured.words {
+        return Listed::Refused(10);
+    }
+    let writing = nothing(true);
+    let written = all_groups(
+        whole,
+        states,
+        internals,
+        calls,
+        returns,
+        tops,
+        writing,
+        list,
+    );
+    Listed::List {
+        clauses: written.clauses,
+        words: written.words,
+    }
+}
+
+// Words at the front of the list.
+fn copy_words(words: &[u16], list: &mut [u16])
+    requires { ⌜ length (now words) ≤ length (now list) ⌝ }
+    ensures { λ _. ⌜ now (list .exit) ≡ over (now (words .entry)) (now (list .entry)) ⌝ }
+{
+    let mut i: usize = 0;
+    'words: while i < words.len() {
+        list[i] = words[i];
+        i += 1;
+    }
+}
+
+// The list is written into a room, in one walk, and from there into the buffer: with 10 the buffer keeps its words. Where the room is too short and the
+// buffer is longer, it is measured.
+fn list_in(
+    whole: bool,
+    states: &[u8],
+    internals: &[u8],
+    calls: &[u8],
+    returns: &[u8],
+    tops: &[u64; 40],
+    room: &mut [u16],
+    list: &mut [u16],
+) -> Listed
+    requires { ⌜ LentParts (now states) (now internals) (now calls) (now returns) × (length (now room) ≤ length (now list)) ⌝ }
+    ensures { λ r. ⌜
+        record { answer = r; list = now (list .exit) }
+        ≡ listedBy (listBy whole (now (states .entry)) (now (internals .entry)) (now (calls .entry)) (now (returns .entry)) (now (tops .entry)))
+        (now (list .entry)) ⌝ }
+{
+    let writing = nothing(true);
+    let made = all_groups(
+        whole,
+        states,
+        internals,
+        calls,
+        returns,
+        tops,
+        writing,
+        room,
+    );
+    let words = made.words;
+    if words <= room.len() {
+        copy_words(&room[..words], list);
+        return Listed::List {
+            clauses: made.clauses,
+            words,
+        };
+    }
+    if room.len() == list.len() {
+        return Listed::Refused(10);
+    }
+    list_measured(whole, states, internals, calls, returns, tops, list)
+}
+
+// The smaller number.
+fn least(a: usize, b: usize) -> usize
+    ensures { λ r. ⌜ r ≡ min a b ⌝ }
+{
+    if a < b { a } else { b }
+}
+
+// Room for 32,768 words.
+fn no_words() -> [u16; 32768]
+    ensures { λ r. ⌜ length r ≡ 32768 ⌝ }
+{
+    [0u16; 32768]
+}
+
+// The list of the sections: up to 32,768 words in one walk.
 fn list_sections(
     whole: bool,
     states: &[u8],
@@ -72,43 +200,18 @@ fn list_sections(
         ≡ listedBy (listBy whole (now (states .entry)) (now (internals .entry)) (now (calls .entry)) (now (returns .entry)) (now (tops .entry)))
         (now (list .entry)) ⌝ }
 {
-    let measuring = Tally {
-        write: false,
-        clauses: 0,
-        words: 0,
-    };
-    let measured = all_groups(
+    let mut room = no_words();
+    let most = least(list.len(), 32768);
+    list_in(
         whole,
         states,
         internals,
         calls,
         returns,
         tops,
-        measuring,
+        &mut room[..most],
         list,
-    );
-    if list.len() < measured.words {
-        return Listed::Refused(10);
-    }
-    let writing = Tally {
-        write: true,
-        clauses: 0,
-        words: 0,
-    };
-    let written = all_groups(
-        whole,
-        states,
-        internals,
-        calls,
-        returns,
-        tops,
-        writing,
-        list,
-    );
-    Listed::List {
-        clauses: written.clauses,
-        words: written.words,
-    }
+    )
 }
 
 // The list, whole or without group 2, of a table that was read and whose tops are known: its sections are handed on as parts of the file.
