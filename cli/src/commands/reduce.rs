@@ -12,7 +12,7 @@ use crate::room::Room;
 use basilvault::{LONGEST_FILE, Limits, MOST_RECORDS, MOST_STATES, Recorded, Reduced, Refusal};
 use std::path::{Path, PathBuf};
 
-const WITH: Opt = Opt { name: "--with", value: "SOLVER", says: "ask a solver too, such as 'cadical -q', and keep the better of both maps" };
+const WITH: Opt = Opt { name: "--with", value: "SOLVER", says: "ask a solver too, such as 'cadical -q'; the better map is kept" };
 const MAP: Opt = Opt { name: "--map", value: "FILE", says: "write the map to this file, by names where there are some" };
 
 pub const COMMAND: Command = Command {
