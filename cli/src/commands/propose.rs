@@ -19,7 +19,7 @@ every sign turned, which `clauses --dimacs --turned` prints.
 Example:
 
     basilvault clauses tables/t.txt --dimacs --turned > t.cnf
-    cadical -q t.cnf > t.model
+    cadical -q --lucky=0 --phase=0 t.cnf > t.model
     basilvault propose tables/t.txt t.model --turned -o t.map
 ",
     least: 2,

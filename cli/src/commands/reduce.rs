@@ -12,7 +12,7 @@ use crate::room::Room;
 use basilvault::{LONGEST_FILE, Limits, MOST_RECORDS, MOST_STATES, Recorded, Reduced, Refusal};
 use std::path::{Path, PathBuf};
 
-const WITH: Opt = Opt { name: "--with", value: "SOLVER", says: "ask a solver too, such as 'cadical -q'; the better map is kept" };
+const WITH: Opt = Opt { name: "--with", value: "SOLVER", says: "ask a solver too, such as minisat; the better map is kept" };
 const MAP: Opt = Opt { name: "--map", value: "FILE", says: "write the map to this file, by names where there are some" };
 
 pub const COMMAND: Command = Command {
@@ -29,7 +29,8 @@ goes to standard output, the line goes to standard error. Where a table is refus
 the files in it that end in .bin or .txt. Of one table standard error also says which states no run reaches, and from which nothing is accepted.
 
 With --with a solver is run on the clauses too, every sign turned, so that it prefers joined pairs. It is not trusted: its map counts only where the check
-accepts it, and of two accepted maps the one with fewer classes is kept. The line then ends with whose map it is.
+accepts it, and of two accepted maps the one with fewer classes is kept. The line then ends with whose map it is. SOLVER is a command line: 'minisat', or
+'cadical -q --lucky=0 --phase=0', which else takes what is true of every table, that nothing need be joined.
 
 Example:
 
