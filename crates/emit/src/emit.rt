@@ -44,18 +44,26 @@ pub fn counted(tally: Tally, n: usize, room: usize) -> Tally
     }
 }
 
-// A clause's first words, "its literal count, then the literals", at the front of the remaining buffer: the count, and the literals collected.
+// A clause's first words, "its literal count, then the literals", at the front of the remaining buffer: the count, and the literals collected. Without a
+// loop: compiled, one over so few words costs more than it does.
 pub fn store(clause: Literals, count: usize, rest: &mut [u16])
     requires { ⌜ (clause .n ≤ 3) × (clause .n < length (now rest)) × (count ≤ 42) ⌝ }
     ensures { λ _. ⌜ now (rest .exit) ≡ over (count ∷ literalsOf clause) (now (rest .entry)) ⌝ }
 {
     let n = clause.n;
     rest[0] = count as u16;
-    let mut i: usize = 0;
-    'literals: while i < n {
-        rest[i + 1] = clause.words[i];
-        i += 1;
+    if n == 0 {
+        return;
     }
+    rest[1] = clause.words[0];
+    if n == 1 {
+        return;
+    }
+    rest[2] = clause.words[1];
+    if n == 2 {
+        return;
+    }
+    rest[3] = clause.words[2];
 }
 
 // One clause, whose literals are all collected: it is counted, and written where it is to be and where it fits.
