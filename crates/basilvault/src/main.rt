@@ -37,7 +37,7 @@ fn put_going(table: &[u8], map: &[u8], text: &mut [u8], at: usize) -> usize
     ensures { λ r. ⌜ Put (goingText (now (table .entry)) (now (map .entry))) at (now (text .entry)) r (now (text .exit)) ⌝ }
 {
     let mut marks = [0u8; 6144];
-    let recorded = records::records_within(widest(), table, map, &mut marks);
+    let recorded = records::records_accepted(widest(), table, map, &mut marks);
     match recorded {
         Recorded::Counts {
             all,

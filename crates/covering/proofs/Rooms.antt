@@ -3,7 +3,7 @@ use mathlib.Core.Path.{_≡_, refl, sym, ap, _∙_, subst}
 use mathlib.Core.Logic.{_≢_, _⊎_, inl, inr}
 use mathlib.Core.Bool.{Bool, true, false, _&&_, _||_, not, true≢false}
 use mathlib.Core.List.{List, List·Memᴰ, List·Memᴰ·head, List·Memᴰ·tail, List·Memᴰ·cases-cons, List·Memᴰ·not-nil}
-use Prim.Native.Nat.{ℕ, _+_, _-_, _*_, _^_, _≤_, _<_}
+use Prim.Native.Nat.{ℕ, _+_, _-_, _^_, _≤_, _<_}
 use native.Mathlib.Omega.{arith}
 use native.Mathlib.Decide.{ℕ-discrete}
 use lib.ListN.{length, getD, set, take, drop, replicate, length-set, length-replicate}
@@ -13,11 +13,10 @@ use lib.Dec.{eqb}
 use borrow.Author.Tests.{eqb-true, eq-eqb, lt-ltb, le-ltb}
 use Rattle.lists.specs.Lists.{any}
 use Rattle.lists.specs.Bits.{Bit, hasBit, has}
-use Rattle.lists.proofs.Bits.{or-bit, bit-left, bit-right, no-bit, bit-own, bit-pow, some-bit, has-true, has-of}
+use Rattle.lists.proofs.Bits.{or-bit, bit-left, bit-right, no-bit, bit-own, bit-pow, has-true, has-of}
 use Rattle.lists.proofs.Words.{has-no, bits-equal}
-use Rattle.lists.proofs.Members.{and-true, and-of, or-true, or-left, or-right, any-true, any-of, zeros}
+use Rattle.lists.proofs.Members.{and-true, and-of, or-true, or-left, or-right, any-true, zeros}
 use Rattle.format.specs.File.{records}
-use Rattle.format.proofs.Bytes.{records-wide}
 use Rattle.keyed.proofs.Walks.{record-on, records-end}
 use Rattle.matching.specs.Matching.{kept}
 use Rattle.matching.proofs.Matched.{same-test}

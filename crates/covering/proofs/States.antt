@@ -1,18 +1,17 @@
 -- What the words of a room say of a record: the conditions of the check. Assumes nothing.
 use mathlib.Core.Path.{_≡_, refl, sym, ap, _∙_, subst}
-use mathlib.Core.Bool.{Bool, true, false, _&&_, _||_, not}
+use mathlib.Core.Bool.{Bool, true, false, _||_, not}
 use mathlib.Core.List.{List, [], _∷_, _++_, List·Memᴰ, Memᴰ·cast}
 use Prim.Native.Nat.{ℕ, suc, _+_, _-_, _*_, _^_, _≤_, _<_}
 use native.Mathlib.Omega.{arith}
 use lib.ListN.{length, getD}
-use lib.Bits.{bitAnd, bitOr}
-use lib.Dec.{eqb}
+use lib.Bits.{bitAnd}
 use borrow.Author.Tests.{eqb-true, eqb-false, eq-eqb, ne-eqb}
 use Rattle.lists.specs.Lists.{any, all, upto}
 use Rattle.lists.specs.Bits.{Bit, hasBit, has}
 use Rattle.lists.proofs.Bits.{bit-own, bit-pow, has-true, has-of}
-use Rattle.lists.proofs.Members.{any-true, any-of, all-true, all-of, upto-mem, upto-of, not-so}
-use Rattle.limits.specs.Limits.{stateMost, symbolMost}
+use Rattle.lists.proofs.Members.{any-true, any-of, all-true, all-of, upto-of, not-so}
+use Rattle.limits.specs.Limits.{stateMost}
 use Rattle.format.specs.File.{records}
 use Rattle.format.specs.Language.{targets}
 use Rattle.format.specs.Maps.{classOf, joins}
@@ -21,7 +20,7 @@ use Rattle.format.proofs.Facts.{three-bytes, four-bytes, targets-mem, mem-targe
 use Rattle.relations.specs.Check.{returnMatched}
 use Rattle.matching.specs.Matching.{kept, returnMet, recordMatched, recordMet, recordsMatched, Lent}
 use Rattle.matching.proofs.Matched.{same-test, move-kept, return-kept, stack-apart, not-under, return-by, record-apart, record-move, record-dead}
-use Rattle.covering.specs.Rooms.{Members, Joined, leastOf, lastOf, placeOf, bitOf, Placed, Lies, noted, Room, covering, metBy, stateMatched}
+use Rattle.covering.specs.Rooms.{Members, Joined, leastOf, lastOf, placeOf, bitOf, Lies, noted, Room, covering, metBy, stateMatched}
 use Rattle.covering.proofs.Words.{and-bit, bit-both, covered, least-few, least-same, same-least}
 use Rattle.covering.proofs.Rooms.{move-bit, return-bit, of-noted, be-noted}
 
@@ -91,16 +90,20 @@ module _ {rs : List (List ℕ)} {m ws : List ℕ} {own : ℕ} {room : List ℕ} 
 
 -- ---- moves, by the room of all states
 
-pub every : (x : ℕ) → x < stateMost → Bit 1099511627775 x
-unfolding all upto hasBit
-every x l = eqb-true _ _ (all-true (hasBit 1099511627775) (upto stateMost) refl x (upto-of stateMost x l))
+-- the word of all possible states
+abbrev pub everyState : ℕ
+everyState = 1099511627775
 
-module _ {s m ws room : List ℕ} (l : Lent 3 s (length m)) (j : Joined m ws) (g : Room (records 3 s) ws 1099511627775 room) where
+every : (x : ℕ) → x < stateMost → Bit everyState x
+unfolding all upto hasBit
+every x l = eqb-true _ _ (all-true (hasBit everyState) (upto stateMost) refl x (upto-of stateMost x l))
+
+module _ {s m ws room : List ℕ} (l : Lent 3 s (length m)) (j : Joined m ws) (g : Room (records 3 s) ws everyState room) where
   move-bits : (y a q : ℕ) → y < length m → q < length m → has room (a * stateMost + leastOf ws y) q ≡ any (joins m y) (targets (records 3 s) (q ∷ a ∷ []))
   unfolding bitOf hasBit
   move-bits y a q h k = room-targets (l .few) j g y a q h (q ∷ a ∷ []) (λ r d. long l r d) (λ r d. target-there l r d) split (λ z. (eq-eqb _ _ (every q (omega (arith, l .few))), refl, refl, refl))
     where
-      split : (r : List ℕ) → List·Memᴰ r (records 3 s) → hasBit 1099511627775 (getD r 0 0) ≡ true → getD r 1 0 ≡ a → bitOf r ≡ q → r ≡ (q ∷ a ∷ []) ++ (lastOf r ∷ [])
+      split : (r : List ℕ) → List·Memᴰ r (records 3 s) → hasBit everyState (getD r 0 0) ≡ true → getD r 1 0 ≡ a → bitOf r ≡ q → r ≡ (q ∷ a ∷ []) ++ (lastOf r ∷ [])
       split r d o e1 e2 =
           let w = long l r d in
           let e0 : getD r 0 0 ≡ q = move-bit r {x = getD r 0 0} (omega arith) refl ∙ e2 in
@@ -117,26 +120,26 @@ module _ {s m ws room : List ℕ} (l : Lent 3 s (length m)) (j : Joined m ws) (g
     own : Members m (classOf m (getD r 0 0)) (getD ws (bitOf r) 0)
     own = subst (λ (v : ℕ). Members m (classOf m (getD r 0 0)) (getD ws v 0)) first (j .words (getD r 0 0) (state-there l r d 0 (λ z. omega arith) (omega arith)))
 
-    move-covered : covering ws 1099511627775 room r ≡ recordMet 3 f (records 3 s) (length m) m r
+    move-covered : covering ws everyState room r ≡ recordMet 3 f (records 3 s) (length m) m r
     unfolding has joins
-    move-covered = covered (getD room (placeOf ws r) 0) (bitAnd (getD ws (bitOf r) 0) 1099511627775) (length m) (recordMatched 3 f (records 3 s) (length m) m r) asked free
+    move-covered = covered (getD room (placeOf ws r) 0) (bitAnd (getD ws (bitOf r) 0) everyState) (length m) (recordMatched 3 f (records 3 s) (length m) m r) asked free
       where
-        asked : (q : ℕ) → Bit (bitAnd (getD ws (bitOf r) 0) 1099511627775) q → (q < length m) × (recordMatched 3 f (records 3 s) (length m) m r q ≡ hasBit (getD room (placeOf ws r) 0) q)
+        asked : (q : ℕ) → Bit (bitAnd (getD ws (bitOf r) 0) everyState) q → (q < length m) × (recordMatched 3 f (records 3 s) (length m) m r q ≡ hasBit (getD room (placeOf ws r) 0) q)
         asked q b =
-            let i = own .only q (and-bit (getD ws (bitOf r) 0) 1099511627775 q b .0) in
+            let i = own .only q (and-bit (getD ws (bitOf r) 0) everyState q b .0) in
             (i .0, sym (record-move f (records 3 s) (length m) m r 3 q {y = lastOf r} refl (eq-eqb _ _ (i .1)) last) ∙ sym (move-bits (lastOf r) (getD r 1 0) q (target-there l r d) (i .0)))
 
-        free : (q : ℕ) → q < length m → (Bit (bitAnd (getD ws (bitOf r) 0) 1099511627775) q → ⊥) → recordMatched 3 f (records 3 s) (length m) m r q ≡ true
-        free q i b = record-apart f (records 3 s) (length m) m r 3 q (ne-eqb _ _ (λ e. b (bit-both (getD ws (bitOf r) 0) 1099511627775 q (own .every q i e) (every q (omega (arith, l .few))))))
+        free : (q : ℕ) → q < length m → (Bit (bitAnd (getD ws (bitOf r) 0) everyState) q → ⊥) → recordMatched 3 f (records 3 s) (length m) m r q ≡ true
+        free q i b = record-apart f (records 3 s) (length m) m r 3 q (ne-eqb _ _ (λ e. b (bit-both (getD ws (bitOf r) 0) everyState q (own .every q i e) (every q (omega (arith, l .few))))))
 
-    move-met : metBy f ws 1099511627775 1099511627775 room r ≡ recordMet 3 f (records 3 s) (length m) m r
+    move-met : metBy f ws everyState everyState room r ≡ recordMet 3 f (records 3 s) (length m) m r
     unfolding hasBit
     move-met =
-        let a : hasBit 1099511627775 (getD r 0 0) ≡ true = eq-eqb _ _ (every (getD r 0 0) (omega (arith, state-there l r d 0 (λ z. omega arith) (omega arith), l .few))) in
+        let a : hasBit everyState (getD r 0 0) ≡ true = eq-eqb _ _ (every (getD r 0 0) (omega (arith, state-there l r d 0 (λ z. omega arith) (omega arith), l .few))) in
         let b : kept f r ≡ true = sym (move-kept f r (omega (arith, long l r d))) in
-        (λ i. not (a i) || (not (b i) || covering ws 1099511627775 room r)) ∙ move-covered
+        (λ i. not (a i) || (not (b i) || covering ws everyState room r)) ∙ move-covered
 
-  pub moves-met : (f : List ℕ) → all (metBy f ws 1099511627775 1099511627775 room) (records 3 s) ≡ recordsMatched 3 f (records 3 s) (length m) m
+  pub moves-met : (f : List ℕ) → all (metBy f ws everyState everyState room) (records 3 s) ≡ recordsMatched 3 f (records 3 s) (length m) m
   moves-met f = all-alike (records 3 s) (λ r d. move-met f r d)
 
 -- ---- returns, by the room of the state that has to match them

@@ -18,7 +18,7 @@ use initials::bit;
 use matching::keeps;
 use words::next_state;
 
-// Every state.
+// The word of all possible states.
 const EVERY: u64 = 1099511627775;
 
 // The states of each class.

@@ -1,16 +1,15 @@
 -- (i) by what the first state of each class has. Assumes nothing.
-use mathlib.Core.Path.{_≡_, refl, sym, ap, _∙_, subst}
+use mathlib.Core.Path.{_≡_, sym, ap, _∙_, subst}
 use mathlib.Core.Logic.{_≢_}
-use mathlib.Core.Bool.{Bool, true, false, true≢false}
+use mathlib.Core.Bool.{true, false}
 use mathlib.Core.List.{List}
 use Prim.Native.Nat.{ℕ, _+_, _<_, _≤_}
 use native.Mathlib.Omega.{arith}
 use native.Mathlib.Decide.{ℕ-discrete}
 use lib.ListN.{length, getD, set, replicate, length-set, length-replicate}
 use lib.Seq.{getD-set-same, getD-set-other}
-use lib.Dec.{eqb}
 use borrow.Author.Tests.{eqb-true, eq-eqb}
-use Rattle.lists.specs.Lists.{all, upto}
+use Rattle.lists.specs.Lists.{upto}
 use Rattle.lists.proofs.Members.{all-true, all-of, upto-mem, upto-of, gives, gives-of, not-so, zeros}
 use Rattle.format.specs.File.{ofStates}
 use Rattle.format.specs.Language.{agreedOn}

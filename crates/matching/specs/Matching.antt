@@ -1,13 +1,11 @@
 -- What the functions of src/ are stated with: records matched, over the parts of a table. Assumes nothing.
-use mathlib.Core.Bool.{Bool, true, false, _||_, not}
+use mathlib.Core.Bool.{Bool, true, false}
 use mathlib.Core.List.{List}
 use Prim.Native.Nat.{ℕ, _≤_}
 use lib.ListN.{length, getD}
-use lib.Dec.{eqb, leb, ltb}
+use lib.Dec.{eqb, ltb}
 use Rattle.lists.specs.Lists.{all, upto}
 use Rattle.limits.specs.Limits.{stateMost}
-use Rattle.format.specs.Language.{agreedOn}
-use Rattle.format.specs.Maps.{joins}
 use Rattle.reach.specs.Tops.{live}
 use Rattle.relations.specs.Check.{moveMatched, returnMatched}
 use Rattle.index.specs.Index as index

@@ -24,11 +24,14 @@ use Rattle.view.specs.Sections.{partOf}
 use Rattle.view.specs.declared.Section.the-variants.{Internals, Calls, Returns}
 use Rattle.view.proofs.Parts.{internals-read, calls-read, returns-read}
 use Rattle.reach.specs.Tops.{live}
+use Rattle.tops.specs.declared.Examined.{Examined}
+use Rattle.tops.specs.Steps.{examinedOf}
 use Rattle.relations.specs.Check.{mapTests, checkNumber}
 use Rattle.relations.proofs.Accepted.{accepted}
 use Rattle.relations.proofs.Answers.{tested}
 use Rattle.relations.proofs.Numbered.{classes-few}
 use Rattle.maps.specs.Known.{Known}
+use Rattle.maps.proofs.Checking.{examined-number, read-known}
 use Rattle.matching.specs.Matching.{kept}
 use Rattle.matching.proofs.Matched.{move-kept, return-kept}
 use Rattle.fates.specs.declared.Recorded.the-variants.{Counts, Refused}
@@ -88,6 +91,10 @@ module _ {b f : List ℕ} {s : Starts} (k : Known b s f) (m : List ℕ) (n : fir
       ++ (returns-marked returns f m ∙ (λ i. sectionFates (live (k .words i)) m (returns-read (k .read) e4 i))) j)
 
 -- ---- the answer
+
+-- a table with a map that the check accepts, as it is handed on
+pub accepted-known : (L : Limits) (b m : List ℕ) {x : Examined} → x ≡ examinedOf L b → checkNumber L b m ≡ 0 → Known b (x .starts) (x .words) × (firstFailed (mapTests (tableOf b) m) ≡ 0)
+accepted-known L b m e n = let r = accepted L b m n .readable in (read-known L b e (examined-number L b e ∙ r), sym (tested L b m r refl) ∙ n)
 
 pub told-known : (L : Limits) (b m out : List ℕ) → checkNumber L b m ≡ 0 → toldFor (fatesOf (tableOf b) m) out ≡ recordsOf L b m out
 unfolding toldFor countsOf

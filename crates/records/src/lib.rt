@@ -5,7 +5,7 @@ ghost use lib.ListN.{length};
 ghost use Rattle.lists.specs.Lists.{over, firstFailed};
 ghost use Rattle.limits.specs.Limits.{standard};
 ghost use Rattle.format.specs.File.{tableOf};
-ghost use Rattle.relations.specs.Check.{mapTests};
+ghost use Rattle.relations.specs.Check.{mapTests, checkNumber};
 ghost use Rattle.maps.specs.Known.{Known, WhereReadable};
 ghost use Rattle.fates.specs.Fates.{fatesOf, recordsOf, RecordsSays};
 ghost use Rattle.fates.specs.Demands.{Promises};
@@ -80,6 +80,17 @@ fn tell_read(table: &[u8], starts: Starts, words: &[u64], map: &[u8], out: &mut 
         map,
         out,
     )
+}
+
+// The records of a table under a map that the check accepts at these limits, as its caller knows: the map is not checked again.
+pub fn records_accepted(limits: Limits, table: &[u8], map: &[u8], out: &mut [u8]) -> Recorded
+    requires { ⌜ checkNumber limits (now table) (now map) ≡ 0 ⌝ }
+    ensures { λ r. ⌜ record { answer = r; out = now (out .exit) } ≡ recordsOf limits (now (table .entry)) (now (map .entry)) (now (out .entry)) ⌝ }
+{
+    let examined = tops::examine(limits, table);
+    let starts = examined.starts;
+    let words = examined.words;
+    tell_read(table, starts, &words, map, out)
 }
 
 // The records of a table that was read and whose tops are known, at any limits at which it is readable: refused as the check refuses the map, or
