@@ -11,9 +11,10 @@
  *
  * What a call takes. Nothing is allocated or kept, and there are no globals: calls from several threads are fine, each on buffers of its own. A call
  * needs at most BASILVAULT_STACK bytes of stack. Every call ends. The time of basilvault_search, basilvault_reduce and basilvault_season grows with
- * the guesses that they make, at most the budget. On the hardest tables that were found a guess of a reduction takes 0.1 to 2 microseconds. Where over
- * 32,768 words of the clause list are left once nothing more follows from it, each guess goes over the whole list: some 7 milliseconds for 33,000 words, a
- * tenth of a second for a million. A guess of basilvault_search can take some 40 microseconds, on shorter lists that were made to be slow
+ * the guesses that they make, at most the budget. On the hardest tables that were found a guess of a reduction takes 0.1 to 2 microseconds, and some 10 to 20
+ * where over 32,768 words of the clause list are left once nothing more follows from it. A guess then reads those parts of the list in which a variable
+ * stands that it has set, again and again while more is set; on a list of basilvault_search that was made to be slow it takes half a millisecond for 33,000
+ * words and 65 milliseconds for a million. On shorter lists that were made to be slow it takes some 40 microseconds
  * (bench/README.md). basilvault_fit took an eighth of a second on the worst tables that were made. */
 #ifndef BASILVAULT_H
 #define BASILVAULT_H

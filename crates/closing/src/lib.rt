@@ -7,17 +7,20 @@ ghost use Rattle.rows.specs.Rows.{Rows};
 ghost use Rattle.rows.specs.Trail.{Ready, Queue, Settles};
 ghost use Rattle.restore.specs.Restoring.{Lags};
 ghost use Rattle.closing.specs.Preparing.{Prepared, CaughtIf};
-use passes::settle;
 use propagate::settle_indexed;
+use segments::settle_marked;
 use spreading::Reached;
 
-// Closes the values, where clauses wait for the trail's variables from `from` on: by the clauses of each literal where the list is indexed, else by passes.
+// Closes the values, where clauses wait for the trail's variables from `from` on: by the clauses of each literal where the list is indexed so, else by passes
+// over the segments of each variable.
 pub fn close(
     list: &[u16],
     n: u8,
     table: &[u16],
     firsts: &[u16; 1561],
     clauses: &[u16],
+    starts: &[usize],
+    masks: &[u64],
     words: &mut [u32],
     noted: &mut [u16],
     values: &mut [u8],
@@ -27,7 +30,7 @@ pub fn close(
     from: usize,
     start: usize,
 ) -> Reached
-    requires { ⌜ Prepared (now list) (now firsts) (now clauses) (now words) (now noted) ⌝ }
+    requires { ⌜ Prepared (now list) (now firsts) (now clauses) (now starts) (now masks) (now words) (now noted) ⌝ }
     requires { ⌜ Lags (now list) (now clauses) (now values) (now trail) from start (now words) ⌝ }
     requires { ⌜ Ready (withTriangles (now list) n) (now values) (now trail) start ⌝ }
     requires { ⌜ Queue (withTriangles (now list) n) (now values) (now trail) from start × (length (now values) ≤ 780) ⌝ }
@@ -61,5 +64,17 @@ pub fn close(
             start,
         );
     }
-    settle(list, n, table, values, trail, joined, apart, from, start)
+    settle_marked(
+        list,
+        n,
+        table,
+        starts,
+        masks,
+        values,
+        trail,
+        joined,
+        apart,
+        from,
+        start,
+    )
 }

@@ -1,7 +1,7 @@
 // The search over clauses that fit: a first pass, then the turns over what it leaves of the list.
 ghost use mathlib.Core.Path.{_≡_};
 ghost use mathlib.Core.Bool.{true};
-ghost use Prim.Native.Nat.{_≤_};
+ghost use Prim.Native.Nat.{_≤_, _<_};
 ghost use lib.ListN.{length};
 ghost use Rattle.cnf.specs.Clauses.{whole};
 ghost use Rattle.cnf.specs.Trials.{notFalse, searchTried};
@@ -18,6 +18,7 @@ use occurrences::no_firsts;
 use pairs::pair_table;
 use passes::settle;
 use rows::own_rows;
+use segments::mark;
 use sifting::sift;
 use tallies::tally;
 use trial::not_false;
@@ -62,12 +63,16 @@ fn turns_indexed(
     let mut firsts = no_firsts();
     index(list, &mut firsts, clauses);
     let few = tally(list, values, words);
+    let starts = [0usize; 0];
+    let masks = [0u64; 0];
     turns(
         list,
         n,
         table,
         &firsts,
         clauses,
+        &starts,
+        &masks,
         &mut words[..few],
         &mut saved[..few],
         noted,
@@ -156,7 +161,51 @@ fn turns_long(
     )
 }
 
-// The turns by the length of the list: one over 32,768 words is not indexed.
+// The turns over a list that is indexed by segments, whatever its length.
+fn turns_marked(
+    list: &[u16],
+    n: u8,
+    table: &[u16],
+    values: &mut [u8],
+    trail: &mut [u16],
+    joined: &mut [u64; 40],
+    apart: &mut [u64; 40],
+    budget: u64,
+    start: usize,
+) -> Ending
+    requires { ⌜ (whole (now list) ≡ true) × (0 < length (now list)) ⌝ }
+    requires { ⌜ Rested (withTriangles (now list) n) (length (now values)) (now values) (now trail) start ⌝ }
+    requires { ⌜ PairTable (now table) × Rows n (now values) (now joined) (now apart) ⌝ }
+    ensures { λ r. ⌜ EndsWith (searchTried (withTriangles (now (list .entry)) n) (length (now (values .entry))) budget) r (now (values .exit)) (notFalse (now (values .entry))) ⌝ }
+{
+    let firsts = no_firsts();
+    let mut starts = [0usize; 1025];
+    let mut masks = [0u64; 12480];
+    mark(list, &mut starts, &mut masks);
+    let mut words = [0u32; 1];
+    let mut saved = [0u32; 1];
+    let mut noted = [0u16; 1];
+    turns(
+        list,
+        n,
+        table,
+        &firsts,
+        &list[..0],
+        &starts,
+        &masks,
+        &mut words,
+        &mut saved,
+        &mut noted,
+        values,
+        trail,
+        joined,
+        apart,
+        budget,
+        start,
+    )
+}
+
+// The turns by the length of the list: up to 32,768 words it is indexed by its literals, above that by segments.
 fn turns_any(
     list: &[u16],
     n: u8,
@@ -179,26 +228,7 @@ fn turns_any(
     if list.len() <= 32768 {
         return turns_long(list, n, table, values, trail, joined, apart, budget, start);
     }
-    let firsts = no_firsts();
-    let mut words = [0u32; 1];
-    let mut saved = [0u32; 1];
-    let mut noted = [0u16; 1];
-    turns(
-        list,
-        n,
-        table,
-        &firsts,
-        &list[..0],
-        &mut words,
-        &mut saved,
-        &mut noted,
-        values,
-        trail,
-        joined,
-        apart,
-        budget,
-        start,
-    )
+    turns_marked(list, n, table, values, trail, joined, apart, budget, start)
 }
 
 // Whether what is left of a list at rest is looked for: where it is too long to be indexed, or not short and half of the variables are set.

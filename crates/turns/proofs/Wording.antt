@@ -29,10 +29,10 @@ pub marked-guess : (ms : List ℕ) {depth at : ℕ} → depth < length ms → Ma
 marked-guess ms {depth} {at} h = record { before = λ d z. let same : d ≡ depth = omega (arith, z) in rw same (omega (arith, getD-set-same ms depth at 0 h)) }
 
 -- what is prepared does not depend on what the words and notes are
-pub prepared-on : {ws firsts clauses words noted words′ noted′ : List ℕ} → length words′ ≡ length words → length noted′ ≡ length noted → Prepared ws firsts clauses words noted → Prepared ws firsts clauses words′ noted′
-prepared-on a b p = record { all-there = p .all-there; indexed = p .indexed; room = record { few = omega (arith, a, p .room .few); noted-room = omega (arith, b, p .room .noted-room); short = omega (arith, b, p .room .short) } }
+pub prepared-on : {ws firsts clauses starts masks words noted words′ noted′ : List ℕ} → length words′ ≡ length words → length noted′ ≡ length noted → Prepared ws firsts clauses starts masks words noted → Prepared ws firsts clauses starts masks words′ noted′
+prepared-on a b p = record { all-there = p .all-there; indexed = p .indexed; marked = p .marked; room = record { few = omega (arith, a, p .room .few); noted-room = omega (arith, b, p .room .noted-room); short = omega (arith, b, p .room .short) } }
 
-pub prepared-sized : {ws firsts clauses words noted words′ : List ℕ} → length words′ ≡ length words → Prepared ws firsts clauses words noted → Sized clauses words′
+pub prepared-sized : {ws firsts clauses starts masks words noted words′ : List ℕ} → length words′ ≡ length words → Prepared ws firsts clauses starts masks words noted → Sized clauses words′
 prepared-sized a p = record { few = omega (arith, p .room .noted-room, p .room .short); small = omega (arith, a, p .room .few) }
 
 -- the first closing is done

@@ -33,6 +33,8 @@ pub fn turns(
     table: &[u16],
     firsts: &[u16; 1561],
     clauses: &[u16],
+    starts: &[usize],
+    masks: &[u64],
     words: &mut [u32],
     saved: &mut [u32],
     noted: &mut [u16],
@@ -43,7 +45,7 @@ pub fn turns(
     budget: u64,
     start: usize,
 ) -> Ending
-    requires { ⌜ Prepared (now list) (now firsts) (now clauses) (now words) (now noted) ⌝ }
+    requires { ⌜ Prepared (now list) (now firsts) (now clauses) (now starts) (now masks) (now words) (now noted) ⌝ }
     requires { ⌜ TalliedIf (now list) (now clauses) (now values) (now words) × (length (now saved) ≡ length (now words)) ⌝ }
     requires { ⌜ Rested (withTriangles (now list) n) (length (now values)) (now values) (now trail) start ⌝ }
     requires { ⌜ PairTable (now table) × Rows n (now values) (now joined) (now apart) ⌝ }
@@ -62,6 +64,8 @@ pub fn turns(
             table,
             firsts,
             clauses,
+            starts,
+            masks,
             words,
             noted,
             values,

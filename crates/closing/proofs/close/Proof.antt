@@ -1,26 +1,23 @@
 -- `closing::close` meets its contract: the queue is empty, or one of the two ways closes the values. Assumes nothing.
 use borrow.Author.Needs.{needs}
 use native.Mathlib.Omega.{arith}
-use Rattle.cnf.specs.Clauses.{clausesIn}
-use Rattle.pairs.specs.Triangles.{triangles}
-use Rattle.rows.proofs.Working.{queue-part, drained-settles}
+use Rattle.rows.proofs.Working.{drained-settles}
 use Rattle.conclude.proofs.Queueing.{queueing, queue-end}
-use Rattle.passes.proofs.Attending.{to-ds}
 use Rattle.tallies.proofs.Lagging.{rested-behind}
 use Rattle.closing.proofs.close.Statement.{statement}
 use Rattle.closing.proofs.close.Tie as tie
 
 returns : tie.Need-returns
 returns c =
-    let the-pre = c .before .before .before .before .before .before .before .before .pre in
+    let the-pre = c .before .before .before .before .before .before .before .before .before .before .pre in
     let r = the-pre .1 .1 .0 in
     ((drained-settles r (queue-end (queueing r (the-pre .1 .1 .1 .0 .0)) (omega (arith, c .if1 .taken))), the-pre .1 .1 .1 .1 .1), λ h _. rested-behind (r .counted) (omega (arith, r .counted, r .room)) (c .if1 .taken) (the-pre .1 .0 h))
 
 settle-indexed-requires : tie.Need-settle-indexed-requires
 settle-indexed-requires c κs =
     let c6 = c .before .before .before .before .before .before in
-    let c15 = c6 .before .before .before .before .before .before .before .before .before in
-    let the-pre = c15 .pre in
+    let c17 = c6 .before .before .before .before .before .before .before .before .before .before .before in
+    let the-pre = c17 .pre in
     let the-if2 = c6 .if2 in
     ((the-pre .0 .indexed (the-if2 .taken), the-pre .0 .room), (the-pre .1 .1 .0, (the-pre .1 .1 .1 .0, (the-pre .1 .0 (the-if2 .taken), the-pre .1 .1 .1 .1))))
 
@@ -41,12 +38,13 @@ returns-2 c =
     let the-settle-indexed = c .before .before .before .before .before .before .before .before .settle-indexed in
     (the-settle-indexed .ensures .0, λ _. the-settle-indexed .ensures .1)
 
-settle-requires : tie.Need-settle-requires
-settle-requires c κs =
-    let c13 = c .before .before .before .before .before .before .before .before .before .before .before .before .before in
-    let the-pre = c13 .pre in
-    let the-args = c13 .args in
-    (the-pre .0 .all-there, ((the-pre .1 .1 .0, queue-part (triangles (the-args .n)) _ (to-ds (clausesIn (the-args .list .now)) _) (the-pre .1 .1 .1 .0 .0)), the-pre .1 .1 .1 .1))
+settle-marked-requires : tie.Need-settle-marked-requires
+settle-marked-requires c κs =
+    let c4 = c .before .before .before .before in
+    let c15 = c4 .before .before .before .before .before .before .before .before .before .before .before in
+    let the-pre = c15 .pre in
+    let the-queue = the-pre .1 .1 .1 .0 in
+    ((the-pre .0 .marked (c4 .if2 .left), the-queue .1), ((the-pre .1 .1 .0, the-queue .0), the-pre .1 .1 .1 .1))
 
 same-length-5 : tie.Need-same-length-5
 same-length-5 c = search needs
@@ -58,7 +56,7 @@ returns-3 : tie.Need-returns-3
 returns-3 c =
     let c4 = c .before .before .before .before in
     let c9 = c4 .before .before .before .before .before in
-    (c4 .settle .ensures, λ h. absurd (omega (arith, h, c9 .if2 .left)))
+    (c4 .settle-marked .ensures, λ h. absurd (omega (arith, h, c9 .if2 .left)))
 
 pub close-spec : {M : Type 1} → statement M
-close-spec = tie.close (tie.spec returns settle-indexed-requires same-length same-length-2 same-length-3 same-length-4 returns-2 settle-requires same-length-5 same-length-6 returns-3)
+close-spec = tie.close (tie.spec returns settle-indexed-requires same-length same-length-2 same-length-3 same-length-4 returns-2 settle-marked-requires same-length-5 same-length-6 returns-3)

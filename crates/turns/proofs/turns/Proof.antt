@@ -19,18 +19,18 @@ use Rattle.turns.proofs.turns.Statement.{statement}
 use Rattle.turns.proofs.turns.Tie as tie
 
 abbrev Inv-turns : tie.InvT-turns
-Inv-turns list n table firsts clauses words₀ saved₀ noted₀ values₀ trail₀ joined₀ apart₀ budget start marks₀ at₀ count₀ depth₀ made₀ low₀ words saved noted values trail joined apart marks at count depth made low =
+Inv-turns list n table firsts clauses starts masks words₀ saved₀ noted₀ values₀ trail₀ joined₀ apart₀ budget start marks₀ at₀ count₀ depth₀ made₀ low₀ words saved noted values trail joined apart marks at count depth made low =
     laws.Turning (withTriangles list n) (length values₀) budget (notFalse values₀) values trail marks at count depth made low × Rows n values joined apart × Lags list clauses values trail at count words × wording.Marked marks depth at
     × (length list ≤ length clauses → 0 < depth → saved ≡ words) × (length words ≡ length words₀) × (length saved ≡ length words₀) × (length noted ≡ length noted₀)
 
 abbrev μ-turns : tie.MeasureT-turns
-μ-turns list n table firsts clauses words₀ saved₀ noted₀ values₀ trail₀ joined₀ apart₀ budget start marks₀ at₀ count₀ depth₀ made₀ low₀ words saved noted values trail joined apart marks at count depth made low =
+μ-turns list n table firsts clauses starts masks words₀ saved₀ noted₀ values₀ trail₀ joined₀ apart₀ budget start marks₀ at₀ count₀ depth₀ made₀ low₀ words saved noted values trail joined apart marks at count depth made low =
     2 * (budget - made) + depth
 
 -- ---- places of the code, from later ones: the entry, the head of a turn, where the values are closed, and what follows
 
 abbrev entry : tie.At-turns Inv-turns μ-turns → tie.Start Inv-turns μ-turns
-entry c = c .before .before .before .before .before .before .before .before .before .before
+entry c = c .before .before .before .before .before .before .before .before .before .before .before .before
 
 abbrev head : tie.After-close Inv-turns μ-turns → tie.At-turns Inv-turns μ-turns
 head c = c .before .before .before .before .before .before .before
@@ -63,16 +63,16 @@ forced c = c .before .before .before .before
 
 -- what is lent keeps its length while the values are closed
 record Lengths (c : tie.After-close Inv-turns μ-turns) : Type 0 where
-  words : length (c .close .last .1 .1 .1 .1 .1 .0) ≡ length (entry (head c) .args .words .now)
+  words : length (c .close .last .1 .1 .1 .1 .1 .1 .1 .0) ≡ length (entry (head c) .args .words .now)
   saved : length (head c .turns .saved) ≡ length (entry (head c) .args .saved .now)
-  noted : length (c .close .last .1 .1 .1 .1 .1 .1 .0) ≡ length (entry (head c) .args .noted .now)
-  values : length (c .close .last .1 .1 .1 .1 .1 .1 .1 .0) ≡ length (entry (head c) .args .values .now)
-  trail : length (c .close .last .1 .1 .1 .1 .1 .1 .1 .1 .0) ≡ length (entry (head c) .args .trail .now)
+  noted : length (c .close .last .1 .1 .1 .1 .1 .1 .1 .1 .0) ≡ length (entry (head c) .args .noted .now)
+  values : length (c .close .last .1 .1 .1 .1 .1 .1 .1 .1 .1 .0) ≡ length (entry (head c) .args .values .now)
+  trail : length (c .close .last .1 .1 .1 .1 .1 .1 .1 .1 .1 .1 .0) ≡ length (entry (head c) .args .trail .now)
 
 lengths : (c : tie.After-close Inv-turns μ-turns) → Lengths c
 lengths c =
     let i = head c .turns .inv in
-    let k = c .close .kept .1 .1 .1 .1 .1 in
+    let k = c .close .kept .1 .1 .1 .1 .1 .1 .1 in
     let s = c .close .ensures .0 .0 in
     let p = entry (head c) .pre .1 in
     record { words = k .0 ∙ i .5; saved = i .6 ∙ sym (p .0 .1); noted = k .1 .0 ∙ i .7; values = laws.after-size (i .0) s; trail = laws.after-long (i .0) s ∙ sym (p .1 .0 .long) }
@@ -90,7 +90,7 @@ stands c = omega (arith, c .if2 .left)
 
 -- what is due there
 abbrev DueThen : tie.After-close Inv-turns μ-turns → Due → Type 0
-DueThen c r = DueAt (c .close .last .1 .1 .1 .1 .1 .1 .1 .0) (head c .turns .low) (head c .turns .made) (entry (head c) .args .budget) r
+DueThen c r = DueAt (c .close .last .1 .1 .1 .1 .1 .1 .1 .1 .1 .0) (head c .turns .low) (head c .turns .made) (entry (head c) .args .budget) r
 
 spent : (c : tie.After-enum-told2 Inv-turns μ-turns) → DueThen (rested (c .before .before)) due.Spent
 spent c = rw (c .enum-told2 .given .1) at (c .before .before .due-at .ensures)
@@ -113,10 +113,10 @@ places-requires c κs = search needs
 
 turns-holds : tie.Need-turns-holds Inv-turns μ-turns
 turns-holds c =
-    let c9 = c .before .before .before .before .before .before .before .before .before in
-    let p = c9 .pre .1 in
+    let c11 = c .before .before .before .before .before .before .before .before .before .before .before in
+    let p = c11 .pre .1 in
     let r = p .1 .0 in
-    (laws.turning _ _ r (c .places .ensures), p .1 .1 .1, wording.lags-first (c9 .args .clauses .now) (p .0 .0) (r .counted) (omega (arith, r .counted, r .size, r .most, r .long)), wording.marked-none, (λ _ h. absurd (omega (arith, h))), refl, p .0 .1, refl)
+    (laws.turning _ _ r (c .places .ensures), p .1 .1 .1, wording.lags-first (c11 .args .clauses .now) (p .0 .0) (r .counted) (omega (arith, r .counted, r .size, r .most, r .long)), wording.marked-none, (λ _ h. absurd (omega (arith, h))), refl, p .0 .1, refl)
 
 close-requires : tie.Need-close-requires Inv-turns μ-turns
 close-requires c κs =
@@ -198,7 +198,7 @@ turns-again c =
     let d = h .depth - 1 in
     let z = stands (w .before) in
     let m = w .wide .ensures in
-    rw (r .ensures .1 .0) (laws.turn-undo (i .0) s t d z m (r .ensures .0 .0), r .ensures .0 .1, r .ensures .1 .1 .lags, record { before = laws.earlier-mark (i .0) s t d z m }, (λ k _. r .ensures .1 .1 .kept k), r .kept .1 .1 .1 .1 .1 .0 ∙ q .close .kept .1 .1 .1 .1 .1 .0 ∙ i .5, r .kept .1 .1 .1 .1 .1 .1 .0 ∙ i .6, lengths q .noted)
+    rw (r .ensures .1 .0) (laws.turn-undo (i .0) s t d z m (r .ensures .0 .0), r .ensures .0 .1, r .ensures .1 .1 .lags, record { before = laws.earlier-mark (i .0) s t d z m }, (λ k _. r .ensures .1 .1 .kept k), r .kept .1 .1 .1 .1 .1 .0 ∙ q .close .kept .1 .1 .1 .1 .1 .1 .1 .0 ∙ i .5, r .kept .1 .1 .1 .1 .1 .1 .0 ∙ i .6, lengths q .noted)
 
 due-at-requires : tie.Need-due-at-requires Inv-turns μ-turns
 due-at-requires c κs =

@@ -1,0 +1,4 @@
+pub mod Cutting
+pub mod Gathering
+pub mod Scanning
+pub mod Stirring
