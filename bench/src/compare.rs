@@ -1,6 +1,6 @@
 //! Library and plain Rust on random tables, damaged ones, lists and maps, with buffers of any length: the same answers and the same bytes.
 
-use crate::plain;
+use basilvault_bench::plain;
 use basilvault_tests::flat;
 use basilvault_tests::random::{self, Random};
 use basilvault_tests::reference::{LARGEST, Limits, STANDARD, Table};

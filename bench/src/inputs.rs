@@ -41,6 +41,8 @@ pub struct Input {
     pub variables: usize,
     pub map: Vec<u8>,
     pub script: Vec<u8>,
+    /// the guesses of a reduction at most
+    pub budget: u64,
     classes: usize,
 }
 
@@ -61,7 +63,7 @@ impl Input {
         list.truncate(words);
         let targets = if one { "one" } else { "any" };
         let label = format!("{states:6} {targets:>7} {classes:7} {:5} {words:5} {guesses:7}", table.len());
-        Some(Input { label, table, list, variables: states * (states - 1) / 2, map, script: Vec::new(), classes })
+        Some(Input { label, table, list, variables: states * (states - 1) / 2, map, script: Vec::new(), budget: BUDGET, classes })
     }
 }
 
@@ -127,11 +129,11 @@ pub fn nothing() -> Input {
 /// An input of a list alone.
 fn alone(list: Vec<u16>, variables: usize, guesses: u64) -> Input {
     let label = format!("{:>6} {:>7} {:>7} {:>5} {:5} {guesses:7}", "-", "-", "-", "-", list.len());
-    Input { label, table: Vec::new(), list, variables, map: Vec::new(), script: Vec::new(), classes: 0 }
+    Input { label, table: Vec::new(), list, variables, map: Vec::new(), script: Vec::new(), budget: BUDGET, classes: 0 }
 }
 
 /// The symbols of a script.
-const SYMBOLS: usize = 100_000;
+pub const SYMBOLS: usize = 100_000;
 
 /// A dense table of 24 states, two symbols of each kind and some 1,000, 1,000 and 4,000 records: every state is reached behind every symbol.
 fn dense(r: &mut Random) -> Table {
@@ -184,7 +186,12 @@ pub fn scripts() -> Vec<Input> {
     let input = |t: Table| {
         let (script, table) = (balanced(&mut r, &t), t.bytes());
         let label = format!("{:6} {:>7} {:>7} {:5} {:>5} {:>7}", t.count(), "any", "-", table.len(), "-", "-");
-        Input { label, table, list: Vec::new(), variables: 0, map: Vec::new(), script, classes: 0 }
+        Input { label, table, list: Vec::new(), variables: 0, map: Vec::new(), script, budget: BUDGET, classes: 0 }
     };
     tables.map(input).into()
+}
+
+/// The input of a table that is only reduced, with so many guesses at most.
+pub fn to_reduce(table: Vec<u8>, budget: u64) -> Input {
+    Input { label: String::new(), table, list: Vec::new(), variables: 0, map: Vec::new(), script: Vec::new(), budget, classes: 0 }
 }

@@ -1,8 +1,9 @@
 //! Instructions of the stages, counted by callgrind: unlike times they do not depend on what else runs.
 
+use crate::before;
 use crate::inputs::Input;
 use crate::report::{self, Row};
-use crate::stages::{Buffers, Call, STAGES};
+use crate::stages::{Buffers, Call, STAGES, Stage};
 use std::hint::black_box;
 use std::path::Path;
 use std::process::Command;
@@ -13,18 +14,25 @@ fn counted(call: Call, input: &Input, buffers: &mut Buffers) -> u8 {
     call(black_box(input), buffers)
 }
 
-/// Runs a stage once over all its inputs, by the library or in plain Rust.
-pub fn one(name: &str, side: &str) {
-    let stage = STAGES.iter().find(|s| s.name == name).expect("a stage");
+/// Runs a stage once over inputs, by the library or in plain Rust; the refusal or 0, and the values, of each.
+pub fn once(stage: &Stage, side: &str, inputs: &[Input], buffers: &mut Buffers) -> Vec<(u8, [u64; 41])> {
     let call = match side {
         "library" => stage.library,
         "plain" => stage.plain,
         _ => panic!("library or plain"),
     };
-    let mut buffers = Buffers::new();
-    for input in &stage.inputs() {
-        black_box(counted(call, input, &mut buffers));
-    }
+    inputs.iter().map(|input| (counted(call, input, buffers), buffers.values)).collect()
+}
+
+/// The stage of a name.
+pub fn stage(name: &str) -> &'static Stage {
+    STAGES.iter().find(|s| s.name == name).expect("a stage")
+}
+
+/// Runs a stage once over all its inputs.
+pub fn one(name: &str, side: &str) {
+    let stage = stage(name);
+    black_box(once(stage, side, &stage.inputs(), &mut Buffers::new()));
 }
 
 /// The instructions of each call of a function, in their order: this program runs under callgrind, which writes a file at the end of each call. Memory is
@@ -62,4 +70,5 @@ pub fn print(folder: &str) {
         }
     }
     report::print(&rows, "Ir");
+    before::print(&rows);
 }

@@ -1,7 +1,8 @@
 //! A load that can be made again: a thousand tables from the library's generator, made and reduced by the library and in plain Rust.
 
 use crate::inputs::BUDGET;
-use crate::plain;
+use basilvault_bench::plain;
+use crate::report::{heading, heads};
 use crate::stages::Buffers;
 use basilvault_tests::reference::{LARGEST, Load};
 use std::hint::black_box;
@@ -62,7 +63,9 @@ pub fn print() {
             (0..2).for_each(|i| least[i] = least[i].min(times[i]));
         }
     }
-    println!("a load of {TABLES} tables, {bytes} bytes\n\n| a second | library | plain Rust | ratio of times |\n| --- | --- | --- | --- |");
+    println!("a load of {TABLES} tables, {bytes} bytes\n");
+    heading("load");
+    heads("a second; library; plain Rust; ratio of times");
     for (i, what) in ["tables made", "tables reduced"].into_iter().enumerate() {
         let [library, plain] = [0, 1].map(|side| least[side][i]);
         println!("| {what} | {:.0} | {:.0} | {:.2} |", f64::from(TABLES) / library, f64::from(TABLES) / plain, library / plain);

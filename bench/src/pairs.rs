@@ -1,7 +1,8 @@
 //! The comparison of two tables, on its own inputs: small ones, and such as make it slow within 24 states and 32 symbols.
 
 use crate::instructions::of_calls;
-use crate::plain;
+use basilvault_bench::plain;
+use crate::report::{heading, heads};
 use basilvault_tests::flat;
 use basilvault_tests::random::{self, Random};
 use basilvault_tests::reference::Table;
@@ -164,8 +165,8 @@ pub fn print(folder: &str) {
     std::fs::create_dir_all(folder).expect("a folder for callgrind's files");
     let pairs = pairs();
     let [ours, theirs] = ["library", "plain"].map(|side| of_calls("*pairs::counted", &["fit-one", side], pairs.len(), &Path::new(folder).join(format!("fit.{side}"))));
-    println!("| tables | answer | library ms | plain ms | library Ir | plain Ir | ratio of Ir |");
-    println!("| --- | --- | --- | --- | --- | --- | --- |");
+    heading("fit");
+    heads("tables; answer; library ms; plain ms; library Ir; plain Ir; ratio of Ir");
     for (pair, (library, plain)) in pairs.iter().zip(ours.into_iter().zip(theirs)) {
         let answers = ["library", "plain"].map(|side| counted(side, pair));
         assert_eq!(answers[0], answers[1], "{}", pair.label);

@@ -1,7 +1,7 @@
 //! The operations at the program's limits, each by the library and in plain Rust, on an input.
 
 use crate::inputs::{BUDGET, Input, WORDS, inputs, pigeons, scripts};
-use crate::plain;
+use basilvault_bench::plain;
 use basilvault_tests::flat;
 use basilvault_tests::reference::LARGEST;
 
@@ -68,7 +68,7 @@ pub static STAGES: [Stage; 8] = [
     stage!(search, search_within, |i, b| &i.list, i.variables, BUDGET, &mut b.answer),
     stage!(check, check_within, |i, b| &i.table, &i.map),
     stage!(quotient, quotient_within, |i, b| &i.table, &i.map, &mut b.out),
-    stage!(reduce, reduce_within, |i, b| &i.table, BUDGET, &mut b.list, &mut b.map, &mut b.out),
+    stage!(reduce, reduce_within, |i, b| &i.table, i.budget, &mut b.list, &mut b.map, &mut b.out),
     stage!(script, script_within, |i, b| &i.table, &i.script),
 ];
 

@@ -1,8 +1,9 @@
-//! Lists made for the search to take long, of up to 32,768 words. Behind many guesses that settle nothing, one sets off a chain of implications, whichever way
+//! Lists made for the search to take long, of up to a given number of words. After many guesses that settle nothing, one sets off a chain of implications, whichever way
 //! it goes, and the chain breaks at its end. All other clauses have false links of the chain, and neither force nor break.
 
 use crate::inputs::{BUDGET, WORDS};
-use crate::plain;
+use basilvault_bench::plain;
+use crate::report::{heading, heads};
 use basilvault_tests::{flat, random::Random, reference::LARGEST};
 use std::time::Instant;
 
@@ -11,9 +12,9 @@ const LINKS: usize = 700;
 
 /// A list in the making: how many variables are taken, and the words. A variable goes by the literal that says it is true; one more says it is false.
 #[derive(Default)]
-struct List {
-    variables: usize,
-    words: Vec<u16>,
+pub struct List {
+    pub variables: usize,
+    pub words: Vec<u16>,
 }
 
 impl List {
@@ -47,12 +48,12 @@ impl List {
         chain
     }
 
-    /// Fills the list with clauses of a length: first the literals that `some` gives, then links of the chain at random, false.
-    fn fill(mut self, length: usize, mut chain: Vec<u16>, some: impl Fn(&mut Random) -> Vec<u16>) -> List {
+    /// Fills the list up to so many words with clauses of a length: first the literals that `some` gives, then links of the chain at random, false.
+    fn fill(mut self, most: usize, length: usize, mut chain: Vec<u16>, some: impl Fn(&mut Random) -> Vec<u16>) -> List {
         let mut r = Random::new(1);
         loop {
             let mut clause = some(&mut r);
-            let length = length.min(WORDS.saturating_sub(self.words.len() + 1));
+            let length = length.min(most.saturating_sub(self.words.len() + 1));
             if length <= clause.len() {
                 return self;
             }
@@ -67,13 +68,13 @@ impl List {
 }
 
 /// Clauses that hold by their first literal from the first guess on; or wait, by two literals that are unset throughout.
-fn steady(length: usize, both: bool, wait: bool) -> List {
+pub fn steady(most: usize, length: usize, both: bool, wait: bool) -> List {
     let mut list = List::default();
     let (guesses, x, held) = (list.take(18), list.take(1)[0], list.take(8));
     held.iter().for_each(|&l| list.clause(&[guesses[0] + 1, l]));
     let chain = list.chain(x, both);
     let unset = list.take(8);
-    list.fill(length, chain, |r| {
+    list.fill(most, length, chain, |r| {
         let i = r.below(8);
         if wait { vec![unset[i], unset[(i + 3) % 8]] } else { vec![held[i]] }
     })
@@ -90,7 +91,7 @@ fn in_turn(length: usize) -> List {
         }
     }
     let chain = list.chain(x, false);
-    list.fill(length, chain, |r| held.iter().map(|all| all[r.below(8)]).collect())
+    list.fill(WORDS, length, chain, |r| held.iter().map(|all| all[r.below(8)]).collect())
 }
 
 /// Seconds until the guesses are spent.
@@ -110,12 +111,13 @@ fn row(name: &str, length: usize, list: List) {
 
 /// A row for each list, by the length of its clauses.
 pub fn print() {
-    println!("| clauses | length | variables | library s | plain s | ratio |\n| --- | --- | --- | --- | --- | --- |");
+    heading("worst lists");
+    heads("clauses; length; variables; library s; plain s; ratio");
     for length in [2, 3, 6, 10, 100] {
         for (both, ends) in [(false, "one end"), (true, "both ends")] {
-            row(&format!("held, {ends}"), length, steady(length, both, false));
+            row(&format!("held, {ends}"), length, steady(WORDS, length, both, false));
             if length > 2 {
-                row(&format!("waiting, {ends}"), length, steady(length, both, true));
+                row(&format!("waiting, {ends}"), length, steady(WORDS, length, both, true));
             }
         }
         if length > 4 {
