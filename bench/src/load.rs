@@ -1,9 +1,9 @@
 //! A load that can be made again: a thousand tables from the library's generator, made and reduced by the library and in plain Rust.
 
 use crate::inputs::BUDGET;
-use basilvault_bench::plain;
 use crate::report::{heading, heads};
 use crate::stages::Buffers;
+use basilvault_bench::plain;
 use basilvault_tests::reference::{LARGEST, Load};
 use std::hint::black_box;
 use std::time::Instant;

@@ -1,8 +1,8 @@
 //! The comparison of two tables, on its own inputs: small ones, and such as make it slow within 24 states and 32 symbols.
 
 use crate::instructions::of_calls;
-use basilvault_bench::plain;
 use crate::report::{heading, heads};
+use basilvault_bench::plain;
 use basilvault_tests::flat;
 use basilvault_tests::random::{self, Random};
 use basilvault_tests::reference::Table;

@@ -58,3 +58,9 @@ pub fn print() {
     let row = |task: Task| Row { stage: task.stage.name, label: task.input.label, library: task.least[0], plain: task.least[1] };
     report::print(&tasks.into_iter().map(row).collect::<Vec<_>>(), "ns");
 }
+
+/// Seconds that this process has had a processor, in steps of some milliseconds: for calls that take long, whatever else runs.
+pub fn on_processor() -> f64 {
+    let text = std::fs::read_to_string("/proc/self/schedstat").expect("the system says how long a process ran");
+    text.split_whitespace().next().expect("a number").parse::<f64>().expect("a number") / 1e9
+}

@@ -2,10 +2,10 @@
 //! it goes, and the chain breaks at its end. All other clauses have false links of the chain, and neither force nor break.
 
 use crate::inputs::{BUDGET, WORDS};
-use basilvault_bench::plain;
 use crate::report::{heading, heads};
+use crate::times::on_processor;
+use basilvault_bench::plain;
 use basilvault_tests::{flat, random::Random, reference::LARGEST};
-use std::time::Instant;
 
 /// How many links the chain has.
 const LINKS: usize = 700;
@@ -94,11 +94,11 @@ fn in_turn(length: usize) -> List {
     list.fill(WORDS, length, chain, |r| held.iter().map(|all| all[r.below(8)]).collect())
 }
 
-/// Seconds until the guesses are spent.
+/// Processor seconds until the guesses are spent.
 fn seconds(search: impl FnOnce(&mut [u8]) -> Result<[u64; 1], u8>) -> f64 {
-    let start = Instant::now();
+    let start = on_processor();
     assert_eq!(search(&mut [0; 780]), Err(13));
-    start.elapsed().as_secs_f64()
+    on_processor() - start
 }
 
 /// Prints the row of a list.

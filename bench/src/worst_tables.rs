@@ -3,6 +3,7 @@
 use crate::inputs::{BUDGET, WORDS};
 use crate::report::{heading, heads};
 use crate::rest::left_at_rest;
+use crate::times::on_processor;
 use crate::worst::steady;
 use basilvault::{Reduced, Refusal};
 use basilvault_tests::random::Random;
@@ -130,20 +131,14 @@ fn search(words: usize, both: bool, wait: bool, budget: u64) -> Case {
     Case { input, size, call: Box::new(call) }
 }
 
-/// Seconds that this process has had a processor.
-fn on_processor() -> f64 {
-    let text = std::fs::read_to_string("/proc/self/schedstat").expect("the system says how long a process ran");
-    text.split_whitespace().next().expect("a number").parse::<f64>().expect("a number") / 1e9
-}
-
-/// Seconds of a call, the least of up to nine that take two seconds together, and its guesses. Longer ones are processor time, which is kept in steps of some milliseconds.
+/// Seconds of a call, the least of up to nine that take two seconds together, and its guesses. From a twentieth of a second on they are processor time.
 fn seconds(case: &Case, room: &mut Room) -> (f64, u64) {
     let (mut least, mut all, mut guesses) = (f64::MAX, 0.0, 0);
     for _ in 0..9 {
         let (start, before) = (Instant::now(), on_processor());
         guesses = (case.call)(room);
         let passed = start.elapsed().as_secs_f64();
-        let taken = if passed < 0.2 { passed } else { on_processor() - before };
+        let taken = if passed < 0.05 { passed } else { on_processor() - before };
         (least, all) = (least.min(taken), all + taken);
         if all > 2.0 {
             break;
