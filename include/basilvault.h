@@ -14,7 +14,7 @@
  * the guesses that they make, at most the budget. On the hardest tables that were found a guess of a reduction takes 0.1 to 2 microseconds, and some 10 to 20
  * where over 32,768 words of the clause list are left once nothing more follows from it. A guess then reads those parts of the list in which a variable
  * stands that it has set, again and again while more is set; on a list of basilvault_search that was made to be slow it takes half a millisecond for 33,000
- * words and 65 milliseconds for a million. On shorter lists that were made to be slow it takes some 40 microseconds
+ * words and 70 milliseconds for a million. On shorter lists that were made to be slow it takes some 40 microseconds
  * (bench/README.md). basilvault_fit took an eighth of a second on the worst tables that were made. */
 #ifndef BASILVAULT_H
 #define BASILVAULT_H
@@ -71,7 +71,7 @@ extern "C" {
      (size_t)(moves) * ((size_t)(n)-1) * ((size_t)(n) + 2) + (size_t)(returns) * (size_t)(n) * (size_t)(n) * ((size_t)(n) + 3))
 
 /* The most bytes of stack that a call takes, as measured, and some to spare. */
-#define BASILVAULT_STACK 393216
+#define BASILVAULT_STACK 425984
 
 /* Why a call is refused. Where several apply, the first in the operation's order is given, 39 before all. */
 enum basilvault_refusal {

@@ -114,9 +114,9 @@ static void try_table(struct work *w, const char *path, size_t *most) {
     }
 }
 
-/* The search over a list of over 65,536 words of which 32,768 are left at rest, in clauses of two, and one of the variable 779 with which the others hold: it
- * takes the most room. */
-static void try_long_list(struct work *w, size_t *most) {
+/* The search over a list of over 65,536 words of which `left` are left at rest, in clauses of two, and one of the variable 779 with which the others hold. With
+ * 32,768 it takes the most room; with more the list is searched by segments. */
+static void try_long_list(struct work *w, size_t left, size_t *most) {
     w->states = STATES;
     w->words = 0;
     w->list[w->words++] = 1;
@@ -124,7 +124,7 @@ static void try_long_list(struct work *w, size_t *most) {
     for (size_t i = 0; w->words <= 65536; i++) {
         w->list[w->words++] = 2;
         w->list[w->words++] = (uint16_t)(2 * (i % 778));
-        w->list[w->words] = w->words + 1 <= 32768 ? (uint16_t)(2 * (i % 778 + 1) + i % 2) : 2 * 779;
+        w->list[w->words] = w->words + 1 <= left ? (uint16_t)(2 * (i % 778 + 1) + i % 2) : 2 * 779;
         w->words++;
     }
     size_t bytes = stack_of(do_search_within, w);
@@ -159,7 +159,8 @@ int main(int count, char **paths) {
     size_t idle = stack_of(do_nothing, works[0]);
     for (int i = 1; i < count; i++) try_table(works[0], paths[i], &most);
     try_edges();
-    try_long_list(works[THREADS - 1], &most);
+    try_long_list(works[THREADS - 1], 32768, &most);
+    try_long_list(works[THREADS - 1], 65536, &most);
     /* the last table, by several threads at once: each as by itself */
     do_reduce_within(works[0]);
     for (size_t i = 1; i < THREADS; i++) {

@@ -558,6 +558,16 @@ fn compare_hard(c: &mut Counts) {
     }
 }
 
+/// Lists of over 32,768 words, which are searched by segments.
+fn compare_long_lists(r: &mut Random, c: &mut Counts) {
+    for _ in 0..24 {
+        let variables = 100 + r.below(681);
+        let words = random::long_list(r, variables);
+        let budget = r.below(200) as u64;
+        compare_search(r, LARGEST, &words, variables, budget, c);
+    }
+}
+
 /// The tops as C is answered, in a values buffer of any length; the number.
 fn tops_into(table: &[u8], values: &mut [u64]) -> u32 {
     unsafe { raw::basilvault_tops(table.as_ptr(), table.len(), values.as_mut_ptr(), values.len()) }
@@ -660,6 +670,7 @@ fn main() {
         }
     }
     compare_hard(&mut c);
+    compare_long_lists(&mut r, &mut c);
     compare_many_lines();
     compare_program();
     for ((name, number), k) in &c.0 {

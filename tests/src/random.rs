@@ -206,6 +206,35 @@ pub fn clause_words(r: &mut Random, variables: usize) -> Vec<u16> {
     words
 }
 
+/// A list of over 32,768 words, of which nothing follows until a guess is made: clauses of two to six literals. Some lists have an assignment that was hidden in them.
+pub fn long_list(r: &mut Random, variables: usize) -> Vec<u16> {
+    let hidden: Option<Vec<usize>> = r.chance(70).then(|| (0..variables).map(|_| r.below(2)).collect());
+    let (most, words_most) = (3 + r.below(4), 32_769 + r.below(20_000));
+    let mut words = Vec::new();
+    while words.len() < words_most {
+        let first = r.below(variables);
+        let mut clause: Vec<usize> = vec![2 * first + r.below(2)];
+        for _ in 1..2 + r.below(most - 1) {
+            let v = if r.chance(50) { r.below(variables) } else { (first + r.below(40)) % variables };
+            if clause.iter().all(|l| l / 2 != v) {
+                clause.push(2 * v + r.below(2));
+            }
+        }
+        if clause.len() < 2 {
+            continue;
+        }
+        if let Some(values) = &hidden
+            && clause.iter().all(|l| values[l / 2] != 1 - l % 2)
+        {
+            let i = r.below(clause.len());
+            clause[i] ^= 1;
+        }
+        words.push(clause.len() as u16);
+        words.extend(clause.iter().map(|&l| l as u16));
+    }
+    words
+}
+
 /// A map for n states: mostly properly numbered and of the right length.
 pub fn map(r: &mut Random, n: usize) -> Vec<u8> {
     let mut m = Vec::new();
