@@ -8,18 +8,18 @@ ghost use Rattle.printed.specs.Program.{widest};
 ghost use Rattle.relations.specs.Check.{checkNumber};
 ghost use Rattle.printed.specs.Text.{goingText, printed};
 ghost use Rattle.printed.specs.Lines.{Put};
-use digits::put;
-use digits::put_number;
 use fates::Recorded;
 use libc::STDERR_FILENO;
 use libc::STDIN_FILENO;
 use libc::STDOUT_FILENO;
 use limits::Limits;
+use lines::put;
 use lines::put_counts;
 use lines::put_map;
+use lines::put_number;
+use lines::put_records;
 use lines::put_table;
 use reductions::Reduction;
-use summary::put_records;
 
 // "The program uses 40 and 64."
 fn widest() -> Limits

@@ -26,11 +26,11 @@ ghost use Prim.Native.Nat.{_<_};
 ghost use lib.ListN.{length, take};
 ghost use Rattle.lists.specs.Lists.{over};
 ghost use Rattle.cases.specs.Numbers.{wordAt, doubleAt, longAt, wordsIn, longsIn};
-use casts::long;
 use choices::Which;
 use libc::STDIN_FILENO;
 use libc::STDOUT_FILENO;
 use limits::Limits;
+use words::long;
 
 // Writes text to standard output.
 fn say(text: &[u8]) -> bool {

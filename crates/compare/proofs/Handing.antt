@@ -19,7 +19,7 @@ use Rattle.rounds.specs.Rows.{Holds, Named, NextMoves, NextReturns}
 use Rattle.compare.specs.Told.{Given, BothRead}
 use Rattle.linking.specs.Quick.{Partly, Counts, Inner, Pushing, Popping}
 use Rattle.linking.proofs.Quickly.{start-partly, partly-tops}
-use Rattle.choice.proofs.Reading.{named-more, read-few, internals-named, calls-named, returns-named}
+use Rattle.compare.proofs.Reading.{named-more, read-few, internals-named, calls-named, returns-named}
 
 -- ---- the rows of the pairs
 

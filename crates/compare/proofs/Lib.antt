@@ -1,3 +1,5 @@
+pub mod Choosing
+pub mod Reading
 pub mod Marking
 pub mod Settling
 pub mod Targets

@@ -8,9 +8,9 @@ ghost use Rattle.lists.specs.Lists.{any, all, firstFailed};
 ghost use Rattle.format.specs.File.{records};
 ghost use Rattle.format.specs.Reading.{countsFit, stateByteMost, bytesFit, isInitial, recordFits, recordsFit, ascend, orderFits, tableTests};
 ghost use Rattle.view.specs.Sections.{sectioned};
-use casts::wide;
 use keyed::number_at;
 use limits::Limits;
+use words::wide;
 
 // "At most 1,024" internals and calls, "At most 4,096" returns
 const MOVES: usize = 1024;

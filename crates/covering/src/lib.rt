@@ -13,10 +13,10 @@ ghost use Rattle.lists.specs.Bits.{hasBit};
 ghost use Rattle.format.specs.File.{records};
 ghost use Rattle.matching.specs.Matching.{kept, recordsMatched, Lent};
 ghost use Rattle.covering.specs.Rooms.{Classed, Joined, placeOf, bitOf, metBy, gained, cleared, Placed, Lies, Room, Empty};
-use casts::wide;
-use initials::bit;
 use matching::keeps;
+use tops::bit;
 use words::next_state;
+use words::wide;
 
 // The word of all possible states.
 const EVERY: u64 = 1099511627775;

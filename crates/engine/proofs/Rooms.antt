@@ -18,7 +18,7 @@ use Rattle.occurrences.specs.Occurrences.{Listed, IndexRoom}
 use Rattle.propagate.specs.Sinking.{Room}
 use Rattle.turning.specs.Turns.{Rested}
 use Rattle.segments.specs.Segments.{Marked}
-use Rattle.closing.specs.Preparing.{Prepared}
+use Rattle.propagate.specs.Preparing.{Prepared}
 use Rattle.engine.specs.Room.{WordRoom}
 
 pub formed-most : {cs : List (List ℕ)} {n : ℕ} → Formed cs n → n ≤ 780 → Formed cs 780

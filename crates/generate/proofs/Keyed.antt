@@ -19,9 +19,9 @@ use Rattle.writing.specs.Keys.{keysOf, recordOf, Holds}
 use Rattle.writing.specs.Tables.{keyedTable, writtenFor}
 use Rattle.writing.proofs.Keys.{Same, keys-back}
 use Rattle.loads.specs.Loads.{Load, symbolBytes, stateBytes, possible, present, possibleInternals, possibleCalls, possibleReturns, seedCalls, seedReturns, described, describedBytes, recordsFew}
-use Rattle.draws.specs.Draws.{Draws}
-use Rattle.draws.proofs.Drawing.{held-few, held-all, last-drawn}
-use Rattle.draws.specs.declared.Drawn.{Drawn}
+use Rattle.generate.specs.Draws.{Draws}
+use Rattle.generate.proofs.Drawing.{held-few, held-all, last-drawn}
+use Rattle.generate.specs.declared.draws.Drawn.{Drawn}
 use Rattle.generate.specs.Counts.{Counts, FewKeys, drawnFor}
 use Rattle.loads.proofs.Tuples.{Possible, possible-of}
 use Rattle.loads.proofs.Present.{present-mem}

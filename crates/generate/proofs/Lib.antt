@@ -1,2 +1,5 @@
+pub mod Places
+pub mod Drawing
+pub mod Steps
 pub mod Keyed
 pub mod Writing

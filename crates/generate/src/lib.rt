@@ -9,6 +9,7 @@ use draws::collect;
 use limits::Limits;
 use quotients::Written;
 
+mod draws;
 mod write;
 
 use write::write_keys;

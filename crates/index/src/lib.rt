@@ -7,7 +7,7 @@ ghost use Rattle.lists.specs.Lists.{keep};
 ghost use Rattle.format.specs.File.{records};
 ghost use Rattle.keyed.specs.Spans.{startsWith};
 ghost use Rattle.index.specs.Index.{Lent, Indexed, Placed, Filled};
-use casts::wide;
+use words::wide;
 
 // An entry of an index as a number of the machine.
 pub fn place(x: u16) -> usize

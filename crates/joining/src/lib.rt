@@ -4,7 +4,7 @@ ghost use Prim.Native.Nat.{_≤_};
 ghost use lib.ListN.{length};
 ghost use Rattle.pairs.specs.Pairs.{pairs};
 ghost use Rattle.joining.specs.Lowest.{LowestJoined, MapOf};
-use casts::wide;
+use words::wide;
 
 // A class for each of the first states, and how many classes there are.
 pub struct Classes {

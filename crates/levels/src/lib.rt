@@ -10,8 +10,8 @@ ghost use Rattle.view.specs.Sections.{sectioned};
 ghost use Rattle.scripts.specs.Script.{gain, moved, returned, ended};
 ghost use Rattle.index.specs.Index.{Lent, Indexed};
 ghost use Rattle.levels.specs.Levels.{allGain, popped};
-use casts::wide;
 use index::place;
+use words::wide;
 
 // Bit x of a word is 1.
 fn has_bit(word: u64, x: usize) -> bool

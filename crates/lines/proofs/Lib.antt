@@ -1,1 +1,4 @@
+pub mod Decimals
+pub mod Putting
+pub mod Text
 pub mod Mapping

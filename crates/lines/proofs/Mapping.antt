@@ -7,7 +7,7 @@ use native.Mathlib.Omega.{arith}
 use lib.ListN.{length, getD, take}
 use lib.Seq.{take-suc, take-all}
 use Rattle.printed.specs.Lines.{Put, decimalText, numbersText, mapName, mapText}
-use Rattle.digits.proofs.Putting.{put-none, put-on, put-same}
+use Rattle.lines.proofs.Putting.{put-none, put-on, put-same}
 
 numbers-snoc : (xs : List ℕ) (x : ℕ) → numbersText (xs ++ (x ∷ [])) ≡ numbersText xs ++ ((32 ∷ []) ++ decimalText x)
 unfolding numbersText

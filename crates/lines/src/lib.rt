@@ -2,9 +2,14 @@
 ghost use Prim.Native.Nat.{_+_, _*_, _≤_};
 ghost use lib.ListN.{length};
 ghost use Rattle.printed.specs.Lines.{Put, spentText, countsText, mapText, tableText};
-use digits::put;
+
+mod digits;
+mod records;
+
+pub use digits::put;
 use digits::put_hex;
-use digits::put_number;
+pub use digits::put_number;
+pub use records::put_records;
 
 // Whether the budget was spent.
 fn put_spent(spent: bool, text: &mut [u8], at: usize) -> usize
@@ -52,7 +57,7 @@ pub fn put_map(map: &[u8], text: &mut [u8], at: usize) -> usize
     let mut to = put(b"map", text, at);
     let mut q: usize = 0;
     'states: while q < map.len() {
-        to = put_number(b" ", casts::long(map[q]), text, to);
+        to = put_number(b" ", words::long(map[q]), text, to);
         q += 1;
     }
     put(b"\n", text, to)

@@ -4,10 +4,10 @@ ghost use Prim.Native.Nat.{_+_, _*_, _<_, _≤_};
 ghost use lib.ListN.{getD};
 ghost use Rattle.rounds.specs.Rows.{Nexts};
 ghost use Rattle.linking.specs.Quick.{coveredIn, FlowOn, GainOn, LinkOn};
-use casts::wide;
 use rounds::held;
 use rounds::join;
 use rounds::put;
+use words::wide;
 
 // Row v has every bit of row u.
 fn covers(rows: &[u64; 6000], u: usize, v: usize) -> bool

@@ -11,10 +11,10 @@ ghost use Rattle.format.specs.Maps.{classOf};
 ghost use Rattle.matching.specs.Matching.{kept};
 ghost use Rattle.fates.specs.Fates.{sectionFates, having};
 ghost use Rattle.marks.specs.Marks.{placeOf, Placed, Stamped, UpTo, recordsIn, Fitting, Ends, ClassMarked};
-use casts::wide;
 use matching::keeps;
 use numbering::class_count;
 use numbering::class_of;
+use words::wide;
 
 // The class of a state that a record names.
 fn class_at(map: &[u8], state: u8) -> usize

@@ -13,8 +13,8 @@ ghost use Rattle.format.specs.Maps.{classOf, joins};
 ghost use Rattle.keyed.specs.Keys.{ByKey};
 ghost use Rattle.relations.specs.Check.{looksAgree, returnMatched};
 ghost use Rattle.matching.specs.Matching.{kept, returnMet, recordMatched, recordMet, recordsMatched, Lent};
-use casts::wide;
 use numbering::class_of;
+use words::wide;
 
 // Top x is in word q.
 fn has_top(words: &[u64], q: usize, x: usize) -> bool

@@ -1,7 +1,7 @@
 // A map's classes: a state's class, their numbering, their count.
 ghost use mathlib.Core.Path.{_≡_};
 ghost use Rattle.format.specs.Maps.{classOf, classes, numbered};
-use casts::wide;
+use words::wide;
 
 // A state's class, 0 past the map's end.
 pub fn class_of(map: &[u8], q: usize) -> u8

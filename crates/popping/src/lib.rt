@@ -4,9 +4,9 @@ ghost use Prim.Native.Nat.{_+_, _*_, _<_, _≤_};
 ghost use lib.ListN.{getD};
 ghost use Rattle.rounds.specs.Rows.{Named, Nexts};
 ghost use Rattle.linking.specs.Quick.{Place, PopsOver};
-use casts::wide;
 use linking::link;
 use linking::pair;
+use words::wide;
 
 // Where it goes from b by a return over c.
 fn after_return(next: &[u8; 20000], b: usize, a: usize, c: usize, n: usize) -> usize

@@ -16,6 +16,10 @@ use spreading::Reached;
 use tallies::fall;
 use tallies::false_literal;
 
+mod closure;
+
+pub use closure::close;
+
 // Sees to the variables of the trail from `from` on, and to those that it sets itself: first what the pair says, then the clauses of the list.
 pub fn settle_indexed(
     list: &[u16],

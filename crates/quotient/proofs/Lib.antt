@@ -1,1 +1,2 @@
+pub mod ClassBytes
 pub mod Quotienting

@@ -41,8 +41,8 @@ use Rattle.writing.proofs.Keys.{Same, keys-back}
 use Rattle.writing.proofs.Whole.{bytes-long}
 use Rattle.images.proofs.Collecting.{image-bytes}
 use Rattle.quotient.specs.Parts.{Sized, imageKeys, partedQuotient}
-use Rattle.members.specs.Classes.{classBytes}
-use Rattle.members.proofs.ClassBytes.{length-bytes}
+use Rattle.quotient.specs.Classes.{classBytes}
+use Rattle.quotient.proofs.ClassBytes.{length-bytes}
 
 -- ---- counts
 

@@ -8,7 +8,7 @@ use Rattle.format.specs.File.{Table, records, ofStates}
 use Rattle.format.specs.Maps.{classes}
 use Rattle.matching.specs.Matching.{kept}
 use Rattle.quotients.specs.Quotient.{images}
-use Rattle.members.specs.Classes.{classBytes}
+use Rattle.quotient.specs.Classes.{classBytes}
 use Rattle.writing.specs.Keys.{keysOf}
 use Rattle.writing.specs.Tables.{keyedTable}
 

@@ -10,11 +10,14 @@ ghost use Rattle.quotient.specs.Parts.{Sized, partedQuotient};
 use format::Starts;
 use images::collect;
 use limits::Limits;
-use members::put_states;
 use numbering::class_count;
 use quotients::Written;
 use view::Section;
 use writing::put_table;
+
+mod states;
+
+use states::put_states;
 
 // The quotient over the version and the parts of a table: its length is known before anything is written.
 fn write_parts(

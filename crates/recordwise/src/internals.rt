@@ -6,13 +6,13 @@ ghost use Rattle.format.specs.File.{records};
 ghost use Rattle.encoding.specs.Clauses.{moveClause, moveClauses};
 ghost use Rattle.emit.specs.Emit.{state, Ordered, emit};
 ghost use Rattle.index.specs.Index.{Lent, Indexed, Placed};
-use casts::wide;
 use emit::Tally;
 use emit::no_literals;
 use index::block;
 use index::starts_of;
 use targets::matched;
 use targets::with_premise;
+use words::wide;
 
 // The clause of a record (p, a, p') and a state q.
 fn move_clause(

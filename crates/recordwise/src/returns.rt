@@ -12,7 +12,6 @@ ghost use Rattle.encoding.specs.Clauses.{topStates};
 ghost use Rattle.emit.specs.Emit.{state, Ordered, emit};
 ghost use Rattle.index.specs.Index.{Lent, Indexed};
 ghost use Rattle.recordwise.specs.Returns.{Starting, Reached, returnOf, liveRecord, returnClausesBy};
-use casts::wide;
 use emit::Tally;
 use emit::no_literals;
 use index::block;
@@ -21,6 +20,7 @@ use targets::matched;
 use targets::with_premise;
 use words::later_states;
 use words::next_state;
+use words::wide;
 
 // A record (p, r, s, p').
 pub struct Return {

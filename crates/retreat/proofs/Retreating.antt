@@ -8,7 +8,7 @@ use lib.ListN.{length, getD, set, length-set}
 use lib.Seq.{slice, slice-cons, set-set}
 use Rattle.rows.specs.Trail.{unsetting}
 use Rattle.rows.proofs.Trails.{length-unsetting}
-use Rattle.retract.specs.Undo.{Undone}
+use Rattle.rows.specs.Undo.{Undone}
 use Rattle.tallies.specs.Tallies.{Tallied}
 use Rattle.tallies.specs.Behind.{earlier, Behind}
 use Rattle.tallies.proofs.Lagging.{one-there}

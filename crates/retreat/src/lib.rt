@@ -4,11 +4,11 @@ ghost use Prim.Native.Nat.{_+_};
 ghost use lib.ListN.{length};
 ghost use Rattle.pairs.specs.Entries.{PairTable};
 ghost use Rattle.rows.specs.Rows.{Rows};
-ghost use Rattle.retract.specs.Undo.{Undoable, Undone};
+ghost use Rattle.rows.specs.Undo.{Undoable, Undone};
 ghost use Rattle.restore.specs.Restoring.{IndexedIf, Passed, Sized, Lags};
 ghost use Rattle.retreat.specs.Back.{Back};
 use restore::restore;
-use retract::undo;
+use rows::undo;
 
 // The variable of a guess that is undone, now false and forced, and how many variables are set with it.
 pub struct Flipped {

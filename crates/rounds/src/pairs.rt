@@ -9,7 +9,7 @@ use super::rows::any;
 use super::rows::held;
 use super::rows::join;
 use super::rows::put;
-use casts::wide;
+use words::wide;
 
 // The moves that push nothing, or one state.
 pub enum Kind {

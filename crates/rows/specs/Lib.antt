@@ -1,3 +1,4 @@
+pub mod Undo
 pub mod Trail
 pub mod Rows
 pub mod Conclusions

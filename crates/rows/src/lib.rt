@@ -2,8 +2,11 @@
 ghost use mathlib.Core.Path.{_≡_};
 ghost use Prim.Native.Nat.{_-_, _%_};
 
+mod retract;
 mod rows;
 
+pub use retract::undo;
+pub use retract::unwind;
 pub use rows::assign;
 pub use rows::force;
 pub use rows::lacking;

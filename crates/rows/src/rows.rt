@@ -29,7 +29,7 @@ pub fn lacking(a: &[u64; 40], p: u8, b: &[u64; 40], q: u8) -> u64
     requires { ⌜ (p < 40) × (q < 40) ⌝ }
     ensures { λ r. ⌜ r ≡ without (getD (now (a .entry)) p 0) (getD (now (b .entry)) q 0) ⌝ }
 {
-    without(a[casts::wide(p)], b[casts::wide(q)])
+    without(a[words::wide(p)], b[words::wide(q)])
 }
 
 // Each state's word has that state alone: nothing is joined yet.
@@ -39,7 +39,7 @@ pub fn own_rows() -> [u64; 40]
     let mut words = [0u64; 40];
     let mut p: u8 = 0;
     'states: while p < 40 {
-        words[casts::wide(p)] = bit(p);
+        words[words::wide(p)] = bit(p);
         p += 1;
     }
     words
@@ -50,7 +50,7 @@ fn gain(words: &mut [u64; 40], p: u8, q: u8)
     requires { ⌜ (p < 40) × (q < 40) ⌝ }
     ensures { λ _. ⌜ now (words .exit) ≡ gain (now (words .entry)) p q ⌝ }
 {
-    let i = casts::wide(p);
+    let i = words::wide(p);
     words[i] = words[i] | bit(q);
 }
 
@@ -68,7 +68,7 @@ fn lose(words: &mut [u64; 40], p: u8, q: u8)
     requires { ⌜ (p < 40) × (q < 40) ⌝ }
     ensures { λ _. ⌜ now (words .exit) ≡ lose (now (words .entry)) p q ⌝ }
 {
-    let i = casts::wide(p);
+    let i = words::wide(p);
     words[i] = without(words[i], bit(q));
 }
 

@@ -13,7 +13,7 @@ use Rattle.lists.proofs.Members.{one-on}
 use Rattle.format.specs.File.{Table}
 use Rattle.format.specs.Language.{kindOf}
 use Rattle.scripts.specs.Script.{Level, Levels, moved, returned, behind, ended, reads, started, openMost, tooDeep}
-use Rattle.depths.proofs.Depths.{deep-internal, deep-call, deep-last, deep-return}
+use Rattle.script.proofs.Depths.{deep-internal, deep-call, deep-last, deep-return}
 
 -- the first n levels that are kept, the latest first
 unfoldable pub stackOf : List Level → ℕ → List Level

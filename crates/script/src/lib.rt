@@ -10,8 +10,6 @@ ghost use Rattle.scripts.specs.Script.{scriptTests, answerBy, scriptOf, ScriptS
 ghost use Rattle.index.specs.Index.{LentParts};
 ghost use Rattle.script.specs.Parts.{Fits, sectionsRead};
 ghost use Rattle.scripts.specs.Demands.{ScriptExact};
-use casts::wide;
-use depths::script_number;
 use format::Reading;
 use format::Starts;
 use index::starts_of;
@@ -21,6 +19,11 @@ use levels::returned;
 use limits::Limits;
 use scripts::Read;
 use view::Section;
+use words::wide;
+
+mod depth;
+
+use depth::script_number;
 
 // Yes or no, of a script that is not refused.
 fn reads(
@@ -39,7 +42,7 @@ fn reads(
     let opens = starts_of(calls, 3, n);
     let closes = starts_of(returns, 4, n);
     let mut level = [0u64; 40];
-    initials::start_words(states, &mut level);
+    tops::start_words(states, &mut level);
     let mut levels = [[0u64; 40]; 64];
     let mut depth: usize = 0;
     let mut i: usize = 0;

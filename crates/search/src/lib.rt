@@ -8,11 +8,14 @@ ghost use Rattle.solutions.specs.Answers.{Searched, searchAt, searchOf, SearchS
 ghost use Rattle.solutions.specs.Demands.{SearchSound};
 use engine::none_set;
 use engine::solve;
-use fits::list_fits;
 use limits::Limits;
 use limits::limits_fit;
 use solutions::Solution;
 use turning::Ending;
+
+mod fits;
+
+use fits::list_fits;
 
 // Searches over at most so many variables.
 fn search_at(

@@ -17,7 +17,7 @@ use Rattle.seasons.specs.Seasons.{row, guessesIn, mapTaken, outTaken, Reduction
 use Rattle.seasons.proofs.Lone.{leaves}
 use Rattle.season.specs.declared.Turn.{Turn}
 use Rattle.season.specs.Turns.{Turned, Ran}
-use Rattle.lengths.proofs.Lengths.{fitting, sum-next}
+use Rattle.season.proofs.Lengths.{fitting, sum-next}
 
 -- ---- a row among the values
 

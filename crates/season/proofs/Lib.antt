@@ -1,3 +1,4 @@
+pub mod Lengths
 pub mod Turning
 pub mod Going
 pub mod Seasons

@@ -8,12 +8,15 @@ ghost use Rattle.limits.specs.Limits.{standard};
 ghost use Rattle.seasons.specs.Seasons.{lengthsFit, SeasonDone, refusedBy, seasonOf};
 ghost use Rattle.seasons.specs.Demands.{SeasonPromises};
 ghost use Rattle.season.specs.Turns.{Turned, Ran};
-use lengths::lengths_fit;
 use limits::Limits;
 use reduce::state_count;
 use reductions::Reduction;
 use seasons::Season;
 use stored::yes_value;
+
+mod lengths;
+
+use lengths::lengths_fit;
 
 // One table's turn: its row of numbers, how many bytes of the maps and of the reduced tables it took, and its guesses.
 struct Turn {

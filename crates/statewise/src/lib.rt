@@ -12,7 +12,6 @@ ghost use Rattle.pairs.specs.Triangles.{triangle, past};
 ghost use Rattle.encoding.specs.Clauses.{lookClauses, transitivity};
 ghost use Rattle.emit.specs.Emit.{Holds, state, Ordered, emit};
 ghost use Rattle.statewise.specs.Alone.{lookClause};
-use casts::wide;
 use emit::Literals;
 use emit::Tally;
 use emit::joined;
@@ -23,6 +22,7 @@ use emit::with_literal;
 use pairs::pair_of;
 use pairs::pair_table;
 use pairs::pairs_of;
+use words::wide;
 
 // The clause of a variable: "false" where exactly one of its states is accepting, or their marks differ.
 fn look_apart(states: &[u8], table: &[u16], v: u16, tally: Tally, list: &mut [u16]) -> Tally

@@ -8,12 +8,12 @@ ghost use Rattle.limits.specs.Limits.{standard, limitsFit};
 ghost use Rattle.format.specs.Limits.{longest};
 ghost use Rattle.format.specs.File.{word16, version, tableOf};
 ghost use Rattle.format.specs.Reading.{versionFits, distancesFit, tableTests, startsOf, readOf, ReadSays};
-use casts::wide;
 use contents::table_number;
 use format::Reading;
 use format::Starts;
 use limits::Limits;
 use limits::limits_fit;
+use words::wide;
 
 // The longest file's bytes but for its symbols and states: every record section full, and the trailer.
 const RECORDS_AND_TRAILER: usize = 22540;

@@ -1,3 +1,4 @@
+pub mod Starts
 pub mod Padded
 pub mod Loops
 pub mod Sums

@@ -11,13 +11,16 @@ ghost use Rattle.view.specs.Sections.{sectioned, HasRead};
 ghost use Rattle.reach.specs.Tops.{add, rounds, topWords, topsOf};
 ghost use Rattle.reach.specs.Demands.{TopsExact};
 ghost use Rattle.tops.specs.Steps.{StateRecords, StateParts, Small, sumOf, widthOf, stepBy, byRecords, topsFound, examinedOf};
-use casts::wide;
 use format::Reading;
 use format::Starts;
-use initials::bit;
-use initials::start_words;
 use limits::Limits;
 use reach::TopWords;
+use words::wide;
+
+mod initial;
+
+pub use initial::bit;
+pub use initial::start_words;
 
 // A table that was read, with its tops: what the other operations on a table go on with.
 pub struct Examined {

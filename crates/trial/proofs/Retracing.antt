@@ -9,7 +9,7 @@ use lib.Seq.{slice, take-take}
 use Rattle.cnf.specs.Trials.{onlyTrue, satisfied}
 use Rattle.rows.specs.Trail.{unsetting}
 use Rattle.rows.proofs.Trails.{length-unsetting}
-use Rattle.retract.specs.Undo.{Undoable}
+use Rattle.rows.specs.Undo.{Undoable}
 use Rattle.trial.specs.Trial.{heldIf, backAlong, Retraceable}
 
 -- the walk came from the values v₀, with d₀ guesses and count₀ variables on the trail t, to v, with d and count

@@ -12,7 +12,7 @@ ghost use Rattle.pairs.specs.Entries.{PairTable};
 ghost use Rattle.rows.specs.Rows.{Rows};
 ghost use Rattle.asking.specs.Asked.{Over};
 ghost use Rattle.trial.specs.Trial.{heldValue, heldIf, backAlong, Retraceable};
-use retract::unwind;
+use rows::unwind;
 use rows::wide;
 
 // How many variables are not false.

@@ -35,7 +35,7 @@ use Rattle.rows.specs.Rows.{Rows, Own, Settable, Forced}
 use Rattle.rows.specs.Conclusions.{withTriangles}
 use Rattle.trial.specs.Trial.{heldIf, backAlong, Retraceable}
 use Rattle.turning.specs.Turns.{NextUnset, LowestUnset, Fresh, Begun, Rested, EndsWith, outcomeOf}
-use Rattle.retract.specs.Undo.{Undoable, Undone}
+use Rattle.rows.specs.Undo.{Undoable, Undone}
 use Rattle.turning.specs.declared.Ending.{Ending}
 use Rattle.turning.specs.declared.Ending.the-variants.{Found, Absent, Spent}
 use Rattle.rows.proofs.Trails.{unsetting-append, length-unsetting, unsetting-store, grown-length, grown-store}

@@ -16,7 +16,7 @@ use Rattle.tallies.proofs.Lagging.{behind-guess, behind-grown, behind-rested}
 use Rattle.restore.specs.Restoring.{Lags, Passed, Sized}
 use Rattle.turning.specs.Turns.{LowestUnset}
 use Rattle.turning.proofs.Ends.{Turning, after-size, after-count, after-places, counted-before, room-left, list-formed}
-use Rattle.closing.specs.Preparing.{Prepared, TalliedIf, CaughtIf}
+use Rattle.propagate.specs.Preparing.{Prepared, TalliedIf, CaughtIf}
 
 -- the latest guess is at the place where the values were last closed, or before it
 pub record Marked (ms : List ℕ) (depth at : ℕ) : Type 0 where

@@ -10,9 +10,12 @@ ghost use Rattle.uses.specs.Classes.{FewClasses};
 use limits::Limits;
 use relations::Checked;
 use usage::Counted;
-use used::lines_number;
-use used::state_in;
-use used::uses_in;
+
+mod lines;
+
+use lines::lines_number;
+use lines::state_in;
+use lines::uses_in;
 
 // The bytes of a line.
 const LINE: usize = 5;
@@ -29,7 +32,7 @@ fn add_lines(lines: &[u8], map: &[u8]) -> Counted
     'lines: while LINE <= lines.len() - at {
         let next = at + LINE;
         let uses = uses_in(&lines[at..next]);
-        let class = casts::wide(numbering::class_of(map, state_in(&lines[at..next])));
+        let class = words::wide(numbering::class_of(map, state_in(&lines[at..next])));
         sums[class] += uses;
         total += uses;
         at = next;

@@ -3,7 +3,6 @@
 ghost use Prim.Native.Nat.{_<_, _≤_};
 ghost use Rattle.rounds.specs.Rows.{Named, Nexts};
 ghost use Rattle.linking.specs.Quick.{AddsTops, Place, Places, Fed, PushesOn, PopsOn, SpreadOn, LooksOn, LinksOn, AllLinks, AnyMarked};
-use casts::wide;
 use linking::after_move;
 use linking::flow;
 use linking::gain;
@@ -12,6 +11,7 @@ use popping::pop_over;
 use rounds::any;
 use rounds::held;
 use rounds::put;
+use words::wide;
 
 // The place of the first record of each state, or some other place where a state has none.
 pub fn firsts(section: &[u8], width: usize) -> [usize; 24]

@@ -3,6 +3,11 @@ ghost use mathlib.Core.Path.{_≡_};
 ghost use Prim.Native.Nat.{_-_, _^_};
 ghost use lib.Count.{trailingZeros};
 
+mod casts;
+
+pub use casts::long;
+pub use casts::wide;
+
 // The lowest state of a word, 64 where it has none: its trailing zeros.
 pub fn next_state(word: u64) -> u32
     ensures { λ r. ⌜ r ≡ trailingZeros 64 word ⌝ }

@@ -3,7 +3,7 @@ use native.Mathlib.Omega.{arith}
 use mathlib.Core.Path.{sym, ap, _∙_}
 use Rattle.printed.specs.Program.{widest}
 use Rattle.printed.specs.Text.{recordedText}
-use Rattle.digits.proofs.Putting.{put-none, put-same}
+use Rattle.lines.proofs.Putting.{put-none, put-same}
 use Rattle.printed.proofs.Going.{going-told}
 use borrow.Author.Needs.{needs}
 use Rattle.basilvault.proofs.put_going.Statement.{statement}

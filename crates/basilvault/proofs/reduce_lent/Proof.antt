@@ -12,7 +12,7 @@ use Rattle.reduce.specs.States.{statesOf}
 use Rattle.reduce.proofs.States.{readable-states}
 use Rattle.printed.specs.Program.{widest}
 use Rattle.printed.specs.Lines.{refusedText}
-use Rattle.digits.proofs.Putting.{put-on, put-whole}
+use Rattle.lines.proofs.Putting.{put-on, put-whole}
 use Rattle.printed.proofs.Going.{delivered-checked, map-checked, delivered-text, refused-text}
 use borrow.Author.Needs.{needs}
 use Rattle.basilvault.proofs.reduce_lent.Statement.{statement}

@@ -4,7 +4,7 @@ use mathlib.Core.Path.{refl}
 use mathlib.Core.Logic.{inl, inr}
 use native.Mathlib.Omega.{arith}
 use Rattle.writing.proofs.Keys.{holds-long}
-use Rattle.draws.proofs.Drawing.{held-all}
+use Rattle.generate.proofs.Drawing.{held-all}
 use Rattle.loads.specs.Loads.{Load, loadOf}
 use Rattle.generate.proofs.Keyed.{held, internals-many, calls-many, returns-many, few-keys, few-drawn}
 use borrow.Author.Needs.{needs}

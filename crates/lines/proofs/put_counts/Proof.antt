@@ -1,7 +1,7 @@
 -- `lines::put_counts` meets its contract: one piece behind the other. Assumes nothing.
 use native.Mathlib.Omega.{arith}
 use Rattle.printed.specs.Lines.{countsText}
-use Rattle.digits.proofs.Putting.{put-on}
+use Rattle.lines.proofs.Putting.{put-on}
 use borrow.Author.Needs.{needs}
 use Rattle.lines.proofs.put_counts.Statement.{statement}
 use Rattle.lines.proofs.put_counts.Tie as tie

@@ -2,7 +2,7 @@
 use mathlib.Core.Path.{sym, ap}
 use native.Mathlib.Omega.{arith}
 use Rattle.printed.specs.Lines.{spentText}
-use Rattle.digits.proofs.Putting.{put-none, put-same}
+use Rattle.lines.proofs.Putting.{put-none, put-same}
 use borrow.Author.Needs.{needs}
 use Rattle.lines.proofs.put_spent.Statement.{statement}
 use Rattle.lines.proofs.put_spent.Tie as tie

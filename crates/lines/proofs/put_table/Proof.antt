@@ -1,7 +1,7 @@
 -- `lines::put_table` meets its contract. Assumes nothing.
 use native.Mathlib.Omega.{arith}
 use Rattle.printed.specs.Lines.{tableText}
-use Rattle.digits.proofs.Putting.{put-hexed, put-on}
+use Rattle.lines.proofs.Putting.{put-hexed, put-on}
 use borrow.Author.Needs.{needs}
 use Rattle.lines.proofs.put_table.Statement.{statement}
 use Rattle.lines.proofs.put_table.Tie as tie

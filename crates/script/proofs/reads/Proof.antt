@@ -7,7 +7,7 @@ use mathlib.Core.List.{[]}
 use Rattle.format.specs.File.{records}
 use Rattle.scripts.specs.Script.{moved, returned, started, ended}
 use Rattle.script.proofs.Walking.{Walking, walking, walked, walked-open, room, walk-internal, walk-call, walk-none, walk-return}
-use Rattle.depths.proofs.Depths.{symbol-inside}
+use Rattle.script.proofs.Depths.{symbol-inside}
 use Rattle.script.specs.Parts.{sectionsRead}
 use Rattle.view.specs.Sections.{sectioned}
 use lib.ListN.{length, getD}

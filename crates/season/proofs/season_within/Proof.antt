@@ -6,7 +6,7 @@ use lib.ListN.{length}
 use borrow.Author.Tests.{not-true, not-false}
 use Rattle.seasons.specs.Seasons.{lengthsFit}
 use Rattle.seasons.proofs.Theorems.{promised}
-use Rattle.lengths.proofs.Lengths.{fitting}
+use Rattle.season.proofs.Lengths.{fitting}
 use Rattle.season.proofs.Seasons.{shares-within, refused-limits, refused-lengths, reduced}
 use borrow.Author.Needs.{needs}
 use Rattle.season.proofs.season_within.Statement.{statement}

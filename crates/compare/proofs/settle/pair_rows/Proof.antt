@@ -3,7 +3,7 @@ use native.Mathlib.Omega.{arith}
 use borrow.Author.Needs.{needs}
 use Rattle.rounds.proofs.Passing.{few-pairs}
 use Rattle.linking.proofs.Quickly.{bare-rows}
-use Rattle.choice.proofs.Reading.{internals-ascend, calls-ascend, returns-ascend}
+use Rattle.compare.proofs.Reading.{internals-ascend, calls-ascend, returns-ascend}
 use Rattle.compare.proofs.Handing.{both-few, sink-count, three-named, given, inner-of, pushing-of, popping-of, rows-tops}
 use Rattle.compare.proofs.settle.pair_rows.Statement.{statement}
 use Rattle.compare.proofs.settle.pair_rows.Tie as tie
