@@ -4,22 +4,22 @@ ghost use mathlib.Core.Path.{_≡_};
 ghost use Prim.Native.Nat.{_+_, _≤_};
 ghost use lib.ListN.{length, take};
 ghost use Rattle.io.specs.Counts.{Counts};
-ghost use Rattle.printed.specs.Program.{widest};
-ghost use Rattle.relations.specs.Check.{checkNumber};
-ghost use Rattle.printed.specs.Text.{goingText, printed};
-ghost use Rattle.printed.specs.Lines.{Put};
-use fates::Recorded;
+ghost use Rattle.print_spec.specs.Program.{widest};
+ghost use Rattle.check_spec.specs.Check.{checkNumber};
+ghost use Rattle.print_spec.specs.Text.{goingText, printed};
+ghost use Rattle.print_spec.specs.Lines.{Put};
 use libc::STDERR_FILENO;
 use libc::STDIN_FILENO;
 use libc::STDOUT_FILENO;
 use limits::Limits;
-use lines::put;
-use lines::put_counts;
-use lines::put_map;
-use lines::put_number;
-use lines::put_records;
-use lines::put_table;
-use reductions::Reduction;
+use print_lines::put;
+use print_lines::put_counts;
+use print_lines::put_map;
+use print_lines::put_number;
+use print_lines::put_records;
+use print_lines::put_table;
+use records_spec::Recorded;
+use reduce_spec::Reduction;
 
 // "The program uses 40 and 64."
 fn widest() -> Limits

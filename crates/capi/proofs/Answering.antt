@@ -8,26 +8,26 @@ use lib.ListN.{length, set, drop, replicate}
 use borrow.Author.Tests.{ne-eqb}
 use Rattle.lists.specs.Lists.{over}
 use Rattle.limits.specs.declared.Limits.{Limits}
-use Rattle.format.specs.File.{tableOf}
-use Rattle.format.specs.Reading.{readOf}
-use Rattle.format.specs.declared.Starts.{Starts}
-use Rattle.format.specs.declared.Reading.the-variants.{Sections as SectionsAt, Refused as RefusedBy}
-use Rattle.format.proofs.Bytes.{read-well-formed}
-use Rattle.reach.specs.declared.TopWords.{TopWords}
-use Rattle.reach.specs.Tops.{topWords, topsOf, topsValues}
-use Rattle.reach.proofs.Exact.{length-words}
-use Rattle.reach.proofs.Formed.{bounded}
+use Rattle.table_spec.specs.File.{tableOf}
+use Rattle.table_spec.specs.Reading.{readOf}
+use Rattle.table_spec.specs.declared.Starts.{Starts}
+use Rattle.table_spec.specs.declared.Reading.the-variants.{Sections as SectionsAt, Refused as RefusedBy}
+use Rattle.table_spec.proofs.Bytes.{read-well-formed}
+use Rattle.tops_spec.specs.declared.TopWords.{TopWords}
+use Rattle.tops_spec.specs.Tops.{topWords, topsOf, topsValues}
+use Rattle.tops_spec.proofs.Exact.{length-words}
+use Rattle.tops_spec.proofs.Formed.{bounded}
 use Rattle.tops.specs.Steps.{topsFound}
-use Rattle.view.proofs.Handed.{read-as, read-refused}
+use Rattle.table_view.proofs.Handed.{read-as, read-refused}
 use Rattle.tops.proofs.Read.{tops-answer, tops-refused as unread}
-use Rattle.usage.specs.declared.Counted.{Counted}
-use Rattle.usage.specs.Uses.{countedValues}
-use Rattle.choices.specs.declared.Which.the-variants.{Neither, First, Second}
-use Rattle.choices.specs.declared.Choice.{Choice}
-use Rattle.choices.specs.Choose.{choiceValues}
-use Rattle.choices.specs.Demands.{NumberTells}
-use Rattle.stored.specs.Storing.{stored}
-use Rattle.stored.proofs.Storing.{stored-all, stored-none, last-short, last-stored}
+use Rattle.uses_spec.specs.declared.Counted.{Counted}
+use Rattle.uses_spec.specs.Uses.{countedValues}
+use Rattle.choose_spec.specs.declared.Which.the-variants.{Neither, First, Second}
+use Rattle.choose_spec.specs.declared.Choice.{Choice}
+use Rattle.choose_spec.specs.Choose.{choiceValues}
+use Rattle.choose_spec.specs.Demands.{NumberTells}
+use Rattle.capi_values.specs.Storing.{stored}
+use Rattle.capi_values.proofs.Storing.{stored-all, stored-none, last-short, last-stored}
 use Rattle.capi.specs.Answers.{out, topsOut}
 
 -- an answer whose number is m and whose values are vs, as the code found them

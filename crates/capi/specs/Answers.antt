@@ -1,27 +1,27 @@
 -- What the C interface returns and writes, from the operations' answers. Assumes nothing.
 use mathlib.Core.List.{List, [], _∷_}
 use Prim.Native.Nat.{ℕ}
-use Rattle.stored.specs.Storing.{stored}
-use Rattle.format.specs.declared.Reading.{Reading}
-use Rattle.format.specs.Reading.{readingNumber, readingValues}
-use Rattle.reach.specs.declared.TopWords.{TopWords}
-use Rattle.reach.specs.Tops.{topsValues}
-use Rattle.encoding.specs.Clauses.{ClausesDone, listedNumber, listedValues}
-use Rattle.solutions.specs.Answers.{Searched, solutionNumber, solutionValues}
-use Rattle.relations.specs.declared.Checked.{Checked}
-use Rattle.relations.specs.Check.{checkedNumber, checkedValues}
-use Rattle.quotients.specs.Quotient.{QuotientDone, writtenNumber, writtenValues}
-use Rattle.reductions.specs.Reduce.{Reduced, reductionNumber, reductionValues}
-use Rattle.usage.specs.declared.Counted.{Counted}
-use Rattle.usage.specs.Uses.{countedValues}
-use Rattle.choices.specs.declared.Choice.{Choice}
-use Rattle.choices.specs.Choose.{choiceValues}
-use Rattle.seasons.specs.Seasons.{SeasonDone, seasonValues}
-use Rattle.fitting.specs.declared.Fitting.{Fitting}
-use Rattle.fitting.specs.Fit.{fittingNumber, fittingValues}
-use Rattle.fates.specs.Fates.{RecordsDone, recordedNumber, recordedValues}
-use Rattle.scripts.specs.declared.Read.{Read}
-use Rattle.scripts.specs.Script.{readNumberOf, readValues}
+use Rattle.capi_values.specs.Storing.{stored}
+use Rattle.table_spec.specs.declared.Reading.{Reading}
+use Rattle.table_spec.specs.Reading.{readingNumber, readingValues}
+use Rattle.tops_spec.specs.declared.TopWords.{TopWords}
+use Rattle.tops_spec.specs.Tops.{topsValues}
+use Rattle.clauses_spec.specs.Clauses.{ClausesDone, listedNumber, listedValues}
+use Rattle.search_spec.specs.Answers.{Searched, solutionNumber, solutionValues}
+use Rattle.check_spec.specs.declared.Checked.{Checked}
+use Rattle.check_spec.specs.Check.{checkedNumber, checkedValues}
+use Rattle.quotient_spec.specs.Quotient.{QuotientDone, writtenNumber, writtenValues}
+use Rattle.reduce_spec.specs.Reduce.{Reduced, reductionNumber, reductionValues}
+use Rattle.uses_spec.specs.declared.Counted.{Counted}
+use Rattle.uses_spec.specs.Uses.{countedValues}
+use Rattle.choose_spec.specs.declared.Choice.{Choice}
+use Rattle.choose_spec.specs.Choose.{choiceValues}
+use Rattle.season_spec.specs.Seasons.{SeasonDone, seasonValues}
+use Rattle.fit_spec.specs.declared.Fitting.{Fitting}
+use Rattle.fit_spec.specs.Fit.{fittingNumber, fittingValues}
+use Rattle.records_spec.specs.Fates.{RecordsDone, recordedNumber, recordedValues}
+use Rattle.script_spec.specs.declared.Read.{Read}
+use Rattle.script_spec.specs.Script.{readNumberOf, readValues}
 
 -- what a call returns, and at its exit the operation's buffers and `values`
 pub record Out : Type 0 where

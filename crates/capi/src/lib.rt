@@ -4,24 +4,24 @@
 ghost use mathlib.Core.Path.{_≡_};
 ghost use mathlib.Core.List.{[], _∷_};
 ghost use Rattle.limits.specs.Limits.{standard};
-ghost use Rattle.format.specs.Reading.{readOf};
-ghost use Rattle.reach.specs.Tops.{topsOf};
-ghost use Rattle.encoding.specs.Clauses.{clausesOf};
-ghost use Rattle.solutions.specs.Answers.{searchOf};
-ghost use Rattle.relations.specs.Check.{checkOf};
-ghost use Rattle.quotients.specs.Quotient.{quotientOf};
-ghost use Rattle.reductions.specs.Reduce.{reduceOf};
-ghost use Rattle.usage.specs.Uses.{usesOf};
-ghost use Rattle.choices.specs.Choose.{choiceOf};
-ghost use Rattle.loads.specs.Loads.{loadOf, generateOf};
-ghost use Rattle.scripts.specs.Script.{scriptOf};
-ghost use Rattle.fates.specs.Fates.{recordsOf};
-ghost use Rattle.fitting.specs.Fit.{fitOf};
-ghost use Rattle.seasons.specs.Seasons.{seasonOf};
+ghost use Rattle.table_spec.specs.Reading.{readOf};
+ghost use Rattle.tops_spec.specs.Tops.{topsOf};
+ghost use Rattle.clauses_spec.specs.Clauses.{clausesOf};
+ghost use Rattle.search_spec.specs.Answers.{searchOf};
+ghost use Rattle.check_spec.specs.Check.{checkOf};
+ghost use Rattle.quotient_spec.specs.Quotient.{quotientOf};
+ghost use Rattle.reduce_spec.specs.Reduce.{reduceOf};
+ghost use Rattle.uses_spec.specs.Uses.{usesOf};
+ghost use Rattle.choose_spec.specs.Choose.{choiceOf};
+ghost use Rattle.generate_spec.specs.Loads.{loadOf, generateOf};
+ghost use Rattle.script_spec.specs.Script.{scriptOf};
+ghost use Rattle.records_spec.specs.Fates.{recordsOf};
+ghost use Rattle.fit_spec.specs.Fit.{fitOf};
+ghost use Rattle.season_spec.specs.Seasons.{seasonOf};
 ghost use Rattle.capi.specs.Answers.{readOut, topsOut, clausesOut, searchOut, checkOut, quotientOut, reduceOut, usesOut, chooseOut, scriptOut, recordsOut, fitOut, seasonOut};
-use choices::Which;
-use format::Reading;
+use choose_spec::Which;
 use limits::Limits;
+use table_spec::Reading;
 
 // Reads a table. Five values: the starts of symbols, states, internals, calls and returns.
 #[no_mangle]
@@ -36,8 +36,8 @@ pub extern "C" fn basilvault_read_within(
         ≡ readOut (now (values .entry)) (readOf (record { states = states; symbols = symbols }) (now (table .entry))) ⌝ }
 {
     let limits = Limits { states, symbols };
-    let reading = table::read_within(limits, table);
-    answers::say_reading(reading, values)
+    let reading = read::read_within(limits, table);
+    capi_answers::say_reading(reading, values)
 }
 
 // The same at the limits of a caller that gives none.
@@ -63,7 +63,7 @@ pub extern "C" fn basilvault_tops_within(
         ≡ topsOut (now (values .entry)) (topsOf (record { states = states; symbols = symbols }) (now (table .entry))) ⌝ }
 {
     let limits = Limits { states, symbols };
-    let reading = table::read_within(limits, table);
+    let reading = read::read_within(limits, table);
     match reading {
         Reading::Sections(starts) => {
             if values.len() < 41 {
@@ -102,7 +102,7 @@ pub extern "C" fn basilvault_clauses_within(
 {
     let limits = Limits { states, symbols };
     let listed = clauses::clauses_within(limits, table, list);
-    answers::say_listed(listed, values)
+    capi_answers::say_listed(listed, values)
 }
 
 // The same at the limits of a caller that gives none.
@@ -132,7 +132,7 @@ pub extern "C" fn basilvault_search_within(
 {
     let limits = Limits { states, symbols };
     let solution = search::search_within(limits, list, variables, budget, answer);
-    answers::say_solution(solution, values)
+    capi_answers::say_solution(solution, values)
 }
 
 // The same at the limits of a caller that gives none.
@@ -173,8 +173,8 @@ pub extern "C" fn basilvault_check_within(
         ≡ checkOut (now (values .entry)) (checkOf (record { states = states; symbols = symbols }) (now (table .entry)) (now (map .entry))) ⌝ }
 {
     let limits = Limits { states, symbols };
-    let checked = maps::check_within(limits, table, map);
-    answers::say_checked(checked, values)
+    let checked = check_map::check_within(limits, table, map);
+    capi_answers::say_checked(checked, values)
 }
 
 // The same at the limits of a caller that gives none.
@@ -203,7 +203,7 @@ pub extern "C" fn basilvault_quotient_within(
 {
     let limits = Limits { states, symbols };
     let written = quotient::quotient_within(limits, table, map, out);
-    answers::say_written(written, values)
+    capi_answers::say_written(written, values)
 }
 
 // The same at the limits of a caller that gives none.
@@ -240,7 +240,7 @@ pub extern "C" fn basilvault_reduce_within(
 {
     let limits = Limits { states, symbols };
     let reduction = reduce::reduce_within(limits, table, budget, list, map, out);
-    answers::say_reduction(reduction, values)
+    capi_answers::say_reduction(reduction, values)
 }
 
 // The same at the limits of a caller that gives none.
@@ -291,7 +291,7 @@ pub extern "C" fn basilvault_uses_within(
         return number as u32;
     }
     let sums = counted.sums;
-    stored::store_words(&sums, counted.total, values);
+    capi_values::store_words(&sums, counted.total, values);
     0
 }
 
@@ -325,11 +325,11 @@ pub extern "C" fn basilvault_choose_within(
     match which {
         Which::Neither => choice.number as u32,
         Which::First => {
-            stored::store(&[1u64], values);
+            capi_values::store(&[1u64], values);
             0
         }
         Which::Second => {
-            stored::store(&[2u64], values);
+            capi_values::store(&[2u64], values);
             0
         }
     }
@@ -389,7 +389,7 @@ pub extern "C" fn basilvault_generate_within(
         density,
         out,
     );
-    answers::say_written(written, values)
+    capi_answers::say_written(written, values)
 }
 
 // The same at the limits of a caller that gives none.
@@ -437,7 +437,7 @@ pub extern "C" fn basilvault_script_within(
 {
     let limits = Limits { states, symbols };
     let read = script::script_within(limits, table, script);
-    answers::say_read(read, values)
+    capi_answers::say_read(read, values)
 }
 
 // The same at the limits of a caller that gives none.
@@ -466,7 +466,7 @@ pub extern "C" fn basilvault_records_within(
 {
     let limits = Limits { states, symbols };
     let recorded = records::records_within(limits, table, map, out);
-    answers::say_recorded(recorded, values)
+    capi_answers::say_recorded(recorded, values)
 }
 
 // The same at the limits of a caller that gives none.
@@ -492,7 +492,7 @@ pub extern "C" fn basilvault_fit(first: &[u8], second: &[u8], values: &mut [u64]
         ≡ fitOut (now (values .entry)) (fitOf (now (first .entry)) (now (second .entry))) ⌝ }
 {
     let fitting = fit::fit(first, second);
-    answers::say_fitting(fitting, values)
+    capi_answers::say_fitting(fitting, values)
 }
 
 // Reduces up to 8 tables back to back with shared guesses. 64 values: for each of 8 tables its refusal's number or 0, classes, guesses, words,
@@ -516,7 +516,7 @@ pub extern "C" fn basilvault_season_within(
 {
     let limits = Limits { states, symbols };
     let answer = season::season_within(limits, tables, lengths, guesses, list, maps, out);
-    answers::say_season(answer, values)
+    capi_answers::say_season(answer, values)
 }
 
 // The same at the limits of a caller that gives none.

@@ -8,7 +8,7 @@ use lib.Seq.{getD-take}
 use borrow.Author.Tests.{le-leb, lt-leb}
 use Rattle.lists.specs.Lists.{upto, over}
 use Rattle.lists.proofs.Members.{getD-map, length-upto, getD-upto}
-use Rattle.format.specs.File.{word16}
+use Rattle.table_spec.specs.File.{word16}
 use Rattle.cases.specs.Numbers.{wordAt, longAt, wordsIn, longsIn}
 
 module _ (b : List ℕ) (i : ℕ) where

@@ -5,7 +5,7 @@ use Prim.Native.Nat.{ℕ, _+_, _*_, _/_}
 use lib.ListN.{length}
 use lib.Dec.{leb}
 use Rattle.lists.specs.Lists.{upto}
-use Rattle.format.specs.File.{word16}
+use Rattle.table_spec.specs.File.{word16}
 
 -- the 16-bit number at a place, 0 past the end
 unfoldable pub wordAt : List ℕ → ℕ → ℕ

@@ -26,11 +26,11 @@ ghost use Prim.Native.Nat.{_<_};
 ghost use lib.ListN.{length, take};
 ghost use Rattle.lists.specs.Lists.{over};
 ghost use Rattle.cases.specs.Numbers.{wordAt, doubleAt, longAt, wordsIn, longsIn};
-use choices::Which;
+use bits::long;
+use choose_spec::Which;
 use libc::STDIN_FILENO;
 use libc::STDOUT_FILENO;
 use limits::Limits;
-use words::long;
 
 // Writes text to standard output.
 fn say(text: &[u8]) -> bool {
@@ -141,7 +141,7 @@ fn words_of<'a>(space: &'a mut [u16], numbers: &[u8], at: usize) -> &'a mut [u16
 // The five starts.
 fn say_read(limits: Limits, table: &[u8]) {
     let mut values = [0u64; 5];
-    let refused = answers::say_reading(table::read_within(limits, table), &mut values);
+    let refused = capi_answers::say_reading(read::read_within(limits, table), &mut values);
     say_answer(refused, &values);
 }
 
@@ -159,7 +159,10 @@ fn say_clauses(limits: Limits, table: &[u8], case: &[u8]) {
     let mut space = [7u16; 4096];
     let list = words_of(&mut space, case, 6);
     let mut values = [0u64; 2];
-    let refused = answers::say_listed(clauses::clauses_within(limits, table, list), &mut values);
+    let refused = capi_answers::say_listed(
+        clauses::clauses_within(limits, table, list),
+        &mut values,
+    );
     say_answer(refused, &values);
     say_words(list);
 }
@@ -189,7 +192,7 @@ fn say_search(limits: Limits, numbers: &[u8], words: &[u8], case: &[u8]) {
     let out = bytes_of(&mut space, case, 10);
     let mut values = [0u64; 1];
     let solution = search::search_within(limits, list, variables, budget, out);
-    let refused = answers::say_solution(solution, &mut values);
+    let refused = capi_answers::say_solution(solution, &mut values);
     say_answer(refused, &values);
     say_bytes(out);
 }
@@ -197,7 +200,10 @@ fn say_search(limits: Limits, numbers: &[u8], words: &[u8], case: &[u8]) {
 // The class count.
 fn say_check(limits: Limits, map: &[u8], table: &[u8]) {
     let mut values = [0u64; 1];
-    let refused = answers::say_checked(maps::check_within(limits, table, map), &mut values);
+    let refused = capi_answers::say_checked(
+        check_map::check_within(limits, table, map),
+        &mut values,
+    );
     say_answer(refused, &values);
 }
 
@@ -207,7 +213,7 @@ fn say_quotient(limits: Limits, map: &[u8], table: &[u8], case: &[u8]) {
     let out = bytes_of(&mut space, case, 10);
     let mut values = [0u64; 1];
     let written = quotient::quotient_within(limits, table, map, out);
-    let refused = answers::say_written(written, &mut values);
+    let refused = capi_answers::say_written(written, &mut values);
     say_answer(refused, &values);
     say_bytes(out);
 }
@@ -223,7 +229,7 @@ fn say_reduce(limits: Limits, numbers: &[u8], table: &[u8], case: &[u8]) {
     let out = bytes_of(&mut space, case, 10);
     let mut values = [0u64; 7];
     let reduction = reduce::reduce_within(limits, table, budget, list, map, out);
-    let refused = answers::say_reduction(reduction, &mut values);
+    let refused = capi_answers::say_reduction(reduction, &mut values);
     say_answer(refused, &values);
     say_words(list);
     say_bytes(map);
@@ -233,7 +239,7 @@ fn say_reduce(limits: Limits, numbers: &[u8], table: &[u8], case: &[u8]) {
 // 1 yes, 0 no.
 fn say_script(limits: Limits, script: &[u8], table: &[u8]) {
     let mut values = [0u64; 1];
-    let refused = answers::say_read(script::script_within(limits, table, script), &mut values);
+    let refused = capi_answers::say_read(script::script_within(limits, table, script), &mut values);
     say_answer(refused, &values);
 }
 
@@ -243,7 +249,7 @@ fn say_records(limits: Limits, map: &[u8], table: &[u8], case: &[u8]) {
     let out = bytes_of(&mut space, case, 10);
     let mut values = [0u64; 4];
     let recorded = records::records_within(limits, table, map, out);
-    let refused = answers::say_recorded(recorded, &mut values);
+    let refused = capi_answers::say_recorded(recorded, &mut values);
     say_answer(refused, &values);
     say_bytes(out);
 }
@@ -283,7 +289,7 @@ fn say_season(limits: Limits, numbers: &[u8], sizes: &[u8], tables: &[u8], case:
     let out = bytes_of(&mut space, case, 10);
     let mut values = [0u64; 64];
     let season = season::season_within(limits, tables, &lengths[..k], guesses, list, maps, out);
-    let refused = answers::say_season(season, &mut values);
+    let refused = capi_answers::say_season(season, &mut values);
     say_answer(refused, &values);
     say_words(list);
     say_bytes(maps);
@@ -305,7 +311,7 @@ fn say_generate(limits: Limits, numbers: &[u8], case: &[u8]) {
         double_at(numbers, 12),
         out,
     );
-    let refused = answers::say_written(written, &mut values);
+    let refused = capi_answers::say_written(written, &mut values);
     say_answer(refused, &values);
     say_bytes(out);
 }
@@ -313,7 +319,7 @@ fn say_generate(limits: Limits, numbers: &[u8], case: &[u8]) {
 // 1 yes, 0 no.
 fn say_fit(first: &[u8], second: &[u8]) {
     let mut values = [0u64; 1];
-    let refused = answers::say_fitting(fit::fit(first, second), &mut values);
+    let refused = capi_answers::say_fitting(fit::fit(first, second), &mut values);
     say_answer(refused, &values);
 }
 

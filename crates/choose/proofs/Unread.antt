@@ -5,11 +5,11 @@ use Prim.Native.Nat.{ℕ}
 use Rattle.limits.specs.declared.Limits.{Limits}
 use Rattle.tops.specs.declared.Examined.{Examined}
 use Rattle.tops.specs.Steps.{examinedOf}
-use Rattle.relations.proofs.Answers.{check-refused}
-use Rattle.maps.proofs.Checking.{examined-number, unread}
-use Rattle.choices.specs.declared.Which.the-variants.{Neither}
-use Rattle.choices.specs.Choose.{chooseNumber, choiceOf}
-use Rattle.choices.proofs.Choosing.{pick-neither, unread-number}
+use Rattle.check_spec.proofs.Answers.{check-refused}
+use Rattle.check_map.proofs.Checking.{examined-number, unread}
+use Rattle.choose_spec.specs.declared.Which.the-variants.{Neither}
+use Rattle.choose_spec.specs.Choose.{chooseNumber, choiceOf}
+use Rattle.choose_spec.proofs.Choosing.{pick-neither, unread-number}
 
 module _ (L : Limits) (b m n : List ℕ) where
   pub decide-unread : {x : Examined} → x ≡ examinedOf L b → (x .number ≡ 0 → ⊥) → record { number = x .number; which = Neither } ≡ choiceOf L b m n

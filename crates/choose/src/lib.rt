@@ -1,21 +1,21 @@
 // Two maps on the desk: that one of them which the check accepts.
 ghost use mathlib.Core.Path.{_≡_};
 ghost use Rattle.limits.specs.Limits.{standard};
-ghost use Rattle.maps.specs.Known.{Known, WhereReadable};
-ghost use Rattle.choices.specs.Choose.{whichOf, chooseNumber, choiceOf, sliceOf, chooseOf};
-ghost use Rattle.choices.specs.Demands.{NumberTells, NeitherPasses, ZeroTells, HandedBack};
-use choices::Choice;
-use choices::Which;
-use format::Starts;
+ghost use Rattle.check_map.specs.Known.{Known, WhereReadable};
+ghost use Rattle.choose_spec.specs.Choose.{whichOf, chooseNumber, choiceOf, sliceOf, chooseOf};
+ghost use Rattle.choose_spec.specs.Demands.{NumberTells, NeitherPasses, ZeroTells, HandedBack};
+use choose_spec::Choice;
+use choose_spec::Which;
 use limits::Limits;
+use table_spec::Starts;
 
 // Which of two maps of a table that was read and whose tops are known, at any limits at which it is readable.
 fn which_known(table: &[u8], starts: Starts, words: &[u64], first: &[u8], second: &[u8]) -> Which
     requires { ⌜ Known (now table) starts (now words) ⌝ }
     ensures { λ r. ⌜ WhereReadable (now (table .entry)) (λ L. r ≡ whichOf L (now (table .entry)) (now (first .entry)) (now (second .entry))) ⌝ }
 {
-    let one = maps::map_number(table, starts, words, first);
-    let two = maps::map_number(table, starts, words, second);
+    let one = check_map::map_number(table, starts, words, first);
+    let two = check_map::map_number(table, starts, words, second);
     if one != 0 {
         if two != 0 {
             return Which::Neither;
@@ -25,7 +25,7 @@ fn which_known(table: &[u8], starts: Starts, words: &[u64], first: &[u8], second
     if two != 0 {
         return Which::First;
     }
-    if numbering::class_count(second) < numbering::class_count(first) {
+    if check_numbering::class_count(second) < check_numbering::class_count(first) {
         return Which::Second;
     }
     Which::First

@@ -11,23 +11,23 @@ use lib.Dec.{leb}
 use Rattle.lists.proofs.Refusals.{passes, fails, no-test, stage-passes, stage-fails, refuses, not-refused}
 use Rattle.cnf.specs.Clauses.{wordsOf}
 use Rattle.limits.specs.declared.Limits.{Limits}
-use Rattle.format.specs.File.{trailer, start, tableOf, records, ofStates}
-use Rattle.format.specs.Reading.{Readable, startsOf}
-use Rattle.format.specs.declared.Starts.{Starts}
-use Rattle.view.specs.Sections.{partOf}
-use Rattle.view.specs.declared.Section.the-variants.{States, Internals, Calls, Returns}
-use Rattle.view.proofs.Parts.{states-at, internals-at, calls-at, returns-at}
-use Rattle.reach.specs.Tops.{topWords, liveReturns}
+use Rattle.table_spec.specs.File.{trailer, start, tableOf, records, ofStates}
+use Rattle.table_spec.specs.Reading.{Readable, startsOf}
+use Rattle.table_spec.specs.declared.Starts.{Starts}
+use Rattle.table_view.specs.Sections.{partOf}
+use Rattle.table_view.specs.declared.Section.the-variants.{States, Internals, Calls, Returns}
+use Rattle.table_view.proofs.Parts.{states-at, internals-at, calls-at, returns-at}
+use Rattle.tops_spec.specs.Tops.{topWords, liveReturns}
 use Rattle.tops.specs.Steps.{examinedOf}
 use Rattle.tops.specs.declared.Examined.{Examined}
-use Rattle.maps.specs.Known.{Known}
-use Rattle.maps.proofs.Checking.{examined-number}
-use Rattle.encoding.specs.declared.Listed.the-variants.{Refused}
-use Rattle.encoding.specs.Clauses.{lookClauses, transitivity, moveClauses, returnClauses, clauseList, shortList, clauseWords, clausesNumber, ClausesDone, clausesOf}
-use Rattle.emit.specs.Emit.{State, emit}
-use Rattle.recordwise.specs.Returns.{returnClausesBy}
+use Rattle.check_map.specs.Known.{Known}
+use Rattle.check_map.proofs.Checking.{examined-number}
+use Rattle.clauses_spec.specs.declared.Listed.the-variants.{Refused}
+use Rattle.clauses_spec.specs.Clauses.{lookClauses, transitivity, moveClauses, returnClauses, clauseList, shortList, clauseWords, clausesNumber, ClausesDone, clausesOf}
+use Rattle.clauses_emit.specs.Emit.{State, emit}
+use Rattle.clauses_records.specs.Returns.{returnClausesBy}
 use Rattle.clauses.specs.Whole.{listFor, closureFor, listBy, listedBy}
-use Rattle.emit.proofs.Emitting.{emit-append}
+use Rattle.clauses_emit.proofs.Emitting.{emit-append}
 
 -- ---- group 2, where the list is to be whole
 

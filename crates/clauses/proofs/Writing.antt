@@ -12,11 +12,11 @@ use lib.Dec.{ltb}
 use borrow.Author.Tests.{lt-ltb, le-ltb, le-leb, lt-leb}
 use Rattle.lists.specs.Lists.{gather, over}
 use Rattle.cnf.specs.Clauses.{wordsOf}
-use Rattle.encoding.specs.declared.Listed.the-variants.{List as Words, Refused}
-use Rattle.emit.specs.declared.emit.Tally.{Tally}
-use Rattle.emit.specs.Emit.{State, state, Ordered, place, written, emitOne, emit}
+use Rattle.clauses_spec.specs.declared.Listed.the-variants.{List as Words, Refused}
+use Rattle.clauses_emit.specs.declared.emit.Tally.{Tally}
+use Rattle.clauses_emit.specs.Emit.{State, state, Ordered, place, written, emitOne, emit}
 use Rattle.clauses.specs.Whole.{listedBy}
-use Rattle.emit.proofs.Emitting.{emit-full, length-place, length-written}
+use Rattle.clauses_emit.proofs.Emitting.{emit-full, length-place, length-written}
 
 -- ---- the words of clauses
 

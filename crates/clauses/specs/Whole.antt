@@ -5,11 +5,11 @@ use Prim.Native.Nat.{ℕ}
 use lib.ListN.{length}
 use lib.Dec.{leb}
 use Rattle.lists.specs.Lists.{over}
-use Rattle.format.specs.File.{Table, records, ofStates}
+use Rattle.table_spec.specs.File.{Table, records, ofStates}
 use Rattle.cnf.specs.Clauses.{wordsOf}
-use Rattle.encoding.specs.declared.Listed.the-variants.{List as Words, Refused}
-use Rattle.recordwise.specs.Returns.{returnClausesBy}
-use Rattle.encoding.specs.Clauses.{lookClauses, transitivity, moveClauses, ClausesDone, clauseList, shortList}
+use Rattle.clauses_spec.specs.declared.Listed.the-variants.{List as Words, Refused}
+use Rattle.clauses_records.specs.Returns.{returnClausesBy}
+use Rattle.clauses_spec.specs.Clauses.{lookClauses, transitivity, moveClauses, ClausesDone, clauseList, shortList}
 
 -- the whole list of a table, or the one without group 2
 abbrev pub listFor : Bool → Table → List (List ℕ)

@@ -4,22 +4,22 @@ ghost use Prim.Native.Nat.{_≤_, min};
 ghost use lib.ListN.{length};
 ghost use Rattle.lists.specs.Lists.{over};
 ghost use Rattle.limits.specs.Limits.{standard, stateMost};
-ghost use Rattle.format.specs.File.{tableOf, ofStates};
-ghost use Rattle.maps.specs.Known.{Known};
-ghost use Rattle.encoding.specs.Clauses.{clausesOf, ClausesSays};
-ghost use Rattle.encoding.specs.Demands.{ListSound};
-ghost use Rattle.emit.specs.Emit.{state, Ordered, emit};
-ghost use Rattle.index.specs.Index.{LentParts};
+ghost use Rattle.table_spec.specs.File.{tableOf, ofStates};
+ghost use Rattle.check_map.specs.Known.{Known};
+ghost use Rattle.clauses_spec.specs.Clauses.{clausesOf, ClausesSays};
+ghost use Rattle.clauses_spec.specs.Demands.{ListSound};
+ghost use Rattle.clauses_emit.specs.Emit.{state, Ordered, emit};
+ghost use Rattle.table_index.specs.Index.{LentParts};
 ghost use Rattle.clauses.specs.Whole.{closureFor, listFor, listBy, listedBy};
-use emit::Tally;
-use encoding::Listed;
-use format::Starts;
+use clauses_emit::Tally;
+use clauses_records::live_returns;
+use clauses_records::moves;
+use clauses_spec::Listed;
+use clauses_states::looks_apart;
+use clauses_states::transitive;
 use limits::Limits;
-use recordwise::live_returns;
-use recordwise::moves;
-use statewise::looks_apart;
-use statewise::transitive;
-use view::Section;
+use table_spec::Starts;
+use table_view::Section;
 
 // Group 2, where the list is to be whole.
 fn closure(whole: bool, states: &[u8], tally: Tally, list: &mut [u16]) -> Tally
@@ -227,10 +227,10 @@ pub fn list_read(
 {
     list_sections(
         whole,
-        view::part(table, starts, Section::States),
-        view::part(table, starts, Section::Internals),
-        view::part(table, starts, Section::Calls),
-        view::part(table, starts, Section::Returns),
+        table_view::part(table, starts, Section::States),
+        table_view::part(table, starts, Section::Internals),
+        table_view::part(table, starts, Section::Calls),
+        table_view::part(table, starts, Section::Returns),
         tops,
         list,
     )

@@ -7,15 +7,15 @@ use native.Mathlib.Omega.{arith}
 use Rattle.lists.proofs.Members.{not-so, same-true, same-of}
 use Rattle.lists.proofs.Refusals.{passes, fails, no-test, stage-passes, stage-fails, refuses, not-refused}
 use Rattle.limits.specs.Limits.{standard}
-use Rattle.format.specs.File.{tableOf}
-use Rattle.format.specs.Reading.{readNumber}
-use Rattle.format.specs.declared.Starts.{Starts}
-use Rattle.view.specs.Sections.{partOf}
-use Rattle.view.specs.declared.Section.the-variants.{Symbols}
-use Rattle.view.proofs.Parts.{symbols-read}
-use Rattle.fitting.specs.Fit.{fits, noChoice, sameSymbols, fitNumber, fitOf}
-use Rattle.fitting.specs.declared.Fitting.the-variants.{Yes, No, Refused}
-use Rattle.compare.specs.Told.{BothRead}
+use Rattle.table_spec.specs.File.{tableOf}
+use Rattle.table_spec.specs.Reading.{readNumber}
+use Rattle.table_spec.specs.declared.Starts.{Starts}
+use Rattle.table_view.specs.Sections.{partOf}
+use Rattle.table_view.specs.declared.Section.the-variants.{Symbols}
+use Rattle.table_view.proofs.Parts.{symbols-read}
+use Rattle.fit_spec.specs.Fit.{fits, noChoice, sameSymbols, fitNumber, fitOf}
+use Rattle.fit_spec.specs.declared.Fitting.the-variants.{Yes, No, Refused}
+use Rattle.fit_compare.specs.Told.{BothRead}
 
 module _ (b c : List ℕ) where
   refused-by : {k : ℕ} → fitNumber b c ≡ k → (k ≡ 0 → ⊥) → Refused k ≡ fitOf b c

@@ -1,24 +1,24 @@
 // Does the second table accept every word of the first?
 ghost use mathlib.Core.Path.{_≡_};
 ghost use Rattle.limits.specs.Limits.{standard};
-ghost use Rattle.view.specs.Sections.{ReadAs};
-ghost use Rattle.fitting.specs.Fit.{fitOf, FitSays};
-ghost use Rattle.fitting.specs.Demands.{YesExactly, NoApart, FitsQuotient, FitsOn};
-ghost use Rattle.compare.specs.Told.{BothRead};
-use compare::fits;
-use compare::no_choice;
-use fitting::Fitting;
-use format::Reading;
-use format::Starts;
-use view::Section;
+ghost use Rattle.table_view.specs.Sections.{ReadAs};
+ghost use Rattle.fit_spec.specs.Fit.{fitOf, FitSays};
+ghost use Rattle.fit_spec.specs.Demands.{YesExactly, NoApart, FitsQuotient, FitsOn};
+ghost use Rattle.fit_compare.specs.Told.{BothRead};
+use fit_compare::fits;
+use fit_compare::no_choice;
+use fit_spec::Fitting;
+use table_spec::Reading;
+use table_spec::Starts;
+use table_view::Section;
 
 // The answer for two tables that were read.
 fn fit_both(first: &[u8], one: Starts, second: &[u8], two: Starts) -> Fitting
     requires { ⌜ BothRead (now first) one (now second) two ⌝ }
     ensures { λ r. ⌜ r ≡ fitOf (now (first .entry)) (now (second .entry)) ⌝ }
 {
-    let symbols = view::part(first, one, Section::Symbols);
-    if !check::same(symbols, view::part(second, two, Section::Symbols)) {
+    let symbols = table_view::part(first, one, Section::Symbols);
+    if !check::same(symbols, table_view::part(second, two, Section::Symbols)) {
         return Fitting::Refused(37);
     }
     if !no_choice(second, two) {
@@ -35,7 +35,7 @@ fn fit_second(first: &[u8], one: Starts, second: &[u8]) -> Fitting
     requires { ⌜ ReadAs standard (now first) one ⌝ }
     ensures { λ r. ⌜ r ≡ fitOf (now (first .entry)) (now (second .entry)) ⌝ }
 {
-    let reading = table::read(second);
+    let reading = read::read(second);
     match reading {
         Reading::Sections(two) => fit_both(first, one, second, two),
         Reading::Refused(number) => Fitting::Refused(number),
@@ -52,7 +52,7 @@ pub fn fit(first: &[u8], second: &[u8]) -> Fitting
     ensures quotient { λ r. ⌜ FitsQuotient (now (first .entry)) (now (second .entry)) r ⌝ }
     ensures transitive { λ r. ⌜ FitsOn (now (first .entry)) (now (second .entry)) r ⌝ }
 {
-    let reading = table::read(first);
+    let reading = read::read(first);
     match reading {
         Reading::Sections(one) => fit_second(first, one, second),
         Reading::Refused(number) => Fitting::Refused(number),

@@ -8,10 +8,10 @@ use native.Mathlib.Omega.{arith}
 use lib.ListN.{length, getD, set, take, drop, length-append, length-map, length-set, drop-of-length-le}
 use lib.Seq.{drop-cons, take-all, take-at, take-suc-set, append-snoc, length-take-le}
 use borrow.Author.Tests.{le-leb, lt-leb, leb-true}
-use Rattle.keyed.specs.Keys.{key}
-use Rattle.writing.specs.Keys.{keysOf, Holds}
-use Rattle.loads.specs.Loads.{draw, present, after}
-use Rattle.loads.proofs.Present.{present-in, present-out}
+use Rattle.table_find.specs.Keys.{key}
+use Rattle.table_write.specs.Keys.{keysOf, Holds}
+use Rattle.generate_spec.specs.Loads.{draw, present, after}
+use Rattle.generate_spec.proofs.Present.{present-in, present-out}
 use Rattle.generate.specs.Draws.{recordAt, Draws}
 use Rattle.generate.specs.declared.draws.Drawn.{Drawn}
 

@@ -10,21 +10,21 @@ use lib.Dec.{ltb, leb}
 use borrow.Author.Tests.{leb-true, ltb-true}
 use Rattle.lists.specs.Lists.{all}
 use Rattle.lists.proofs.Members.{and-true, and-of}
-use Rattle.format.specs.File.{bytesOf}
-use Rattle.format.proofs.Bytes.{Bytes}
-use Rattle.keyed.specs.Keys.{key}
-use Rattle.quotients.specs.Quotient.{QuotientDone}
-use Rattle.quotients.specs.declared.Written.the-variants.{Refused}
-use Rattle.writing.specs.Keys.{keysOf, recordOf, Holds}
-use Rattle.writing.specs.Tables.{keyedTable, writtenFor}
-use Rattle.writing.proofs.Keys.{Same, keys-back}
-use Rattle.loads.specs.Loads.{Load, symbolBytes, stateBytes, possible, present, possibleInternals, possibleCalls, possibleReturns, seedCalls, seedReturns, described, describedBytes, recordsFew}
+use Rattle.table_spec.specs.File.{bytesOf}
+use Rattle.table_spec.proofs.Bytes.{Bytes}
+use Rattle.table_find.specs.Keys.{key}
+use Rattle.quotient_spec.specs.Quotient.{QuotientDone}
+use Rattle.quotient_spec.specs.declared.Written.the-variants.{Refused}
+use Rattle.table_write.specs.Keys.{keysOf, recordOf, Holds}
+use Rattle.table_write.specs.Tables.{keyedTable, writtenFor}
+use Rattle.table_write.proofs.Keys.{Same, keys-back}
+use Rattle.generate_spec.specs.Loads.{Load, symbolBytes, stateBytes, possible, present, possibleInternals, possibleCalls, possibleReturns, seedCalls, seedReturns, described, describedBytes, recordsFew}
 use Rattle.generate.specs.Draws.{Draws}
 use Rattle.generate.proofs.Drawing.{held-few, held-all, last-drawn}
 use Rattle.generate.specs.declared.draws.Drawn.{Drawn}
 use Rattle.generate.specs.Counts.{Counts, FewKeys, drawnFor}
-use Rattle.loads.proofs.Tuples.{Possible, possible-of}
-use Rattle.loads.proofs.Present.{present-mem}
+use Rattle.generate_spec.proofs.Tuples.{Possible, possible-of}
+use Rattle.generate_spec.proofs.Present.{present-mem}
 
 -- ---- keys and back
 

@@ -8,10 +8,10 @@ use native.Mathlib.Omega.{arith}
 use lib.ListN.{length, getD, replicate}
 use Rattle.lists.specs.Lists.{upto}
 use Rattle.lists.proofs.Members.{length-upto, getD-upto}
-use Rattle.keyed.specs.Keys.{keyFrom, key}
-use Rattle.loads.specs.Loads.{tuples, span, possible}
+use Rattle.table_find.specs.Keys.{keyFrom, key}
+use Rattle.generate_spec.specs.Loads.{tuples, span, possible}
 use Rattle.generate.specs.Draws.{Shape, tails, recordAt}
-use Rattle.loads.proofs.Tuples.{length-tuples, Place, placed, tuple-at, length-span, getD-span}
+use Rattle.generate_spec.proofs.Tuples.{length-tuples, Place, placed, tuple-at, length-span, getD-span}
 
 -- ---- how many
 

@@ -13,15 +13,15 @@ use Rattle.lists.proofs.Refusals.{passes, fails, no-test, refuses, not-refused}
 use Rattle.limits.specs.declared.Limits.{Limits}
 use Rattle.limits.specs.Limits.{limitsFit}
 use Rattle.limits.proofs.Within.{limits-within}
-use Rattle.format.specs.File.{bytesOf}
-use Rattle.quotients.specs.declared.Written.the-variants.{Length, Refused}
-use Rattle.writing.specs.Keys.{Holds}
-use Rattle.writing.specs.Tables.{keyedTable, writtenFor}
-use Rattle.writing.proofs.Whole.{bytes-long}
-use Rattle.loads.specs.Loads.{Load, symbolBytes, stateBytes, described, describedBytes, sizesFit, recordsFew, generateNumber, generateOf}
+use Rattle.table_spec.specs.File.{bytesOf}
+use Rattle.quotient_spec.specs.declared.Written.the-variants.{Length, Refused}
+use Rattle.table_write.specs.Keys.{Holds}
+use Rattle.table_write.specs.Tables.{keyedTable, writtenFor}
+use Rattle.table_write.proofs.Whole.{bytes-long}
+use Rattle.generate_spec.specs.Loads.{Load, symbolBytes, stateBytes, described, describedBytes, sizesFit, recordsFew, generateNumber, generateOf}
 use Rattle.generate.specs.Counts.{Counts, drawnFor}
-use Rattle.loads.proofs.Bytes.{length-symbols, length-states}
-use Rattle.loads.proofs.Described.{sizes-sized}
+use Rattle.generate_spec.proofs.Bytes.{length-symbols, length-states}
+use Rattle.generate_spec.proofs.Described.{sizes-sized}
 
 -- bytes put to the front of a buffer
 pub put-front : (xs old : List ℕ) (n : ℕ) {now : List ℕ} → length xs ≡ n → now ≡ over xs old → Holds now n xs

@@ -8,9 +8,9 @@ use lib.ListN.{length, getD, take, replicate}
 use lib.Dec.{leb}
 use Rattle.lists.specs.Lists.{upto}
 use Rattle.limits.specs.Limits.{stateMost, symbolMost}
-use Rattle.keyed.specs.Keys.{key}
-use Rattle.writing.specs.Keys.{keysOf, Holds}
-use Rattle.loads.specs.Loads.{tuples, present, after}
+use Rattle.table_find.specs.Keys.{key}
+use Rattle.table_write.specs.Keys.{keysOf, Holds}
+use Rattle.generate_spec.specs.Loads.{tuples, present, after}
 use Rattle.generate.specs.declared.draws.Drawn.{Drawn}
 
 -- records of 3 or 4 bytes over so many states, with symbols from `from` on

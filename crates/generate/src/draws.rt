@@ -2,7 +2,7 @@
 ghost use mathlib.Core.Path.{_≡_};
 ghost use Prim.Native.Nat.{_*_, _%_, _^_, _<_};
 ghost use lib.ListN.{length};
-ghost use Rattle.loads.specs.Loads.{draw, possible};
+ghost use Rattle.generate_spec.specs.Loads.{draw, possible};
 ghost use Rattle.generate.specs.Draws.{Shape, tails, recordAt, Draws};
 
 // What the draws of a section give: whether the records present fit, how many of them have room, and the last s, or the first where they do not fit.

@@ -2,12 +2,12 @@
 ghost use mathlib.Core.Path.{_≡_};
 ghost use Prim.Native.Nat.{_+_};
 ghost use Rattle.limits.specs.Limits.{standard};
-ghost use Rattle.loads.specs.Loads.{loadOf, sizesFit, generateOf, GenerateSays};
-ghost use Rattle.loads.specs.Demands.{Promises};
+ghost use Rattle.generate_spec.specs.Loads.{loadOf, sizesFit, generateOf, GenerateSays};
+ghost use Rattle.generate_spec.specs.Demands.{Promises};
 ghost use Rattle.generate.specs.Counts.{Counts, drawnFor};
 use draws::collect;
 use limits::Limits;
-use quotients::Written;
+use quotient_spec::Written;
 
 mod draws;
 mod write;

@@ -3,11 +3,11 @@ ghost use mathlib.Core.Path.{_≡_};
 ghost use Prim.Native.Nat.{_+_, _<_, _≤_};
 ghost use lib.ListN.{length};
 ghost use Rattle.lists.specs.Lists.{over};
-ghost use Rattle.format.specs.File.{bytesOf};
-ghost use Rattle.writing.specs.Tables.{keyedTable, writtenFor};
-ghost use Rattle.loads.specs.Loads.{kindOf, symbolBytes, stateByte, stateBytes};
+ghost use Rattle.table_spec.specs.File.{bytesOf};
+ghost use Rattle.table_write.specs.Tables.{keyedTable, writtenFor};
+ghost use Rattle.generate_spec.specs.Loads.{kindOf, symbolBytes, stateByte, stateBytes};
 ghost use Rattle.generate.specs.Counts.{Counts, FewKeys};
-use quotients::Written;
+use quotient_spec::Written;
 
 // The byte of a symbol: "numbered in that order".
 fn kind_of(internals: usize, calls: usize, symbol: usize) -> u8
@@ -94,7 +94,7 @@ pub(crate) fn write_keys(
     put_symbols(internals, calls, symbols, &mut symbol_bytes);
     let mut state_bytes = [0u8; 40];
     put_states(states, &mut state_bytes);
-    writing::put_table(
+    table_write::put_table(
         VERSION,
         &symbol_bytes[..symbols],
         &state_bytes[..states],

@@ -11,13 +11,13 @@ use borrow.Author.Tests.{eq-eqb, ne-eqb}
 use Rattle.lists.specs.Lists.{any, upto}
 use Rattle.lists.proofs.Members.{getD-map, length-upto, getD-upto}
 use Rattle.lists.proofs.Upto.{Counting, counting, upto-on, upto-end, any-passed, any-found, any-done}
-use Rattle.format.specs.File.{Table, ofStates}
-use Rattle.format.specs.Reading.{isInitial, isAccepting}
-use Rattle.format.specs.Language.{markOf}
-use Rattle.format.specs.Maps.{classOf}
-use Rattle.format.proofs.Bytes.{Bytes}
-use Rattle.quotients.specs.Quotient.{memberHas, bitOf, markAmong, classMark, classByte}
-use Rattle.quotients.proofs.States.{mark-here, mark-on, mark-most}
+use Rattle.table_spec.specs.File.{Table, ofStates}
+use Rattle.table_spec.specs.Reading.{isInitial, isAccepting}
+use Rattle.table_spec.specs.Language.{markOf}
+use Rattle.table_spec.specs.Maps.{classOf}
+use Rattle.table_spec.proofs.Bytes.{Bytes}
+use Rattle.quotient_spec.specs.Quotient.{memberHas, bitOf, markAmong, classMark, classByte}
+use Rattle.quotient_spec.proofs.States.{mark-here, mark-on, mark-most}
 use Rattle.quotient.specs.Classes.{flagged, classBytes}
 
 -- ---- members

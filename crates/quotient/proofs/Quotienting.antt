@@ -16,30 +16,30 @@ use Rattle.lists.proofs.Refusals.{passes, fails, no-test, stage-passes, stage-f
 use Rattle.limits.specs.declared.Limits.{Limits}
 use Rattle.limits.specs.Limits.{symbolMost}
 use Rattle.limits.proofs.Within.{limits-within}
-use Rattle.format.specs.File.{Table, trailer, version, records, tableOf, bytesOf, ofStates}
-use Rattle.format.specs.Maps.{classes}
-use Rattle.format.specs.declared.Starts.{Starts}
-use Rattle.format.proofs.Passed.{read-passed, formed-tested}
-use Rattle.format.proofs.Bytes.{Bytes, records-wide, read-well-formed}
-use Rattle.view.specs.Sections.{partOf}
-use Rattle.view.specs.declared.Section.{Section}
-use Rattle.view.specs.declared.Section.the-variants.{Symbols, States, Internals, Calls, Returns}
-use Rattle.view.proofs.Parts.{symbols-read, states-read, internals-read, calls-read, returns-read}
-use Rattle.reach.specs.Tops.{live, liveReturns}
-use Rattle.relations.specs.Check.{checkNumber}
-use Rattle.maps.specs.Known.{Known}
-use Rattle.matching.specs.Matching.{kept}
-use Rattle.matching.proofs.Matched.{move-kept, return-kept}
-use Rattle.quotients.specs.Quotient.{image, images, memberHas, classMark, classByte, quotientTable, quotientBytes, quotientNumber, quotientOf}
-use Rattle.keyed.specs.Keys.{key}
-use Rattle.keyed.proofs.Keys.{part-bytes}
-use Rattle.quotients.specs.declared.Written.the-variants.{Length, Refused}
-use Rattle.quotients.proofs.Image.{images-mem, images-length, image-length}
-use Rattle.writing.specs.Keys.{recordOf, Holds}
-use Rattle.writing.specs.Tables.{keyedTable, writtenFor}
-use Rattle.writing.proofs.Keys.{Same, keys-back}
-use Rattle.writing.proofs.Whole.{bytes-long}
-use Rattle.images.proofs.Collecting.{image-bytes}
+use Rattle.table_spec.specs.File.{Table, trailer, version, records, tableOf, bytesOf, ofStates}
+use Rattle.table_spec.specs.Maps.{classes}
+use Rattle.table_spec.specs.declared.Starts.{Starts}
+use Rattle.table_spec.proofs.Passed.{read-passed, formed-tested}
+use Rattle.table_spec.proofs.Bytes.{Bytes, records-wide, read-well-formed}
+use Rattle.table_view.specs.Sections.{partOf}
+use Rattle.table_view.specs.declared.Section.{Section}
+use Rattle.table_view.specs.declared.Section.the-variants.{Symbols, States, Internals, Calls, Returns}
+use Rattle.table_view.proofs.Parts.{symbols-read, states-read, internals-read, calls-read, returns-read}
+use Rattle.tops_spec.specs.Tops.{live, liveReturns}
+use Rattle.check_spec.specs.Check.{checkNumber}
+use Rattle.check_map.specs.Known.{Known}
+use Rattle.check_matching.specs.Matching.{kept}
+use Rattle.check_matching.proofs.Matched.{move-kept, return-kept}
+use Rattle.quotient_spec.specs.Quotient.{image, images, memberHas, classMark, classByte, quotientTable, quotientBytes, quotientNumber, quotientOf}
+use Rattle.table_find.specs.Keys.{key}
+use Rattle.table_find.proofs.Keys.{part-bytes}
+use Rattle.quotient_spec.specs.declared.Written.the-variants.{Length, Refused}
+use Rattle.quotient_spec.proofs.Image.{images-mem, images-length, image-length}
+use Rattle.table_write.specs.Keys.{recordOf, Holds}
+use Rattle.table_write.specs.Tables.{keyedTable, writtenFor}
+use Rattle.table_write.proofs.Keys.{Same, keys-back}
+use Rattle.table_write.proofs.Whole.{bytes-long}
+use Rattle.quotient_images.proofs.Collecting.{image-bytes}
 use Rattle.quotient.specs.Parts.{Sized, imageKeys, partedQuotient}
 use Rattle.quotient.specs.Classes.{classBytes}
 use Rattle.quotient.proofs.ClassBytes.{length-bytes}

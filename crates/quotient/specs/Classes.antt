@@ -4,8 +4,8 @@ use mathlib.Core.List.{List, map}
 use Prim.Native.Nat.{ℕ, _/_, _%_}
 use lib.Dec.{eqb}
 use Rattle.lists.specs.Lists.{upto}
-use Rattle.format.specs.File.{Table}
-use Rattle.quotients.specs.Quotient.{classByte}
+use Rattle.table_spec.specs.File.{Table}
+use Rattle.quotient_spec.specs.Quotient.{classByte}
 
 -- a state byte has the flag 1 "for initial" or 2 "for accepting"
 unfoldable pub flagged : ℕ → ℕ → Bool

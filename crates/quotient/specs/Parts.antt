@@ -4,13 +4,13 @@ use Prim.Native.Nat.{ℕ, _≤_}
 use lib.ListN.{length}
 use Rattle.lists.specs.Lists.{keep}
 use Rattle.limits.specs.Limits.{symbolMost}
-use Rattle.format.specs.File.{Table, records, ofStates}
-use Rattle.format.specs.Maps.{classes}
-use Rattle.matching.specs.Matching.{kept}
-use Rattle.quotients.specs.Quotient.{images}
+use Rattle.table_spec.specs.File.{Table, records, ofStates}
+use Rattle.table_spec.specs.Maps.{classes}
+use Rattle.check_matching.specs.Matching.{kept}
+use Rattle.quotient_spec.specs.Quotient.{images}
 use Rattle.quotient.specs.Classes.{classBytes}
-use Rattle.writing.specs.Keys.{keysOf}
-use Rattle.writing.specs.Tables.{keyedTable}
+use Rattle.table_write.specs.Keys.{keysOf}
+use Rattle.table_write.specs.Tables.{keyedTable}
 
 -- parts no longer than the limits
 pub record Sized (symbols internals calls returns : List ℕ) : Type 0 where

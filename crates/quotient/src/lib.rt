@@ -1,19 +1,19 @@
 // Writing the quotient of a table under a map.
 ghost use mathlib.Core.Path.{_≡_};
 ghost use Rattle.limits.specs.Limits.{standard};
-ghost use Rattle.format.specs.File.{bytesOf};
-ghost use Rattle.maps.specs.Known.{Known, WhereReadable};
-ghost use Rattle.quotients.specs.Quotient.{quotientBytes, quotientOf, QuotientSays};
-ghost use Rattle.quotients.specs.Demands.{Promises};
-ghost use Rattle.writing.specs.Tables.{writtenFor};
+ghost use Rattle.table_spec.specs.File.{bytesOf};
+ghost use Rattle.check_map.specs.Known.{Known, WhereReadable};
+ghost use Rattle.quotient_spec.specs.Quotient.{quotientBytes, quotientOf, QuotientSays};
+ghost use Rattle.quotient_spec.specs.Demands.{Promises};
+ghost use Rattle.table_write.specs.Tables.{writtenFor};
 ghost use Rattle.quotient.specs.Parts.{Sized, partedQuotient};
-use format::Starts;
-use images::collect;
+use check_numbering::class_count;
 use limits::Limits;
-use numbering::class_count;
-use quotients::Written;
-use view::Section;
-use writing::put_table;
+use quotient_images::collect;
+use quotient_spec::Written;
+use table_spec::Starts;
+use table_view::Section;
+use table_write::put_table;
 
 mod states;
 
@@ -69,12 +69,12 @@ fn write_read(table: &[u8], starts: Starts, words: &[u64], map: &[u8], out: &mut
     ensures { λ r. ⌜ record { answer = r; out = now (out .exit) } ≡ writtenFor (quotientBytes (now (table .entry)) (now (map .entry))) (now (out .entry)) ⌝ }
 {
     write_parts(
-        table::version_of(table),
-        view::part(table, starts, Section::Symbols),
-        view::part(table, starts, Section::States),
-        view::part(table, starts, Section::Internals),
-        view::part(table, starts, Section::Calls),
-        view::part(table, starts, Section::Returns),
+        read::version_of(table),
+        table_view::part(table, starts, Section::Symbols),
+        table_view::part(table, starts, Section::States),
+        table_view::part(table, starts, Section::Internals),
+        table_view::part(table, starts, Section::Calls),
+        table_view::part(table, starts, Section::Returns),
         words,
         map,
         out,
@@ -93,7 +93,7 @@ pub fn quotient_known(
     requires { ⌜ Known (now table) starts (now words) ⌝ }
     ensures { λ r. ⌜ WhereReadable (now (table .entry)) (λ L. record { answer = r; out = now (out .exit) } ≡ quotientOf L (now (table .entry)) (now (map .entry)) (now (out .entry))) ⌝ }
 {
-    let number = maps::map_number(table, starts, words, map);
+    let number = check_map::map_number(table, starts, words, map);
     if number != 0 {
         return Written::Refused(number);
     }

@@ -2,11 +2,11 @@
 ghost use mathlib.Core.Path.{_≡_};
 ghost use Prim.Native.Nat.{_+_, _*_, _<_, _≤_};
 ghost use lib.ListN.{length};
-ghost use Rattle.format.specs.File.{ofStates};
+ghost use Rattle.table_spec.specs.File.{ofStates};
 ghost use Rattle.lists.specs.Lists.{over};
-ghost use Rattle.quotients.specs.Quotient.{memberHas, bitOf, classMark, classByte};
+ghost use Rattle.quotient_spec.specs.Quotient.{memberHas, bitOf, classMark, classByte};
 ghost use Rattle.quotient.specs.Classes.{flagged, classBytes};
-use numbering::class_of;
+use check_numbering::class_of;
 
 // Some member of a class has a flag in its state byte: 1 "for initial", 2 "for accepting".
 fn member_has(states: &[u8], map: &[u8], class: u8, flag: u8) -> bool

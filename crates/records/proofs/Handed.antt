@@ -12,34 +12,34 @@ use Rattle.lists.specs.Lists.{over, firstFailed}
 use Rattle.limits.specs.declared.Limits.{Limits}
 use Rattle.limits.specs.Limits.{symbolMost}
 use Rattle.limits.proofs.Within.{limits-within}
-use Rattle.format.specs.File.{Table, records, tableOf}
-use Rattle.format.specs.Reading.{ascend, WellFormed}
-use Rattle.format.specs.Language.{count}
-use Rattle.format.specs.Maps.{Proper}
-use Rattle.format.specs.declared.Starts.{Starts}
-use Rattle.format.proofs.Bytes.{records-wide, read-well-formed}
-use Rattle.format.proofs.Passed.{formed-tested}
-use Rattle.format.proofs.Facts.{Fit, internals-fit, calls-fit, returns-fit, most-states}
-use Rattle.view.specs.Sections.{partOf}
-use Rattle.view.specs.declared.Section.the-variants.{Internals, Calls, Returns}
-use Rattle.view.proofs.Parts.{internals-read, calls-read, returns-read}
-use Rattle.reach.specs.Tops.{live}
+use Rattle.table_spec.specs.File.{Table, records, tableOf}
+use Rattle.table_spec.specs.Reading.{ascend, WellFormed}
+use Rattle.table_spec.specs.Language.{count}
+use Rattle.table_spec.specs.Maps.{Proper}
+use Rattle.table_spec.specs.declared.Starts.{Starts}
+use Rattle.table_spec.proofs.Bytes.{records-wide, read-well-formed}
+use Rattle.table_spec.proofs.Passed.{formed-tested}
+use Rattle.table_spec.proofs.Facts.{Fit, internals-fit, calls-fit, returns-fit, most-states}
+use Rattle.table_view.specs.Sections.{partOf}
+use Rattle.table_view.specs.declared.Section.the-variants.{Internals, Calls, Returns}
+use Rattle.table_view.proofs.Parts.{internals-read, calls-read, returns-read}
+use Rattle.tops_spec.specs.Tops.{live}
 use Rattle.tops.specs.declared.Examined.{Examined}
 use Rattle.tops.specs.Steps.{examinedOf}
-use Rattle.relations.specs.Check.{mapTests, checkNumber}
-use Rattle.relations.proofs.Accepted.{accepted}
-use Rattle.relations.proofs.Answers.{tested}
-use Rattle.relations.proofs.Numbered.{classes-few}
-use Rattle.maps.specs.Known.{Known}
-use Rattle.maps.proofs.Checking.{examined-number, read-known}
-use Rattle.matching.specs.Matching.{kept}
-use Rattle.matching.proofs.Matched.{move-kept, return-kept}
-use Rattle.fates.specs.declared.Recorded.the-variants.{Counts, Refused}
-use Rattle.fates.specs.Fates.{keptMark, foldedMark, deadMark, sectionFates, having, fatesOf, countsOf, recordsOf}
-use Rattle.fates.proofs.Counts.{one-each}
-use Rattle.fates.proofs.Sections.{fates-same}
-use Rattle.fates.proofs.Answers.{records-short, records-told}
-use Rattle.marks.specs.Marks.{Fitting}
+use Rattle.check_spec.specs.Check.{mapTests, checkNumber}
+use Rattle.check_spec.proofs.Accepted.{accepted}
+use Rattle.check_spec.proofs.Answers.{tested}
+use Rattle.check_spec.proofs.Numbered.{classes-few}
+use Rattle.check_map.specs.Known.{Known}
+use Rattle.check_map.proofs.Checking.{examined-number, read-known}
+use Rattle.check_matching.specs.Matching.{kept}
+use Rattle.check_matching.proofs.Matched.{move-kept, return-kept}
+use Rattle.records_spec.specs.declared.Recorded.the-variants.{Counts, Refused}
+use Rattle.records_spec.specs.Fates.{keptMark, foldedMark, deadMark, sectionFates, having, fatesOf, countsOf, recordsOf}
+use Rattle.records_spec.proofs.Counts.{one-each}
+use Rattle.records_spec.proofs.Sections.{fates-same}
+use Rattle.records_spec.proofs.Answers.{records-short, records-told}
+use Rattle.records_fates.specs.Marks.{Fitting}
 use Rattle.records.specs.Told.{FittingParts, partedFates, toldFor}
 
 -- ---- the marks of a section of moves, and of returns

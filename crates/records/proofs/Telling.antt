@@ -9,15 +9,15 @@ use borrow.Author.Tests.{le-leb, lt-leb}
 use Rattle.lists.specs.Lists.{over}
 use Rattle.lists.proofs.Members.{zeros}
 use Rattle.lists.proofs.Copying.{length-over}
-use Rattle.format.specs.File.{records}
-use Rattle.matching.specs.Matching.{kept}
-use Rattle.writing.proofs.Writing.{Writing, begun, written, part-room, part-put, finished}
-use Rattle.fates.specs.declared.Recorded.the-variants.{Counts, Refused}
-use Rattle.fates.specs.Fates.{keptMark, foldedMark, deadMark, sectionFates, having}
-use Rattle.fates.proofs.Counts.{length-fates}
-use Rattle.marks.specs.Marks.{UpTo, recordsIn}
+use Rattle.table_spec.specs.File.{records}
+use Rattle.check_matching.specs.Matching.{kept}
+use Rattle.table_write.proofs.Writing.{Writing, begun, written, part-room, part-put, finished}
+use Rattle.records_spec.specs.declared.Recorded.the-variants.{Counts, Refused}
+use Rattle.records_spec.specs.Fates.{keptMark, foldedMark, deadMark, sectionFates, having}
+use Rattle.records_spec.proofs.Counts.{length-fates}
+use Rattle.records_fates.specs.Marks.{UpTo, recordsIn}
 use Rattle.records.specs.Told.{partedFates, toldFor}
-use Rattle.marks.proofs.Spans.{records-count}
+use Rattle.records_fates.proofs.Spans.{records-count}
 
 pub fresh-room : UpTo 0 (replicate 102400 0)
 fresh-room = record { places = length-replicate {A = ℕ} 102400 0; small = λ k. omega (arith, zeros 102400 k) }

@@ -5,11 +5,11 @@ use Prim.Native.Nat.{ℕ}
 use lib.ListN.{length}
 use lib.Dec.{leb}
 use Rattle.lists.specs.Lists.{over}
-use Rattle.format.specs.File.{records}
-use Rattle.matching.specs.Matching.{kept}
-use Rattle.fates.specs.declared.Recorded.the-variants.{Counts, Refused}
-use Rattle.fates.specs.Fates.{keptMark, foldedMark, deadMark, sectionFates, having, RecordsDone}
-use Rattle.marks.specs.Marks.{Fitting}
+use Rattle.table_spec.specs.File.{records}
+use Rattle.check_matching.specs.Matching.{kept}
+use Rattle.records_spec.specs.declared.Recorded.the-variants.{Counts, Refused}
+use Rattle.records_spec.specs.Fates.{keptMark, foldedMark, deadMark, sectionFates, having, RecordsDone}
+use Rattle.records_fates.specs.Marks.{Fitting}
 
 -- the marks of internals, calls and returns
 abbrev pub partedFates : List ℕ → List ℕ → List ℕ → List ℕ → List ℕ → List ℕ

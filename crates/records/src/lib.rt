@@ -4,18 +4,18 @@ ghost use Prim.Native.Nat.{_+_, _/_, _≤_};
 ghost use lib.ListN.{length};
 ghost use Rattle.lists.specs.Lists.{over, firstFailed};
 ghost use Rattle.limits.specs.Limits.{standard};
-ghost use Rattle.format.specs.File.{tableOf};
-ghost use Rattle.relations.specs.Check.{mapTests, checkNumber};
-ghost use Rattle.maps.specs.Known.{Known, WhereReadable};
-ghost use Rattle.fates.specs.Fates.{fatesOf, recordsOf, RecordsSays};
-ghost use Rattle.fates.specs.Demands.{Promises};
+ghost use Rattle.table_spec.specs.File.{tableOf};
+ghost use Rattle.check_spec.specs.Check.{mapTests, checkNumber};
+ghost use Rattle.check_map.specs.Known.{Known, WhereReadable};
+ghost use Rattle.records_spec.specs.Fates.{fatesOf, recordsOf, RecordsSays};
+ghost use Rattle.records_spec.specs.Demands.{Promises};
 ghost use Rattle.records.specs.Told.{FittingParts, partedFates, toldFor};
-use fates::Recorded;
-use format::Starts;
 use limits::Limits;
-use marks::count_of;
-use marks::mark_section;
-use view::Section;
+use records_fates::count_of;
+use records_fates::mark_section;
+use records_spec::Recorded;
+use table_spec::Starts;
+use table_view::Section;
 
 // The marks of the parts' records, one section behind the other.
 fn mark_parts(
@@ -73,9 +73,9 @@ fn tell_read(table: &[u8], starts: Starts, words: &[u64], map: &[u8], out: &mut 
     ensures { λ r. ⌜ record { answer = r; out = now (out .exit) } ≡ toldFor (fatesOf (tableOf (now (table .entry))) (now (map .entry))) (now (out .entry)) ⌝ }
 {
     tell_parts(
-        view::part(table, starts, Section::Internals),
-        view::part(table, starts, Section::Calls),
-        view::part(table, starts, Section::Returns),
+        table_view::part(table, starts, Section::Internals),
+        table_view::part(table, starts, Section::Calls),
+        table_view::part(table, starts, Section::Returns),
         words,
         map,
         out,
@@ -105,7 +105,7 @@ fn records_known(
     requires { ⌜ Known (now table) starts (now words) ⌝ }
     ensures { λ r. ⌜ WhereReadable (now (table .entry)) (λ L. record { answer = r; out = now (out .exit) } ≡ recordsOf L (now (table .entry)) (now (map .entry)) (now (out .entry))) ⌝ }
 {
-    let number = maps::map_number(table, starts, words, map);
+    let number = check_map::map_number(table, starts, words, map);
     if number != 0 {
         return Recorded::Refused(number);
     }

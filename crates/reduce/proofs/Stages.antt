@@ -23,39 +23,39 @@ use Rattle.limits.specs.Limits.{stateMost}
 use Rattle.pairs.specs.Pairs.{pairs}
 use Rattle.pairs.specs.Triangles.{triangles}
 use Rattle.pairs.proofs.Pairs.{most-pairs}
-use Rattle.format.specs.File.{tableOf}
-use Rattle.format.specs.Reading.{readNumber, Readable, WellFormed}
-use Rattle.format.specs.Language.{count}
-use Rattle.format.specs.Maps.{classes}
-use Rattle.format.specs.declared.Starts.{Starts}
-use Rattle.format.proofs.Bytes.{read-well-formed}
-use Rattle.format.proofs.Facts.{most-states}
-use Rattle.view.specs.Sections.{ReadAs, partOf}
-use Rattle.view.specs.declared.Section.the-variants.{States}
-use Rattle.view.proofs.Parts.{states-read}
-use Rattle.maps.specs.Known.{Known}
-use Rattle.encoding.specs.Clauses.{clauseList, shortList, shortWords, ClausesDone}
-use Rattle.encoding.specs.Maps.{mapOf}
-use Rattle.encoding.specs.declared.Listed.{Listed}
-use Rattle.encoding.specs.declared.Listed.the-variants.{List as Words, Refused as NotListed}
-use Rattle.encoding.proofs.Short.{short-formed, short-tried}
+use Rattle.table_spec.specs.File.{tableOf}
+use Rattle.table_spec.specs.Reading.{readNumber, Readable, WellFormed}
+use Rattle.table_spec.specs.Language.{count}
+use Rattle.table_spec.specs.Maps.{classes}
+use Rattle.table_spec.specs.declared.Starts.{Starts}
+use Rattle.table_spec.proofs.Bytes.{read-well-formed}
+use Rattle.table_spec.proofs.Facts.{most-states}
+use Rattle.table_view.specs.Sections.{ReadAs, partOf}
+use Rattle.table_view.specs.declared.Section.the-variants.{States}
+use Rattle.table_view.proofs.Parts.{states-read}
+use Rattle.check_map.specs.Known.{Known}
+use Rattle.clauses_spec.specs.Clauses.{clauseList, shortList, shortWords, ClausesDone}
+use Rattle.clauses_spec.specs.Maps.{mapOf}
+use Rattle.clauses_spec.specs.declared.Listed.{Listed}
+use Rattle.clauses_spec.specs.declared.Listed.the-variants.{List as Words, Refused as NotListed}
+use Rattle.clauses_spec.proofs.Short.{short-formed, short-tried}
 use Rattle.clauses.specs.Whole.{listedBy}
-use Rattle.turning.specs.Turns.{noneSet, Fresh, EndsWith}
-use Rattle.rows.specs.Conclusions.{withTriangles}
-use Rattle.turning.specs.declared.Ending.{Ending}
-use Rattle.turning.specs.declared.Ending.the-variants.{Found, Absent, Spent}
-use Rattle.engine.proofs.Prefixes.{prefix-is, prefix-values}
-use Rattle.quotients.specs.Quotient.{quotientNumber, QuotientDone, quotientOf}
-use Rattle.quotients.specs.declared.Written.{Written}
-use Rattle.quotients.specs.declared.Written.the-variants.{Length, Refused as NotWritten}
-use Rattle.reductions.specs.Reduce.{Reduced, beforeSearch, triedOfTable, joinedPairs, deliver, afterSearch, reduceOf}
-use Rattle.reductions.specs.declared.Reduction.{Reduction}
-use Rattle.reductions.specs.declared.Reduction.the-variants.{Delivered, Refused}
-use Rattle.reductions.proofs.Joined.{held-joined}
-use Rattle.reductions.proofs.Ways.{list-formed, trial-model}
+use Rattle.sat_decide.specs.Turns.{noneSet, Fresh, EndsWith}
+use Rattle.sat_trail.specs.Conclusions.{withTriangles}
+use Rattle.sat_decide.specs.declared.Ending.{Ending}
+use Rattle.sat_decide.specs.declared.Ending.the-variants.{Found, Absent, Spent}
+use Rattle.sat_solve.proofs.Prefixes.{prefix-is, prefix-values}
+use Rattle.quotient_spec.specs.Quotient.{quotientNumber, QuotientDone, quotientOf}
+use Rattle.quotient_spec.specs.declared.Written.{Written}
+use Rattle.quotient_spec.specs.declared.Written.the-variants.{Length, Refused as NotWritten}
+use Rattle.reduce_spec.specs.Reduce.{Reduced, beforeSearch, triedOfTable, joinedPairs, deliver, afterSearch, reduceOf}
+use Rattle.reduce_spec.specs.declared.Reduction.{Reduction}
+use Rattle.reduce_spec.specs.declared.Reduction.the-variants.{Delivered, Refused}
+use Rattle.reduce_spec.proofs.Joined.{held-joined}
+use Rattle.reduce_spec.proofs.Ways.{list-formed, trial-model}
 use Rattle.reduce.specs.Held.{MadeBy, HeldFor}
-use Rattle.joining.specs.Lowest.{MapOf}
-use Rattle.joining.specs.declared.Classes.{Classes}
+use Rattle.reduce_map.specs.Lowest.{MapOf}
+use Rattle.reduce_map.specs.declared.Classes.{Classes}
 use Rattle.reduce.specs.declared.Made.{Made}
 
 -- ---- map and quotient

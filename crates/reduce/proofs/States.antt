@@ -5,9 +5,9 @@ use mathlib.Core.List.{List}
 use Prim.Native.Nat.{ℕ}
 use Rattle.lists.proofs.Refusals.{refuses, not-refused}
 use Rattle.limits.specs.declared.Limits.{Limits}
-use Rattle.format.specs.File.{tableOf}
-use Rattle.format.specs.Reading.{readNumber, Readable}
-use Rattle.format.specs.Language.{count}
+use Rattle.table_spec.specs.File.{tableOf}
+use Rattle.table_spec.specs.Reading.{readNumber, Readable}
+use Rattle.table_spec.specs.Language.{count}
 use Rattle.reduce.specs.States.{statesOf}
 
 module _ (L : Limits) (b : List ℕ) where

@@ -8,15 +8,15 @@ use Rattle.lists.specs.Lists.{over}
 use Rattle.limits.specs.declared.Limits.{Limits}
 use Rattle.cnf.specs.Trials.{notFalse}
 use Rattle.pairs.specs.Pairs.{pairs}
-use Rattle.format.specs.File.{Table, tableOf}
-use Rattle.format.specs.Language.{count}
-use Rattle.maps.specs.Known.{WhereReadable}
-use Rattle.encoding.specs.Clauses.{shortWords}
-use Rattle.encoding.specs.Maps.{mapOf}
-use Rattle.turning.specs.declared.Ending.{Ending}
-use Rattle.turning.specs.declared.Ending.the-variants.{Found, Absent, Spent}
-use Rattle.reductions.specs.Reduce.{joinedPairs, Reduced}
-use Rattle.reductions.specs.declared.Reduction.{Reduction}
+use Rattle.table_spec.specs.File.{Table, tableOf}
+use Rattle.table_spec.specs.Language.{count}
+use Rattle.check_map.specs.Known.{WhereReadable}
+use Rattle.clauses_spec.specs.Clauses.{shortWords}
+use Rattle.clauses_spec.specs.Maps.{mapOf}
+use Rattle.sat_decide.specs.declared.Ending.{Ending}
+use Rattle.sat_decide.specs.declared.Ending.the-variants.{Found, Absent, Spent}
+use Rattle.reduce_spec.specs.Reduce.{joinedPairs, Reduced}
+use Rattle.reduce_spec.specs.declared.Reduction.{Reduction}
 use Rattle.reduce.specs.declared.Made.{Made}
 
 -- the end of a search, as its guesses and how it ended

@@ -4,9 +4,9 @@ use mathlib.Core.List.{List}
 use Prim.Native.Nat.{ℕ}
 use lib.Dec.{eqb}
 use Rattle.limits.specs.declared.Limits.{Limits}
-use Rattle.format.specs.File.{tableOf}
-use Rattle.format.specs.Reading.{readNumber}
-use Rattle.format.specs.Language.{count}
+use Rattle.table_spec.specs.File.{tableOf}
+use Rattle.table_spec.specs.Reading.{readNumber}
+use Rattle.table_spec.specs.Language.{count}
 
 -- how many states a table has that is readable at the limits; 0 where it is not
 unfoldable pub statesOf : Limits → List ℕ → ℕ

@@ -3,24 +3,24 @@ ghost use mathlib.Core.Path.{_≡_};
 ghost use Prim.Native.Nat.{_≤_};
 ghost use lib.ListN.{length};
 ghost use Rattle.limits.specs.Limits.{standard};
-ghost use Rattle.format.specs.File.{tableOf};
-ghost use Rattle.format.specs.Language.{count};
-ghost use Rattle.maps.specs.Known.{Known, WhereReadable};
-ghost use Rattle.encoding.specs.Clauses.{shortWords};
-ghost use Rattle.encoding.specs.Maps.{mapOf};
-ghost use Rattle.reductions.specs.Reduce.{Reduced, triedOfTable, deliver, afterSearch, reduceOf, ReduceSays};
-ghost use Rattle.reductions.specs.Demands.{Promises};
+ghost use Rattle.table_spec.specs.File.{tableOf};
+ghost use Rattle.table_spec.specs.Language.{count};
+ghost use Rattle.check_map.specs.Known.{Known, WhereReadable};
+ghost use Rattle.clauses_spec.specs.Clauses.{shortWords};
+ghost use Rattle.clauses_spec.specs.Maps.{mapOf};
+ghost use Rattle.reduce_spec.specs.Reduce.{Reduced, triedOfTable, deliver, afterSearch, reduceOf, ReduceSays};
+ghost use Rattle.reduce_spec.specs.Demands.{Promises};
 ghost use Rattle.reduce.specs.Held.{MadeBy, HeldFor, ListWritten};
 ghost use Rattle.reduce.specs.States.{statesOf};
-use encoding::Listed;
-use format::Reading;
-use format::Starts;
-use joining::map_of;
+use clauses_spec::Listed;
 use limits::Limits;
-use quotients::Written;
-use reductions::Reduction;
-use turning::Ending;
-use view::Section;
+use quotient_spec::Written;
+use reduce_map::map_of;
+use reduce_spec::Reduction;
+use sat_decide::Ending;
+use table_spec::Reading;
+use table_spec::Starts;
+use table_view::Section;
 
 // The end of a search as its guesses, and whether none exists or the budget is spent.
 struct Made {
@@ -72,7 +72,7 @@ fn deliver_held(
         (λ L list. deliver L (now (table .entry)) list (now (map .entry)) (now (out .entry)) (mapOf (now (values .entry)) n) guesses ceiling spent) ⌝ }
 {
     let classes = map_of(values, n);
-    let joined = trial::not_false(values);
+    let joined = sat_trial::not_false(values);
     let found = classes.map;
     let count = n as usize;
     let written = quotient::quotient_known(table, starts, tops, &found[..count], out);
@@ -111,8 +111,8 @@ fn solve_listed(
         (λ L list. afterSearch L (now (table .entry)) list (now (map .entry)) (now (out .entry)) (triedOfTable (now (table .entry)) budget)) ⌝ }
 {
     let variables = pairs::pairs_of(n) as usize;
-    let mut values = engine::none_set();
-    let end = engine::solve(list, n, &mut values[..variables], budget);
+    let mut values = sat_solve::none_set();
+    let end = sat_solve::solve(list, n, &mut values[..variables], budget);
     let ending = end.ending;
     let made = made_by(ending);
     if made.absent {
@@ -180,7 +180,7 @@ pub fn reduce_within(
     }
     let starts = examined.starts;
     let words = examined.words;
-    let states = view::part(table, starts, Section::States);
+    let states = table_view::part(table, starts, Section::States);
     let n = states.len();
     if map.len() < n {
         return Reduction::Refused(22);
@@ -210,10 +210,10 @@ pub fn state_count(limits: Limits, table: &[u8]) -> usize
     ensures few { λ r. ⌜ r ≤ 40 ⌝ }
     ensures states { λ r. ⌜ r ≡ statesOf limits (now (table .entry)) ⌝ }
 {
-    let reading = table::read_within(limits, table);
+    let reading = read::read_within(limits, table);
     match reading {
         Reading::Sections(starts) => {
-            let states = view::part(table, starts, Section::States);
+            let states = table_view::part(table, starts, Section::States);
             states.len()
         }
         Reading::Refused(_) => 0,

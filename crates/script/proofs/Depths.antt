@@ -9,7 +9,7 @@ use lib.Dec.{eqb, leb, ltb}
 use borrow.Author.Tests.{ltb-true, le-leb, lt-leb, eq-eqb, ne-eqb}
 use Rattle.lists.proofs.Members.{getD-mem, all-true, one-on}
 use Rattle.vpa.specs.Automata.{openBehind}
-use Rattle.scripts.specs.Script.{symbolsFit, openMost, tooDeep}
+use Rattle.script_spec.specs.Script.{symbolsFit, openMost, tooDeep}
 
 -- a symbol of a script to which 30 does not apply
 pub symbol-inside : (n : ℕ) (w : List ℕ) → symbolsFit n w ≡ true → (i : ℕ) → i < length w → getD w i 0 < n

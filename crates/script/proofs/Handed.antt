@@ -11,15 +11,15 @@ use Rattle.lists.specs.Lists.{firstFailed}
 use Rattle.lists.proofs.Refusals.{passed}
 use Rattle.limits.specs.Limits.{symbolMost}
 use Rattle.limits.proofs.Within.{limits-within}
-use Rattle.format.specs.File.{Table, tableOf}
-use Rattle.format.specs.declared.Starts.{Starts}
-use Rattle.format.proofs.Bytes.{read-well-formed}
-use Rattle.format.proofs.Passed.{formed-tested}
-use Rattle.view.specs.Sections.{sectioned, partOf, HasRead}
-use Rattle.view.specs.declared.Section.the-variants.{Symbols, States, Internals, Calls, Returns}
-use Rattle.view.proofs.Parts.{symbols-read, states-read, internals-read, calls-read, returns-read}
-use Rattle.reach.specs.Tops.{startWords}
-use Rattle.scripts.specs.Script.{Levels, behind, ended, reads, started, scriptTests}
+use Rattle.table_spec.specs.File.{Table, tableOf}
+use Rattle.table_spec.specs.declared.Starts.{Starts}
+use Rattle.table_spec.proofs.Bytes.{read-well-formed}
+use Rattle.table_spec.proofs.Passed.{formed-tested}
+use Rattle.table_view.specs.Sections.{sectioned, partOf, HasRead}
+use Rattle.table_view.specs.declared.Section.the-variants.{Symbols, States, Internals, Calls, Returns}
+use Rattle.table_view.proofs.Parts.{symbols-read, states-read, internals-read, calls-read, returns-read}
+use Rattle.tops_spec.specs.Tops.{startWords}
+use Rattle.script_spec.specs.Script.{Levels, behind, ended, reads, started, scriptTests}
 use Rattle.script.specs.Parts.{Fits, sectionsRead}
 
 -- what is read does not hang on the version

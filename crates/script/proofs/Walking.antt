@@ -10,9 +10,9 @@ use native.Mathlib.Decide.{ℕ-discrete}
 use lib.ListN.{length, getD, set, drop, length-set, drop-of-length-le}
 use lib.Seq.{getD-set-same, getD-set-other}
 use Rattle.lists.proofs.Members.{one-on}
-use Rattle.format.specs.File.{Table}
-use Rattle.format.specs.Language.{kindOf}
-use Rattle.scripts.specs.Script.{Level, Levels, moved, returned, behind, ended, reads, started, openMost, tooDeep}
+use Rattle.table_spec.specs.File.{Table}
+use Rattle.table_spec.specs.Language.{kindOf}
+use Rattle.script_spec.specs.Script.{Level, Levels, moved, returned, behind, ended, reads, started, openMost, tooDeep}
 use Rattle.script.proofs.Depths.{deep-internal, deep-call, deep-last, deep-return}
 
 -- the first n levels that are kept, the latest first

@@ -4,8 +4,8 @@ use mathlib.Core.Bool.{Bool, true, false}
 use mathlib.Core.List.{List}
 use Prim.Native.Nat.{ℕ}
 use lib.ListN.{length, getD}
-use Rattle.view.specs.Sections.{sectioned}
-use Rattle.scripts.specs.Script.{reads, started, symbolsFit, tooDeep}
+use Rattle.table_view.specs.Sections.{sectioned}
+use Rattle.script_spec.specs.Script.{reads, started, symbolsFit, tooDeep}
 
 -- a script to which neither 30 nor 31 applies
 pub record Fits (symbols w : List ℕ) : Type 0 where

@@ -3,8 +3,8 @@ ghost use mathlib.Core.Path.{_≡_};
 ghost use mathlib.Core.Bool.{true};
 ghost use lib.ListN.{length, getD};
 ghost use Rattle.lists.specs.Lists.{firstFailed};
-ghost use Rattle.scripts.specs.Script.{symbolsFit, tooDeep, scriptTests};
-use words::wide;
+ghost use Rattle.script_spec.specs.Script.{symbolsFit, tooDeep, scriptTests};
+use bits::wide;
 
 // "up to 64 calls open"
 const OPEN: usize = 64;

@@ -4,22 +4,22 @@ ghost use Prim.Native.Nat.{_≤_};
 ghost use lib.ListN.{length};
 ghost use Rattle.lists.specs.Lists.{firstFailed};
 ghost use Rattle.limits.specs.Limits.{standard};
-ghost use Rattle.format.specs.File.{tableOf};
-ghost use Rattle.view.specs.Sections.{HasRead};
-ghost use Rattle.scripts.specs.Script.{scriptTests, answerBy, scriptOf, ScriptSays};
-ghost use Rattle.index.specs.Index.{LentParts};
+ghost use Rattle.table_spec.specs.File.{tableOf};
+ghost use Rattle.table_view.specs.Sections.{HasRead};
+ghost use Rattle.script_spec.specs.Script.{scriptTests, answerBy, scriptOf, ScriptSays};
+ghost use Rattle.table_index.specs.Index.{LentParts};
 ghost use Rattle.script.specs.Parts.{Fits, sectionsRead};
-ghost use Rattle.scripts.specs.Demands.{ScriptExact};
-use format::Reading;
-use format::Starts;
-use index::starts_of;
-use levels::ended;
-use levels::moved;
-use levels::returned;
+ghost use Rattle.script_spec.specs.Demands.{ScriptExact};
+use bits::wide;
 use limits::Limits;
-use scripts::Read;
-use view::Section;
-use words::wide;
+use script_levels::ended;
+use script_levels::moved;
+use script_levels::returned;
+use script_spec::Read;
+use table_index::starts_of;
+use table_spec::Reading;
+use table_spec::Starts;
+use table_view::Section;
 
 mod depth;
 
@@ -78,17 +78,17 @@ fn read_known(table: &[u8], starts: Starts, script: &[u8]) -> Read
     requires { ⌜ HasRead (now table) starts ⌝ }
     ensures { λ r. ⌜ r ≡ answerBy (firstFailed (scriptTests (tableOf (now (table .entry)) .symbols) (now (script .entry)))) (tableOf (now (table .entry))) (now (script .entry)) ⌝ }
 {
-    let symbols = view::part(table, starts, Section::Symbols);
+    let symbols = table_view::part(table, starts, Section::Symbols);
     let number = script_number(symbols, script);
     if number != 0 {
         return Read::Refused(number);
     }
     Read::Answer(reads(
         symbols,
-        view::part(table, starts, Section::States),
-        view::part(table, starts, Section::Internals),
-        view::part(table, starts, Section::Calls),
-        view::part(table, starts, Section::Returns),
+        table_view::part(table, starts, Section::States),
+        table_view::part(table, starts, Section::Internals),
+        table_view::part(table, starts, Section::Calls),
+        table_view::part(table, starts, Section::Returns),
         script,
     ))
 }
@@ -99,7 +99,7 @@ pub fn script_within(limits: Limits, table: &[u8], script: &[u8]) -> Read
     ensures number { λ r. ⌜ ScriptSays limits (now (table .entry)) (now (script .entry)) r ⌝ }
     ensures exact { λ r. ⌜ ScriptExact (now (table .entry)) (now (script .entry)) r ⌝ }
 {
-    let reading = table::read_within(limits, table);
+    let reading = read::read_within(limits, table);
     match reading {
         Reading::Sections(starts) => read_known(table, starts, script),
         Reading::Refused(number) => Read::Refused(number),

@@ -11,12 +11,12 @@ use Rattle.cnf.specs.Clauses.{clausesIn, whole}
 use Rattle.cnf.specs.Search.{solved, none-exists, spent, searchFrom}
 use Rattle.cnf.specs.Trials.{searchTried}
 use Rattle.cnf.specs.Closing.{Formed}
-use Rattle.turning.specs.declared.Ending.{Ending}
-use Rattle.turning.specs.declared.Ending.the-variants.{Found, Absent, Spent}
-use Rattle.rows.specs.Conclusions.{withTriangles}
-use Rattle.turning.specs.Turns.{noneSet, Fresh, EndsWith, outcomeOf}
-use Rattle.spreading.proofs.Triangles.{with-none}
-use Rattle.turning.proofs.Ends.{ends-outcome}
+use Rattle.sat_decide.specs.declared.Ending.{Ending}
+use Rattle.sat_decide.specs.declared.Ending.the-variants.{Found, Absent, Spent}
+use Rattle.sat_trail.specs.Conclusions.{withTriangles}
+use Rattle.sat_decide.specs.Turns.{noneSet, Fresh, EndsWith, outcomeOf}
+use Rattle.equality_spread.proofs.Triangles.{with-none}
+use Rattle.sat_decide.proofs.Ends.{ends-outcome}
 
 -- ---- the outcome
 

@@ -6,7 +6,7 @@ ghost use lib.ListN.{length};
 ghost use Rattle.lists.specs.Lists.{all};
 ghost use Rattle.cnf.specs.Clauses.{clausesIn, whole, clauseFits};
 ghost use Rattle.search.specs.Marks.{MarksBelow};
-use rows::wide;
+use sat_trail::wide;
 
 // A mark for each variable, none in use.
 fn no_marks() -> [usize; 780]

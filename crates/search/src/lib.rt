@@ -4,14 +4,14 @@ ghost use mathlib.Core.Bool.{true};
 ghost use Prim.Native.Nat.{_≤_};
 ghost use Rattle.limits.specs.Limits.{standard, limitsFit};
 ghost use Rattle.pairs.specs.Pairs.{pairs};
-ghost use Rattle.solutions.specs.Answers.{Searched, searchAt, searchOf, SearchSays};
-ghost use Rattle.solutions.specs.Demands.{SearchSound};
-use engine::none_set;
-use engine::solve;
+ghost use Rattle.search_spec.specs.Answers.{Searched, searchAt, searchOf, SearchSays};
+ghost use Rattle.search_spec.specs.Demands.{SearchSound};
 use limits::Limits;
 use limits::limits_fit;
-use solutions::Solution;
-use turning::Ending;
+use sat_decide::Ending;
+use sat_solve::none_set;
+use sat_solve::solve;
+use search_spec::Solution;
 
 mod fits;
 

@@ -10,14 +10,14 @@ use lib.ListN.{length, getD, take, drop, replicate, length-append, length-drop, 
 use lib.Seq.{paste, drop-cons, drop-drop, take-all, take-append-add, drop-append-add, length-take-le, length-paste, take-paste, drop-paste}
 use Rattle.lists.specs.Lists.{gather, over, sum}
 use Rattle.limits.specs.declared.Limits.{Limits}
-use Rattle.reductions.specs.Reduce.{Reduced, reduceOf, reductionValues}
-use Rattle.reductions.specs.declared.Reduction.{Reduction}
-use Rattle.reductions.specs.declared.Reduction.the-variants.{Delivered, Refused}
-use Rattle.seasons.specs.Seasons.{row, guessesIn, mapTaken, outTaken, Reductions, reductionsFrom, lengthsFit}
-use Rattle.seasons.proofs.Lone.{leaves}
+use Rattle.reduce_spec.specs.Reduce.{Reduced, reduceOf, reductionValues}
+use Rattle.reduce_spec.specs.declared.Reduction.{Reduction}
+use Rattle.reduce_spec.specs.declared.Reduction.the-variants.{Delivered, Refused}
+use Rattle.season_spec.specs.Seasons.{row, guessesIn, mapTaken, outTaken, Reductions, reductionsFrom, lengthsFit}
+use Rattle.season_spec.proofs.Lone.{leaves}
 use Rattle.season.specs.declared.Turn.{Turn}
 use Rattle.season.specs.Turns.{Turned, Ran}
-use Rattle.season.proofs.Lengths.{fitting, sum-next}
+use Rattle.season.proofs.Sums.{fitting, sum-next}
 
 -- ---- a row among the values
 

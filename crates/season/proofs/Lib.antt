@@ -1,4 +1,4 @@
-pub mod Lengths
+pub mod Sums
 pub mod Turning
 pub mod Going
 pub mod Seasons

@@ -9,8 +9,8 @@ use lib.ListN.{length}
 use Rattle.lists.proofs.Refusals.{passes, fails, no-test, refuses, not-refused}
 use Rattle.limits.specs.declared.Limits.{Limits}
 use Rattle.limits.specs.Limits.{limitsFit}
-use Rattle.seasons.specs.declared.Season.{Season}
-use Rattle.seasons.specs.Seasons.{shareOf, lengthsFit, seasonNumber, SeasonDone, refusedBy, seasonOf}
+use Rattle.season_spec.specs.declared.Season.{Season}
+use Rattle.season_spec.specs.Seasons.{shareOf, lengthsFit, seasonNumber, SeasonDone, refusedBy, seasonOf}
 use Rattle.season.specs.Turns.{Ran}
 
 -- the shares of all tables are within the guesses

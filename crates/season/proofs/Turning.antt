@@ -5,14 +5,14 @@ use mathlib.Core.List.{List, [], _∷_}
 use Prim.Native.Nat.{ℕ}
 use native.Mathlib.Omega.{arith}
 use Rattle.limits.specs.declared.Limits.{Limits}
-use Rattle.format.specs.Reading.{Readable}
-use Rattle.scripts.specs.Script.{yesValue}
+use Rattle.table_spec.specs.Reading.{Readable}
+use Rattle.script_spec.specs.Script.{yesValue}
 use Rattle.lists.specs.Lists.{over}
-use Rattle.reductions.specs.Reduce.{Reduced, reduceOf, reductionNumber, reductionValues}
-use Rattle.reductions.specs.declared.Reduction.{Reduction}
-use Rattle.reductions.specs.declared.Reduction.the-variants.{Delivered, Refused}
-use Rattle.reductions.proofs.Ways.{Ways, refused-first, refused-short, delivers, reduce-ways}
-use Rattle.seasons.specs.Seasons.{row, guessesIn, mapTaken, outTaken}
+use Rattle.reduce_spec.specs.Reduce.{Reduced, reduceOf, reductionNumber, reductionValues}
+use Rattle.reduce_spec.specs.declared.Reduction.{Reduction}
+use Rattle.reduce_spec.specs.declared.Reduction.the-variants.{Delivered, Refused}
+use Rattle.reduce_spec.proofs.Ways.{Ways, refused-first, refused-short, delivers, reduce-ways}
+use Rattle.season_spec.specs.Seasons.{row, guessesIn, mapTaken, outTaken}
 use Rattle.reduce.specs.States.{statesOf}
 use Rattle.reduce.proofs.States.{readable-states}
 use Rattle.season.specs.Turns.{Turned}

@@ -5,8 +5,8 @@ use Prim.Native.Nat.{ℕ}
 use lib.ListN.{length, replicate}
 use Rattle.lists.specs.Lists.{gather, over}
 use Rattle.limits.specs.declared.Limits.{Limits}
-use Rattle.reductions.specs.Reduce.{reduceOf}
-use Rattle.seasons.specs.Seasons.{row, guessesIn, mapTaken, outTaken, reductionsFrom}
+use Rattle.reduce_spec.specs.Reduce.{reduceOf}
+use Rattle.season_spec.specs.Seasons.{row, guessesIn, mapTaken, outTaken, reductionsFrom}
 use Rattle.season.specs.declared.Turn.{Turn}
 
 -- the turn of table b: its row, what it took, and its buffers at exit

@@ -1,6 +1,6 @@
 // The lengths of the tables of a season.
 ghost use mathlib.Core.Path.{_≡_};
-ghost use Rattle.seasons.specs.Seasons.{lengthsFit};
+ghost use Rattle.season_spec.specs.Seasons.{lengthsFit};
 
 // 34: one to 8 tables whose lengths add up to so many bytes, without wrapping.
 pub fn lengths_fit(all: usize, lengths: &[u64]) -> bool

@@ -5,14 +5,14 @@ ghost use Prim.Native.Nat.{_*_, _<_, _^_};
 ghost use lib.ListN.{length};
 ghost use lib.Seq.{paste};
 ghost use Rattle.limits.specs.Limits.{standard};
-ghost use Rattle.seasons.specs.Seasons.{lengthsFit, SeasonDone, refusedBy, seasonOf};
-ghost use Rattle.seasons.specs.Demands.{SeasonPromises};
+ghost use Rattle.season_spec.specs.Seasons.{lengthsFit, SeasonDone, refusedBy, seasonOf};
+ghost use Rattle.season_spec.specs.Demands.{SeasonPromises};
 ghost use Rattle.season.specs.Turns.{Turned, Ran};
+use capi_values::yes_value;
 use limits::Limits;
 use reduce::state_count;
-use reductions::Reduction;
-use seasons::Season;
-use stored::yes_value;
+use reduce_spec::Reduction;
+use season_spec::Season;
 
 mod lengths;
 

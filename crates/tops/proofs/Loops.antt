@@ -16,12 +16,12 @@ use Rattle.lists.specs.Lists.{same}
 use Rattle.lists.specs.Bits.{has, onesOver}
 use Rattle.lists.proofs.Members.{same-true}
 use Rattle.limits.specs.Limits.{stateMost}
-use Rattle.format.specs.File.{Table, records}
-use Rattle.keyed.proofs.Walks.{records-cons, records-end}
-use Rattle.reach.specs.Tops.{add, live, byInternals, byCalls, byReturns, round, rounds}
+use Rattle.table_spec.specs.File.{Table, records}
+use Rattle.table_find.proofs.Walks.{records-cons, records-end}
+use Rattle.tops_spec.specs.Tops.{add, live, byInternals, byCalls, byReturns, round, rounds}
 use Rattle.tops.specs.declared.Kind.{Kind}
 use Rattle.tops.specs.declared.Kind.the-variants.{Internal, Call, Return}
-use Rattle.reach.proofs.Walks.{length-add}
+use Rattle.tops_spec.proofs.Walks.{length-add}
 use Rattle.tops.specs.Steps.{StateRecords, widthOf, stepBy, byRecords, total}
 
 -- ---- records

@@ -13,14 +13,14 @@ use Rattle.lists.specs.Bits.{has, hasBit, onesOver}
 use Rattle.lists.proofs.Members.{same-refl}
 use Rattle.lists.proofs.Words.{getD-padded}
 use Rattle.limits.specs.Limits.{stateMost}
-use Rattle.format.specs.File.{Table, records}
-use Rattle.format.specs.Language.{count}
-use Rattle.format.proofs.Bytes.{records-wide}
-use Rattle.view.specs.Sections.{sectioned}
-use Rattle.reach.specs.Tops.{add, live, byInternals, byCalls, byReturns, round, rounds, startWords, topWords, topWordsAt}
-use Rattle.reach.proofs.Bounded.{Bounded, Moves, Pops}
-use Rattle.reach.proofs.Count.{count-ones, ones-first}
-use Rattle.reach.proofs.Walks.{internalStep, callStep, returnStep, walk, round-walk, Grows, internal-grows, call-grows, return-grows, walk-wide}
+use Rattle.table_spec.specs.File.{Table, records}
+use Rattle.table_spec.specs.Language.{count}
+use Rattle.table_spec.proofs.Bytes.{records-wide}
+use Rattle.table_view.specs.Sections.{sectioned}
+use Rattle.tops_spec.specs.Tops.{add, live, byInternals, byCalls, byReturns, round, rounds, startWords, topWords, topWordsAt}
+use Rattle.tops_spec.proofs.Bounded.{Bounded, Moves, Pops}
+use Rattle.tops_spec.proofs.Count.{count-ones, ones-first}
+use Rattle.tops_spec.proofs.Walks.{internalStep, callStep, returnStep, walk, round-walk, Grows, internal-grows, call-grows, return-grows, walk-wide}
 use Rattle.tops.specs.Steps.{StateRecords, StateParts, topsFound}
 
 same-append : (f g z : List ℕ) → length f ≡ length g → same (f ++ z) (g ++ z) ≡ same f g

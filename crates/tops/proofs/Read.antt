@@ -11,21 +11,21 @@ use Rattle.lists.specs.Lists.{same}
 use Rattle.lists.specs.Bits.{onesOver}
 use Rattle.limits.specs.declared.Limits.{Limits}
 use Rattle.limits.specs.Limits.{stateMost}
-use Rattle.format.specs.File.{Table, trailer, start, tableOf}
-use Rattle.format.specs.Reading.{readNumber, Readable, readOf}
-use Rattle.format.specs.declared.Starts.{Starts}
-use Rattle.format.specs.declared.Reading.the-variants.{Sections as SectionsAt, Refused as RefusedBy}
-use Rattle.format.proofs.Passed.{ReadPasses, read-passed}
-use Rattle.format.proofs.Bytes.{length-between, length-from, read-well-formed}
-use Rattle.format.proofs.Facts.{internals-fit, calls-fit, returns-fit, most-states}
-use Rattle.view.specs.Sections.{sectioned, partOf, HasRead}
-use Rattle.view.specs.declared.Section.the-variants.{States, Internals, Calls, Returns}
-use Rattle.view.proofs.Parts.{states-at, internals-at, calls-at, returns-at}
-use Rattle.view.proofs.Handed.{read-as, read-refused}
-use Rattle.reach.specs.Tops.{round, rounds, startWords, topWords, topWordsAt, topCount, topsOf}
-use Rattle.reach.specs.Demands.{TopsExact}
-use Rattle.reach.specs.declared.TopWords.{TopWords}
-use Rattle.reach.proofs.Theorems.{tops-exact}
+use Rattle.table_spec.specs.File.{Table, trailer, start, tableOf}
+use Rattle.table_spec.specs.Reading.{readNumber, Readable, readOf}
+use Rattle.table_spec.specs.declared.Starts.{Starts}
+use Rattle.table_spec.specs.declared.Reading.the-variants.{Sections as SectionsAt, Refused as RefusedBy}
+use Rattle.table_spec.proofs.Passed.{ReadPasses, read-passed}
+use Rattle.table_spec.proofs.Bytes.{length-between, length-from, read-well-formed}
+use Rattle.table_spec.proofs.Facts.{internals-fit, calls-fit, returns-fit, most-states}
+use Rattle.table_view.specs.Sections.{sectioned, partOf, HasRead}
+use Rattle.table_view.specs.declared.Section.the-variants.{States, Internals, Calls, Returns}
+use Rattle.table_view.proofs.Parts.{states-at, internals-at, calls-at, returns-at}
+use Rattle.table_view.proofs.Handed.{read-as, read-refused}
+use Rattle.tops_spec.specs.Tops.{round, rounds, startWords, topWords, topWordsAt, topCount, topsOf}
+use Rattle.tops_spec.specs.Demands.{TopsExact}
+use Rattle.tops_spec.specs.declared.TopWords.{TopWords}
+use Rattle.tops_spec.proofs.Theorems.{tops-exact}
 use Rattle.tops.specs.Steps.{StateParts, topsFound, examinedOf}
 use Rattle.tops.specs.declared.Examined.{Examined}
 

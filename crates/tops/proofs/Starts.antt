@@ -8,8 +8,8 @@ use lib.ListN.{length, getD, take, drop, set, replicate, length-map, length-appe
 use lib.Seq.{length-take-le, take-suc, take-all, append-snoc, set-at}
 use borrow.Author.Fill.{fill-none, fill-more}
 use Rattle.limits.specs.Limits.{stateMost}
-use Rattle.view.specs.Sections.{sectioned}
-use Rattle.reach.specs.Tops.{startWords}
+use Rattle.table_view.specs.Sections.{sectioned}
+use Rattle.tops_spec.specs.Tops.{startWords}
 use Rattle.tops.specs.First.{startWord}
 
 -- ---- the words cleared

@@ -15,12 +15,12 @@ use Rattle.lists.specs.Lists.{same}
 use Rattle.lists.proofs.Members.{same-refl, same-true}
 use Rattle.lists.proofs.Words.{getD-padded}
 use Rattle.limits.specs.Limits.{stateMost}
-use Rattle.format.specs.File.{Table}
-use Rattle.format.specs.Reading.{isInitial}
-use Rattle.view.specs.Sections.{sectioned}
-use Rattle.reach.specs.Tops.{add, live, byInternals, byCalls, byReturns, round, startWords}
-use Rattle.reach.proofs.Bounded.{Bounded}
-use Rattle.reach.proofs.Walks.{internalStep, callStep, returnStep, round-walk, walk-keeps, length-add}
+use Rattle.table_spec.specs.File.{Table}
+use Rattle.table_spec.specs.Reading.{isInitial}
+use Rattle.table_view.specs.Sections.{sectioned}
+use Rattle.tops_spec.specs.Tops.{add, live, byInternals, byCalls, byReturns, round, startWords}
+use Rattle.tops_spec.proofs.Bounded.{Bounded}
+use Rattle.tops_spec.proofs.Walks.{internalStep, callStep, returnStep, round-walk, walk-keeps, length-add}
 use Rattle.tops.specs.Steps.{StateParts, Small, total, sumOf}
 use Rattle.tops.proofs.Padded.{sections-bounded}
 use Rattle.tops.proofs.Loops.{Resting, rest-on, rested}

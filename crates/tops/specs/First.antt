@@ -2,7 +2,7 @@
 use mathlib.Core.Bool.{true, false}
 use Prim.Native.Nat.{ℕ, _^_}
 use Rattle.limits.specs.Limits.{stateMost}
-use Rattle.format.specs.Reading.{isInitial}
+use Rattle.table_spec.specs.Reading.{isInitial}
 
 -- a state's first word, by its byte
 unfoldable pub startWord : ℕ → ℕ

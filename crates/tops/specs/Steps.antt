@@ -9,10 +9,10 @@ use lib.Dec.{eqb}
 use Rattle.lists.specs.Bits.{has}
 use Rattle.limits.specs.declared.Limits.{Limits}
 use Rattle.limits.specs.Limits.{stateMost}
-use Rattle.format.specs.File.{Table, records, tableOf}
-use Rattle.format.specs.Reading.{readNumber, startsOf}
-use Rattle.reach.specs.declared.TopWords.{TopWords}
-use Rattle.reach.specs.Tops.{add, byInternals, byCalls, byReturns, topWords, topCount}
+use Rattle.table_spec.specs.File.{Table, records, tableOf}
+use Rattle.table_spec.specs.Reading.{readNumber, startsOf}
+use Rattle.tops_spec.specs.declared.TopWords.{TopWords}
+use Rattle.tops_spec.specs.Tops.{add, byInternals, byCalls, byReturns, topWords, topCount}
 use Rattle.tops.specs.declared.Examined.{Examined}
 use Rattle.tops.specs.declared.Kind.{Kind}
 use Rattle.tops.specs.declared.Kind.the-variants.{Internal, Call, Return}

@@ -4,8 +4,8 @@ ghost use Prim.Native.Nat.{_-_, _^_, _<_, _≤_};
 ghost use mathlib.Core.List.{[], _++_};
 ghost use lib.ListN.{length, replicate};
 ghost use Rattle.limits.specs.Limits.{stateMost};
-ghost use Rattle.view.specs.Sections.{sectioned};
-ghost use Rattle.reach.specs.Tops.{startWords};
+ghost use Rattle.table_view.specs.Sections.{sectioned};
+ghost use Rattle.tops_spec.specs.Tops.{startWords};
 ghost use Rattle.tops.specs.First.{startWord};
 
 // The word whose only bit is x.

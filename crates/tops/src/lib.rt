@@ -6,16 +6,16 @@ ghost use lib.ListN.{length, take};
 ghost use lib.Count.{onesIn};
 ghost use Rattle.lists.specs.Bits.{has, onesOver};
 ghost use Rattle.limits.specs.Limits.{standard};
-ghost use Rattle.format.specs.File.{records, tableOf};
-ghost use Rattle.view.specs.Sections.{sectioned, HasRead};
-ghost use Rattle.reach.specs.Tops.{add, rounds, topWords, topsOf};
-ghost use Rattle.reach.specs.Demands.{TopsExact};
+ghost use Rattle.table_spec.specs.File.{records, tableOf};
+ghost use Rattle.table_view.specs.Sections.{sectioned, HasRead};
+ghost use Rattle.tops_spec.specs.Tops.{add, rounds, topWords, topsOf};
+ghost use Rattle.tops_spec.specs.Demands.{TopsExact};
 ghost use Rattle.tops.specs.Steps.{StateRecords, StateParts, Small, sumOf, widthOf, stepBy, byRecords, topsFound, examinedOf};
-use format::Reading;
-use format::Starts;
+use bits::wide;
 use limits::Limits;
-use reach::TopWords;
-use words::wide;
+use table_spec::Reading;
+use table_spec::Starts;
+use tops_spec::TopWords;
 
 mod initial;
 
@@ -120,7 +120,7 @@ fn sum_of(words: &[u64]) -> u64
     sum
 }
 
-// All records pass until a round changes nothing: words only gain tops, so their sum tells. So many rounds are enough (reach/proofs/Exact).
+// All records pass until a round changes nothing: words only gain tops, so their sum tells. So many rounds are enough (tops_spec/proofs/Exact).
 fn fixpoint(states: &[u8], internals: &[u8], calls: &[u8], returns: &[u8], words: &mut [u64])
     requires { ⌜ StateParts (now states) (now internals) (now calls) (now returns) × Small (now words) ⌝ }
     ensures { λ _. ⌜
@@ -191,10 +191,10 @@ pub fn tops_read(table: &[u8], starts: Starts, words: &mut [u64]) -> u32
     ensures { λ r. ⌜ record { number = 0; words = now (words .exit); found = r } ≡ topsFound (tableOf (now (table .entry))) ⌝ }
 {
     tops_of(
-        view::part(table, starts, view::Section::States),
-        view::part(table, starts, view::Section::Internals),
-        view::part(table, starts, view::Section::Calls),
-        view::part(table, starts, view::Section::Returns),
+        table_view::part(table, starts, table_view::Section::States),
+        table_view::part(table, starts, table_view::Section::Internals),
+        table_view::part(table, starts, table_view::Section::Calls),
+        table_view::part(table, starts, table_view::Section::Returns),
         words,
     )
 }
@@ -203,7 +203,7 @@ pub fn tops_read(table: &[u8], starts: Starts, words: &mut [u64]) -> u32
 pub fn examine(limits: Limits, table: &[u8]) -> Examined
     ensures { λ r. ⌜ r ≡ examinedOf limits (now (table .entry)) ⌝ }
 {
-    let reading = table::read_within(limits, table);
+    let reading = read::read_within(limits, table);
     match reading {
         Reading::Sections(starts) => {
             let mut words = [0u64; 40];
@@ -235,7 +235,7 @@ pub fn tops_within(limits: Limits, table: &[u8]) -> TopWords
     ensures answers { λ r. ⌜ r ≡ topsOf limits (now (table .entry)) ⌝ }
     ensures exact { λ r. ⌜ TopsExact limits (now (table .entry)) r ⌝ }
 {
-    let reading = table::read_within(limits, table);
+    let reading = read::read_within(limits, table);
     match reading {
         Reading::Sections(starts) => {
             let mut words = [0u64; 40];

@@ -11,12 +11,12 @@ use borrow.Author.Tests.{eqb-true, eqb-false}
 use Rattle.lists.specs.Lists.{keep, sum}
 use Rattle.lists.proofs.Members.{zeros}
 use Rattle.limits.specs.Limits.{stateMost}
-use Rattle.format.specs.File.{records}
-use Rattle.format.specs.Maps.{classOf}
-use Rattle.keyed.proofs.Walks.{record-on, records-end}
-use Rattle.usage.specs.Uses.{Line, lineOf, linesOf, usesIn, classSum, classSums, counted}
-use Rattle.usage.specs.Demands.{Fits}
-use Rattle.usage.proofs.Sums.{weigh, sum-first, length-sums, sum-at}
+use Rattle.table_spec.specs.File.{records}
+use Rattle.table_spec.specs.Maps.{classOf}
+use Rattle.table_find.proofs.Walks.{record-on, records-end}
+use Rattle.uses_spec.specs.Uses.{Line, lineOf, linesOf, usesIn, classSum, classSums, counted}
+use Rattle.uses_spec.specs.Demands.{Fits}
+use Rattle.uses_spec.proofs.Sums.{weigh, sum-first, length-sums, sum-at}
 
 -- ---- the lines from a place on
 

@@ -4,12 +4,12 @@ ghost use Prim.Native.Nat.{_*_, _≤_};
 ghost use lib.ListN.{length};
 ghost use Rattle.lists.specs.Lists.{firstFailed};
 ghost use Rattle.limits.specs.Limits.{standard};
-ghost use Rattle.usage.specs.Uses.{linesTests, counted, refusedBy, answerBy, usesOf};
-ghost use Rattle.usage.specs.Demands.{Fits, Promises};
+ghost use Rattle.uses_spec.specs.Uses.{linesTests, counted, refusedBy, answerBy, usesOf};
+ghost use Rattle.uses_spec.specs.Demands.{Fits, Promises};
 ghost use Rattle.uses.specs.Classes.{FewClasses};
+use check_spec::Checked;
 use limits::Limits;
-use relations::Checked;
-use usage::Counted;
+use uses_spec::Counted;
 
 mod lines;
 
@@ -32,7 +32,7 @@ fn add_lines(lines: &[u8], map: &[u8]) -> Counted
     'lines: while LINE <= lines.len() - at {
         let next = at + LINE;
         let uses = uses_in(&lines[at..next]);
-        let class = words::wide(numbering::class_of(map, state_in(&lines[at..next])));
+        let class = bits::wide(check_numbering::class_of(map, state_in(&lines[at..next])));
         sums[class] += uses;
         total += uses;
         at = next;
@@ -73,7 +73,7 @@ pub fn uses_within(limits: Limits, table: &[u8], map: &[u8], lines: &[u8]) -> Co
     ensures answers { λ r. ⌜ r ≡ usesOf limits (now (table .entry)) (now (map .entry)) (now (lines .entry)) ⌝ }
     ensures promises { λ r. ⌜ Promises limits (now (table .entry)) (now (map .entry)) (now (lines .entry)) r ⌝ }
 {
-    let checked = maps::check_within(limits, table, map);
+    let checked = check_map::check_within(limits, table, map);
     match checked {
         Checked::Accepted(_) => uses_under(map, lines),
         Checked::Refused(number) => refused(number),

@@ -3,9 +3,9 @@ ghost use mathlib.Core.Path.{_≡_};
 ghost use Prim.Native.Nat.{_≤_};
 ghost use lib.ListN.{length};
 ghost use Rattle.lists.specs.Lists.{firstFailed};
-ghost use Rattle.usage.specs.Uses.{lineOf, statesFit, linesTests};
-use words::long;
-use words::wide;
+ghost use Rattle.uses_spec.specs.Uses.{lineOf, statesFit, linesTests};
+use bits::long;
+use bits::wide;
 
 // The bytes of a line: "a state (one byte) and a use count (32 bits, little-endian)".
 const LINE: usize = 5;

@@ -1,10 +1,10 @@
 -- `basilvault::put_going` meets its contract: nothing is refused. Assumes nothing.
 use native.Mathlib.Omega.{arith}
 use mathlib.Core.Path.{sym, ap, _∙_}
-use Rattle.printed.specs.Program.{widest}
-use Rattle.printed.specs.Text.{recordedText}
-use Rattle.lines.proofs.Putting.{put-none, put-same}
-use Rattle.printed.proofs.Going.{going-told}
+use Rattle.print_spec.specs.Program.{widest}
+use Rattle.print_spec.specs.Text.{recordedText}
+use Rattle.print_lines.proofs.Putting.{put-none, put-same}
+use Rattle.print_spec.proofs.Going.{going-told}
 use borrow.Author.Needs.{needs}
 use Rattle.basilvault.proofs.put_going.Statement.{statement}
 use Rattle.basilvault.proofs.put_going.Tie as tie

@@ -4,16 +4,16 @@ use Prim.Native.Nat.{ℕ, _≤_}
 use native.Mathlib.Omega.{arith}
 use lib.ListN.{length, take, length-take, length-replicate}
 use lib.Seq.{length-take-le}
-use Rattle.format.specs.File.{tableOf}
-use Rattle.format.specs.Language.{count}
-use Rattle.relations.specs.Check.{checkNumber}
-use Rattle.reductions.proofs.Theorems.{delivered-fits}
+use Rattle.table_spec.specs.File.{tableOf}
+use Rattle.table_spec.specs.Language.{count}
+use Rattle.check_spec.specs.Check.{checkNumber}
+use Rattle.reduce_spec.proofs.Theorems.{delivered-fits}
 use Rattle.reduce.specs.States.{statesOf}
 use Rattle.reduce.proofs.States.{readable-states}
-use Rattle.printed.specs.Program.{widest}
-use Rattle.printed.specs.Lines.{refusedText}
-use Rattle.lines.proofs.Putting.{put-on, put-whole}
-use Rattle.printed.proofs.Going.{delivered-checked, map-checked, delivered-text, refused-text}
+use Rattle.print_spec.specs.Program.{widest}
+use Rattle.print_spec.specs.Lines.{refusedText}
+use Rattle.print_lines.proofs.Putting.{put-on, put-whole}
+use Rattle.print_spec.proofs.Going.{delivered-checked, map-checked, delivered-text, refused-text}
 use borrow.Author.Needs.{needs}
 use Rattle.basilvault.proofs.reduce_lent.Statement.{statement}
 use Rattle.basilvault.proofs.reduce_lent.Tie as tie

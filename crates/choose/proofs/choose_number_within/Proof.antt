@@ -1,5 +1,5 @@
 -- `choose::choose_number_within` meets its contract: the number that was decided. Assumes nothing.
-use Rattle.choices.proofs.Choosing.{number-decided, neither-passes, zero-tells}
+use Rattle.choose_spec.proofs.Choosing.{number-decided, neither-passes, zero-tells}
 use borrow.Author.Needs.{needs}
 use Rattle.choose.proofs.choose_number_within.Statement.{statement}
 use Rattle.choose.proofs.choose_number_within.Tie as tie

@@ -1,5 +1,5 @@
 -- `choose::choose_within` meets its contract: the first map, the second, or the empty part of the first. Assumes nothing.
-use Rattle.choices.proofs.Choosing.{decided, hand-none, hand-first, hand-second}
+use Rattle.choose_spec.proofs.Choosing.{decided, hand-none, hand-first, hand-second}
 use borrow.Author.Needs.{needs}
 use Rattle.choose.proofs.choose_within.Statement.{statement}
 use Rattle.choose.proofs.choose_within.Tie as tie

@@ -1,7 +1,7 @@
 -- `choose::decide_within` meets its contract: refused by reading, by 40, or decided. Assumes nothing.
 use mathlib.Core.Path.{sym, _∙_}
-use Rattle.maps.proofs.Checking.{read-readable, read-known}
-use Rattle.choices.proofs.Choosing.{told, decide-neither, decide-first, decide-second}
+use Rattle.check_map.proofs.Checking.{read-readable, read-known}
+use Rattle.choose_spec.proofs.Choosing.{told, decide-neither, decide-first, decide-second}
 use Rattle.choose.proofs.Unread.{decide-unread}
 use borrow.Author.Needs.{needs}
 use Rattle.choose.proofs.decide_within.Statement.{statement}

@@ -1,7 +1,7 @@
 -- `choose::which_known` meets its contract: the map's tests of both, and their class counts where both pass. Assumes nothing.
 use mathlib.Core.Path.{refl}
-use Rattle.relations.proofs.Answers.{tested, check-refused, check-accepted}
-use Rattle.choices.proofs.Choosing.{pick-neither, pick-second, pick-first, pick-fewer, pick-few}
+use Rattle.check_spec.proofs.Answers.{tested, check-refused, check-accepted}
+use Rattle.choose_spec.proofs.Choosing.{pick-neither, pick-second, pick-first, pick-fewer, pick-few}
 use borrow.Author.Needs.{needs}
 use Rattle.choose.proofs.which_known.Statement.{statement}
 use Rattle.choose.proofs.which_known.Tie as tie

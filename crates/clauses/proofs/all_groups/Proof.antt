@@ -1,6 +1,6 @@
 -- `clauses::all_groups` meets its contract. Assumes nothing.
 use native.Mathlib.Omega.{arith}
-use Rattle.emit.proofs.Emitting.{ordered-by}
+use Rattle.clauses_emit.proofs.Emitting.{ordered-by}
 use Rattle.clauses.proofs.Whole.{groups}
 use borrow.Author.Needs.{needs}
 use Rattle.clauses.proofs.all_groups.Statement.{statement}

@@ -1,7 +1,7 @@
 -- `clauses::clauses_within` meets its contract: reading first, then the list. Assumes nothing.
 use mathlib.Core.Path.{_∙_}
-use Rattle.maps.proofs.Checking.{read-known, read-readable}
-use Rattle.encoding.proofs.Theorems.{promised}
+use Rattle.check_map.proofs.Checking.{read-known, read-readable}
+use Rattle.clauses_spec.proofs.Theorems.{promised}
 use Rattle.clauses.proofs.Whole.{listed, unread}
 use borrow.Author.Needs.{needs}
 use Rattle.clauses.proofs.clauses_within.Statement.{statement}

@@ -1,5 +1,5 @@
 -- `clauses::list_read` meets its contract: the parts handed on are the file's sections. Assumes nothing.
-use Rattle.index.proofs.Parts.{parts-lent}
+use Rattle.table_index.proofs.Parts.{parts-lent}
 use Rattle.clauses.proofs.Whole.{parts-listed}
 use borrow.Author.Needs.{needs}
 use Rattle.clauses.proofs.list_read.Statement.{statement}

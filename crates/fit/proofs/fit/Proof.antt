@@ -1,8 +1,8 @@
 -- `fit::fit` meets its contract: the first table's refusal, or the answer for a first table that was read. Assumes nothing.
 use borrow.Author.Needs.{needs}
 use mathlib.Core.Path.{sym, _∙_}
-use Rattle.view.proofs.Handed.{read-as, read-refused}
-use Rattle.fitting.proofs.Theorems.{promised}
+use Rattle.table_view.proofs.Handed.{read-as, read-refused}
+use Rattle.fit_spec.proofs.Theorems.{promised}
 use Rattle.fit.proofs.Answers.{first-refused}
 use Rattle.fit.proofs.fit.Statement.{statement}
 use Rattle.fit.proofs.fit.Tie as tie

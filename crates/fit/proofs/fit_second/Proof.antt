@@ -1,7 +1,7 @@
 -- `fit::fit_second` meets its contract: the second table's refusal, or the answer for both. Assumes nothing.
 use borrow.Author.Needs.{needs}
 use mathlib.Core.Path.{sym, _∙_}
-use Rattle.view.proofs.Handed.{read-as, read-refused}
+use Rattle.table_view.proofs.Handed.{read-as, read-refused}
 use Rattle.fit.proofs.Answers.{second-refused}
 use Rattle.fit.proofs.fit_second.Statement.{statement}
 use Rattle.fit.proofs.fit_second.Tie as tie

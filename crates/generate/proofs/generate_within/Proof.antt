@@ -1,8 +1,8 @@
 -- `generate::generate_within` meets its contract: 39, 35, or what the draws give. Assumes nothing.
 use borrow.Author.Tests.{not-true, not-false}
 use mathlib.Core.Path.{sym, _∙_}
-use Rattle.loads.specs.Loads.{Load, loadOf}
-use Rattle.loads.proofs.Theorems.{generated}
+use Rattle.generate_spec.specs.Loads.{Load, loadOf}
+use Rattle.generate_spec.proofs.Theorems.{generated}
 use Rattle.generate.proofs.Writing.{no-limits, no-sizes, small, drawn}
 use borrow.Author.Needs.{needs}
 use Rattle.generate.proofs.generate_within.Statement.{statement}

@@ -1,7 +1,7 @@
 -- `generate::sizes_fit` meets its contract: each test is one of the four. Assumes nothing.
 use native.Mathlib.Omega.{arith}
 use Prim.Native.Nat.{_+_}
-use Rattle.loads.proofs.Bytes.{no-states, many-states, many-symbols, by-density}
+use Rattle.generate_spec.proofs.Bytes.{no-states, many-states, many-symbols, by-density}
 use borrow.Author.Needs.{needs}
 use Rattle.generate.proofs.sizes_fit.Statement.{statement}
 use Rattle.generate.proofs.sizes_fit.Tie as tie

@@ -3,9 +3,9 @@ use borrow.Author.Tests.{not-true, not-false}
 use mathlib.Core.Path.{refl}
 use mathlib.Core.Logic.{inl, inr}
 use native.Mathlib.Omega.{arith}
-use Rattle.writing.proofs.Keys.{holds-long}
+use Rattle.table_write.proofs.Keys.{holds-long}
 use Rattle.generate.proofs.Drawing.{held-all}
-use Rattle.loads.specs.Loads.{Load, loadOf}
+use Rattle.generate_spec.specs.Loads.{Load, loadOf}
 use Rattle.generate.proofs.Keyed.{held, internals-many, calls-many, returns-many, few-keys, few-drawn}
 use borrow.Author.Needs.{needs}
 use Rattle.generate.proofs.write_drawn.Statement.{statement}

@@ -1,6 +1,6 @@
 -- `quotient::quotient_known` meets its contract: refused by the map's tests, or by its length, or written. Assumes nothing.
 use mathlib.Core.Path.{_∙_}
-use Rattle.relations.proofs.Answers.{tested}
+use Rattle.check_spec.proofs.Answers.{tested}
 use Rattle.quotient.proofs.Quotienting.{quotient-refused, quotient-written}
 use borrow.Author.Needs.{needs}
 use Rattle.quotient.proofs.quotient_known.Statement.{statement}

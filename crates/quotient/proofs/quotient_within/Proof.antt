@@ -1,6 +1,6 @@
 -- `quotient::quotient_within` meets its contract: refused by reading, or as a table that was read. Assumes nothing.
-use Rattle.maps.proofs.Checking.{read-readable, read-known, unread}
-use Rattle.quotients.proofs.Theorems.{promised}
+use Rattle.check_map.proofs.Checking.{read-readable, read-known, unread}
+use Rattle.quotient_spec.proofs.Theorems.{promised}
 use Rattle.quotient.proofs.Quotienting.{quotient-refused}
 use borrow.Author.Needs.{needs}
 use Rattle.quotient.proofs.quotient_within.Statement.{statement}

@@ -1,6 +1,6 @@
 -- `quotient::write_parts` meets its contract: too short, or written. Assumes nothing.
-use Rattle.format.specs.File.{ofStates}
-use Rattle.writing.proofs.Keys.{holds-long}
+use Rattle.table_spec.specs.File.{ofStates}
+use Rattle.table_write.proofs.Keys.{holds-long}
 use Rattle.quotient.proofs.Quotienting.{Few, counts-few, states-put, fits, short, put}
 use native.Mathlib.Omega.{arith}
 use borrow.Author.Needs.{needs}

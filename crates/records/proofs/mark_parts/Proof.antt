@@ -1,7 +1,7 @@
 -- `records::mark_parts` meets its contract: what is still to be written behind each section. Assumes nothing.
 use native.Mathlib.Omega.{arith}
 use Rattle.records.proofs.Telling.{fresh-room, internals-told, calls-room, calls-told, returns-room, returns-told}
-use Rattle.marks.proofs.Spans.{records-count}
+use Rattle.records_fates.proofs.Spans.{records-count}
 use borrow.Author.Needs.{needs}
 use Rattle.records.proofs.mark_parts.Statement.{statement}
 use Rattle.records.proofs.mark_parts.Tie as tie

@@ -1,7 +1,7 @@
 -- `records::records_known` meets its contract: refused by the map's tests, or told. Assumes nothing.
 use mathlib.Core.Path.{_∙_}
-use Rattle.relations.proofs.Answers.{tested}
-use Rattle.fates.proofs.Answers.{records-refused}
+use Rattle.check_spec.proofs.Answers.{tested}
+use Rattle.records_spec.proofs.Answers.{records-refused}
 use Rattle.records.proofs.Handed.{told-known}
 use borrow.Author.Needs.{needs}
 use Rattle.records.proofs.records_known.Statement.{statement}

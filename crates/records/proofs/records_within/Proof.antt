@@ -1,6 +1,6 @@
 -- `records::records_within` meets its contract: refused by reading, or as a table that was read. Assumes nothing.
-use Rattle.maps.proofs.Checking.{read-readable, read-known, unread}
-use Rattle.fates.proofs.Answers.{records-refused, promised}
+use Rattle.check_map.proofs.Checking.{read-readable, read-known, unread}
+use Rattle.records_spec.proofs.Answers.{records-refused, promised}
 use borrow.Author.Needs.{needs}
 use Rattle.records.proofs.records_within.Statement.{statement}
 use Rattle.records.proofs.records_within.Tie as tie

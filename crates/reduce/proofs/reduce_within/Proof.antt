@@ -1,8 +1,8 @@
 -- `reduce::reduce_within` meets its contract: reading, then the map buffer, then the rest; and what is promised of a delivery. Assumes nothing.
 use mathlib.Core.Path.{sym}
 use native.Mathlib.Omega.{arith}
-use Rattle.maps.proofs.Checking.{examined-number, read-readable, read-known}
-use Rattle.reductions.proofs.Theorems.{promised}
+use Rattle.check_map.proofs.Checking.{examined-number, read-readable, read-known}
+use Rattle.reduce_spec.proofs.Theorems.{promised}
 use Rattle.reduce.proofs.Stages as laws
 use borrow.Author.Needs.{needs}
 use Rattle.reduce.proofs.reduce_within.Statement.{statement}

@@ -1,7 +1,7 @@
 -- `reduce::solve_listed` meets its contract: the search over the list and the classes, then what is made of the trial held. Assumes nothing.
 use mathlib.Core.Path.{sym, ap, _∙_}
 use lib.ListN.{length}
-use Rattle.engine.proofs.Prefixes.{prefix-length, prefix-room, prefix-size}
+use Rattle.sat_solve.proofs.Prefixes.{prefix-length, prefix-room, prefix-size}
 use Rattle.reduce.proofs.Stages as laws
 use borrow.Author.Needs.{needs}
 use Rattle.reduce.proofs.solve_listed.Statement.{statement}

@@ -2,7 +2,7 @@
 use borrow.Author.Needs.{needs}
 use mathlib.Core.Path.{sym, _∙_}
 use native.Mathlib.Omega.{arith}
-use Rattle.view.proofs.Handed.{read-as, read-refused}
+use Rattle.table_view.proofs.Handed.{read-as, read-refused}
 use Rattle.reduce.proofs.Stages.{states-count, states-few}
 use Rattle.reduce.proofs.States.{readable-states, unread-states}
 use Rattle.reduce.proofs.state_count.Statement.{statement}

@@ -1,11 +1,11 @@
 -- `script::read_known` meets its contract. Assumes nothing.
 use borrow.Author.Needs.{needs}
 use Rattle.script.proofs.Handed.{parts-symbols, parts-read, tests-fit}
-use Rattle.index.proofs.Parts.{parts-lent}
-use Rattle.scripts.proofs.Answers.{answered, refused}
-use Rattle.scripts.specs.Script.{scriptTests}
-use Rattle.scripts.specs.declared.Read.the-variants.{Refused}
-use Rattle.view.proofs.Parts.{symbols-read}
+use Rattle.table_index.proofs.Parts.{parts-lent}
+use Rattle.script_spec.proofs.Answers.{answered, refused}
+use Rattle.script_spec.specs.Script.{scriptTests}
+use Rattle.script_spec.specs.declared.Read.the-variants.{Refused}
+use Rattle.table_view.proofs.Parts.{symbols-read}
 use Rattle.lists.specs.Lists.{firstFailed}
 use mathlib.Core.Path.{sym, ap, _∙_}
 use Rattle.script.proofs.read_known.Statement.{statement}

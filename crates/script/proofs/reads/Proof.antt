@@ -1,15 +1,15 @@
 -- `script::reads` meets its contract. Assumes nothing.
 use borrow.Author.Needs.{needs}
-use Rattle.reach.specs.Tops.{startWords}
+use Rattle.tops_spec.specs.Tops.{startWords}
 use native.Mathlib.Omega.{arith}
 use mathlib.Core.Bool.{true, false}
 use mathlib.Core.List.{[]}
-use Rattle.format.specs.File.{records}
-use Rattle.scripts.specs.Script.{moved, returned, started, ended}
+use Rattle.table_spec.specs.File.{records}
+use Rattle.script_spec.specs.Script.{moved, returned, started, ended}
 use Rattle.script.proofs.Walking.{Walking, walking, walked, walked-open, room, walk-internal, walk-call, walk-none, walk-return}
 use Rattle.script.proofs.Depths.{symbol-inside}
 use Rattle.script.specs.Parts.{sectionsRead}
-use Rattle.view.specs.Sections.{sectioned}
+use Rattle.table_view.specs.Sections.{sectioned}
 use lib.ListN.{length, getD}
 use Prim.Native.Nat.{_-_}
 use mathlib.Core.Path.{refl, ap, _∙_}

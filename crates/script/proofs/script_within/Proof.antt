@@ -1,8 +1,8 @@
 -- `script::script_within` meets its contract. Assumes nothing.
 use borrow.Author.Needs.{needs}
-use Rattle.scripts.proofs.Promises.{promised}
-use Rattle.scripts.proofs.Answers.{script-read, script-unread}
-use Rattle.view.proofs.Handed.{read-as, read-refused}
+use Rattle.script_spec.proofs.Promises.{promised}
+use Rattle.script_spec.proofs.Answers.{script-read, script-unread}
+use Rattle.table_view.proofs.Handed.{read-as, read-refused}
 use mathlib.Core.Path.{sym, _∙_}
 use Rattle.script.proofs.script_within.Statement.{statement}
 use Rattle.script.proofs.script_within.Tie as tie

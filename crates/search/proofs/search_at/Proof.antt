@@ -7,9 +7,9 @@ use Prim.Native.Nat.{ℕ, _≤_}
 use borrow.Author.Tests.{not-true, not-false}
 use mathlib.Core.Bool.{true, false}
 use mathlib.Core.Path.{_≡_, sym, ap, _∙_}
-use Rattle.solutions.specs.Answers.{listFits}
-use Rattle.solutions.proofs.Answers as answers
-use Rattle.engine.proofs.Prefixes as prefixes
+use Rattle.search_spec.specs.Answers.{listFits}
+use Rattle.search_spec.proofs.Answers as answers
+use Rattle.sat_solve.proofs.Prefixes as prefixes
 use Rattle.search.proofs.Answering as laws
 use Rattle.lists.specs.Lists.{over}
 use lib.ListN.{length, take, drop}

@@ -4,7 +4,7 @@ use native.Mathlib.Omega.{arith}
 use borrow.Author.Needs.{needs}
 use borrow.Author.Tests.{not-true, not-false}
 use Rattle.pairs.proofs.Pairs.{few-pairs}
-use Rattle.solutions.proofs.Answers as answers
+use Rattle.search_spec.proofs.Answers as answers
 use Rattle.search.proofs.search_within.Statement.{statement}
 use Rattle.search.proofs.search_within.Tie as tie
 

@@ -1,6 +1,6 @@
 -- `season::refused` meets its contract: zeros beside the number. Assumes nothing.
 use borrow.Author.Needs.{needs}
-use Rattle.seasons.specs.Seasons.{refusedBy}
+use Rattle.season_spec.specs.Seasons.{refusedBy}
 use Rattle.season.proofs.refused.Statement.{statement}
 use Rattle.season.proofs.refused.Tie as tie
 

@@ -4,9 +4,9 @@ use mathlib.Core.Bool.{true}
 use native.Mathlib.Omega.{arith}
 use lib.ListN.{length}
 use borrow.Author.Tests.{not-true, not-false}
-use Rattle.seasons.specs.Seasons.{lengthsFit}
-use Rattle.seasons.proofs.Theorems.{promised}
-use Rattle.season.proofs.Lengths.{fitting}
+use Rattle.season_spec.specs.Seasons.{lengthsFit}
+use Rattle.season_spec.proofs.Theorems.{promised}
+use Rattle.season.proofs.Sums.{fitting}
 use Rattle.season.proofs.Seasons.{shares-within, refused-limits, refused-lengths, reduced}
 use borrow.Author.Needs.{needs}
 use Rattle.season.proofs.season_within.Statement.{statement}

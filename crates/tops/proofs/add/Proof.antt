@@ -1,6 +1,6 @@
 -- `tops::add` meets its contract: the word behind q is or-ed with w. Assumes nothing.
 use borrow.Author.Needs.{needs}
-use Rattle.reach.specs.Tops.{add}
+use Rattle.tops_spec.specs.Tops.{add}
 use Rattle.tops.proofs.add.Statement.{statement}
 use Rattle.tops.proofs.add.Tie as tie
 

@@ -5,8 +5,8 @@ use Prim.Native.Nat.{suc, _*_}
 use native.Mathlib.Omega.{arith}
 use mathlib.Core.List.{[]}
 use lib.ListN.{length}
-use Rattle.reach.specs.Tops.{rounds}
-use Rattle.view.specs.Sections.{sectioned}
+use Rattle.tops_spec.specs.Tops.{rounds}
+use Rattle.table_view.specs.Sections.{sectioned}
 use Rattle.tops.proofs.Loops.{resting, rounded, spent, few-rounds, section-within}
 use Rattle.tops.proofs.Sums.{Told, told-small, told-on, told-end}
 use Rattle.tops.proofs.fixpoint.Statement.{statement}

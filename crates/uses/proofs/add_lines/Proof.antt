@@ -4,7 +4,7 @@ use mathlib.Core.Path.{ap, _∙_}
 use Prim.Native.Nat.{_-_, _<_}
 use native.Mathlib.Omega.{arith}
 use lib.ListN.{length}
-use Rattle.format.specs.Maps.{classOf}
+use Rattle.table_spec.specs.Maps.{classOf}
 use Rattle.uses.proofs.Adding.{Adding, adding, room, added, added-all, added-fits}
 use Rattle.uses.proofs.add_lines.Statement.{statement}
 use Rattle.uses.proofs.add_lines.Tie as tie

@@ -1,6 +1,6 @@
 -- `uses::refused` meets its contract: a refusal's further fields hold 0. Assumes nothing.
 use borrow.Author.Needs.{needs}
-use Rattle.usage.specs.Uses.{refusedBy}
+use Rattle.uses_spec.specs.Uses.{refusedBy}
 use Rattle.uses.proofs.refused.Statement.{statement}
 use Rattle.uses.proofs.refused.Tie as tie
 

@@ -1,9 +1,9 @@
 -- `uses::uses_under` meets its contract: refused by 32 or 33, or counted. Assumes nothing.
 use borrow.Author.Needs.{needs}
 use mathlib.Core.Path.{sym, ap, _∙_, subst}
-use Rattle.usage.specs.Uses.{answerBy}
-use Rattle.usage.specs.Demands.{Fits}
-use Rattle.usage.proofs.Promises.{lines-few, answer-counted, answer-refused, refused-fits}
+use Rattle.uses_spec.specs.Uses.{answerBy}
+use Rattle.uses_spec.specs.Demands.{Fits}
+use Rattle.uses_spec.proofs.Promises.{lines-few, answer-counted, answer-refused, refused-fits}
 use Rattle.uses.proofs.uses_under.Statement.{statement}
 use Rattle.uses.proofs.uses_under.Tie as tie
 

@@ -1,9 +1,9 @@
 -- `uses::uses_within` meets its contract: refused as the check refuses the map, or counted under it. Assumes nothing.
 use borrow.Author.Needs.{needs}
 use mathlib.Core.Path.{sym, _∙_, subst}
-use Rattle.relations.proofs.Answers.{accepted-number, refused-number}
-use Rattle.usage.specs.Demands.{Fits}
-use Rattle.usage.proofs.Promises.{class-small, uses-accepted, uses-refused, refused-fits, promised}
+use Rattle.check_spec.proofs.Answers.{accepted-number, refused-number}
+use Rattle.uses_spec.specs.Demands.{Fits}
+use Rattle.uses_spec.proofs.Promises.{class-small, uses-accepted, uses-refused, refused-fits, promised}
 use Rattle.uses.proofs.uses_within.Statement.{statement}
 use Rattle.uses.proofs.uses_within.Tie as tie
 

@@ -3,7 +3,7 @@ use Prim.Native.Nat.{_-_}
 use native.Mathlib.Omega.{arith}
 use lib.ListN.{length}
 use borrow.Author.Needs.{needs}
-use Rattle.loads.specs.Loads.{possible}
+use Rattle.generate_spec.specs.Loads.{possible}
 use Rattle.generate.proofs.Places.{Sizes, sizes-of, plain-shape}
 use Rattle.generate.proofs.Drawing.{Collecting, collecting, passed-over, taken, over-full, all-drawn}
 use Rattle.generate.proofs.draws.collect.Statement.{statement}

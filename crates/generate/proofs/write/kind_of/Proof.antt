@@ -1,5 +1,5 @@
 -- `generate::write::kind_of` meets its contract: one law a kind. Assumes nothing.
-use Rattle.loads.proofs.Bytes.{kind-internal, kind-call, kind-return}
+use Rattle.generate_spec.proofs.Bytes.{kind-internal, kind-call, kind-return}
 use borrow.Author.Needs.{needs}
 use Rattle.generate.proofs.write.kind_of.Statement.{statement}
 use Rattle.generate.proofs.write.kind_of.Tie as tie

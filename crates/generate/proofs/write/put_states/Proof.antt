@@ -3,8 +3,8 @@ use native.Mathlib.Omega.{arith}
 use Prim.Native.Nat.{_-_}
 use mathlib.Core.Path.{_∙_}
 use Rattle.lists.proofs.Copying as laws
-use Rattle.loads.specs.Loads.{stateBytes}
-use Rattle.loads.proofs.Bytes.{length-states, state-at}
+use Rattle.generate_spec.specs.Loads.{stateBytes}
+use Rattle.generate_spec.proofs.Bytes.{length-states, state-at}
 use borrow.Author.Needs.{needs}
 use Rattle.generate.proofs.write.put_states.Statement.{statement}
 use Rattle.generate.proofs.write.put_states.Tie as tie

@@ -3,8 +3,8 @@ use native.Mathlib.Omega.{arith}
 use Prim.Native.Nat.{_-_}
 use mathlib.Core.Path.{_∙_}
 use Rattle.lists.proofs.Copying as laws
-use Rattle.loads.specs.Loads.{symbolBytes}
-use Rattle.loads.proofs.Bytes.{length-symbols, symbol-at}
+use Rattle.generate_spec.specs.Loads.{symbolBytes}
+use Rattle.generate_spec.proofs.Bytes.{length-symbols, symbol-at}
 use borrow.Author.Needs.{needs}
 use Rattle.generate.proofs.write.put_symbols.Statement.{statement}
 use Rattle.generate.proofs.write.put_symbols.Tie as tie

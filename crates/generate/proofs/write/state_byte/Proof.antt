@@ -1,5 +1,5 @@
 -- `generate::write::state_byte` meets its contract: first, last, both or neither. Assumes nothing.
-use Rattle.loads.proofs.Bytes.{byte-both, byte-last, byte-first, byte-plain}
+use Rattle.generate_spec.proofs.Bytes.{byte-both, byte-last, byte-first, byte-plain}
 use borrow.Author.Needs.{needs}
 use Rattle.generate.proofs.write.state_byte.Statement.{statement}
 use Rattle.generate.proofs.write.state_byte.Tie as tie

@@ -1,8 +1,8 @@
 -- `generate::write::write_keys` meets its contract: too short, or written. Assumes nothing.
 use native.Mathlib.Omega.{arith}
-use Rattle.writing.proofs.Keys.{holds-long}
-use Rattle.loads.specs.Loads.{symbolBytes, stateBytes}
-use Rattle.loads.proofs.Bytes.{length-symbols, length-states}
+use Rattle.table_write.proofs.Keys.{holds-long}
+use Rattle.generate_spec.specs.Loads.{symbolBytes, stateBytes}
+use Rattle.generate_spec.proofs.Bytes.{length-symbols, length-states}
 use Rattle.generate.proofs.Writing.{put-front, short, room, put}
 use borrow.Author.Needs.{needs}
 use Rattle.generate.proofs.write.write_keys.Statement.{statement}

@@ -1,5 +1,5 @@
 -- `quotient::states::bit_of` meets its contract. Assumes nothing.
-use Rattle.quotients.specs.Quotient.{bitOf}
+use Rattle.quotient_spec.specs.Quotient.{bitOf}
 use mathlib.Core.Path.{sym, ap}
 use Rattle.quotient.proofs.states.bit_of.Statement.{statement}
 use Rattle.quotient.proofs.states.bit_of.Tie as tie

@@ -1,5 +1,5 @@
 -- `quotient::states::class_byte` meets its contract. Assumes nothing.
-use Rattle.quotients.proofs.States.{bit-small}
+use Rattle.quotient_spec.proofs.States.{bit-small}
 use Rattle.quotient.proofs.ClassBytes.{mark-small, byte-made}
 use Prim.Native.Nat.{_+_, _*_, _≤_}
 use native.Mathlib.Omega.{arith}

@@ -1,5 +1,5 @@
 -- `quotient::states::put_states` meets its contract: the bytes of the classes from here on are still to be written. Assumes nothing.
-use Rattle.format.specs.File.{ofStates}
+use Rattle.table_spec.specs.File.{ofStates}
 use Rattle.lists.proofs.Copying as laws
 use Rattle.quotient.proofs.ClassBytes.{length-bytes, byte-of-class}
 use Rattle.quotient.specs.Classes.{classBytes}

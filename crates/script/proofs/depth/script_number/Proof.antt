@@ -1,6 +1,6 @@
 -- `script::depth::script_number` meets its contract. Assumes nothing.
 use borrow.Author.Needs.{needs}
-use Rattle.scripts.specs.Script.{scriptTests}
+use Rattle.script_spec.specs.Script.{scriptTests}
 use Rattle.lists.proofs.Refusals.{passes, fails, no-test}
 use borrow.Author.Tests.{not-true, not-false}
 use mathlib.Core.Bool.{not}

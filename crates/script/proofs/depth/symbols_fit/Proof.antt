@@ -1,12 +1,12 @@
 -- `script::depth::symbols_fit` meets its contract. Assumes nothing.
 use borrow.Author.Needs.{needs}
-use Rattle.scripts.specs.Script.{symbolsFit}
+use Rattle.script_spec.specs.Script.{symbolsFit}
 use borrow.Author.Tests.{le-ltb, lt-ltb}
 use Prim.Native.Nat.{_-_}
 use lib.ListN.{length}
 use lib.Dec.{ltb}
 use Rattle.lists.specs.Lists.{all}
-use Rattle.keyed.proofs.Walks.{Still, begin, all-passed, all-failed, all-done}
+use Rattle.table_find.proofs.Walks.{Still, begin, all-passed, all-failed, all-done}
 use Rattle.script.proofs.depth.symbols_fit.Statement.{statement}
 use Rattle.script.proofs.depth.symbols_fit.Tie as tie
 

@@ -2,7 +2,7 @@
 use borrow.Author.Needs.{needs}
 use Prim.Native.Nat.{_-_}
 use lib.ListN.{length}
-use Rattle.season.proofs.Lengths.{Lefts, begin-lefts, next-left, too-few, too-many, too-long, left-over}
+use Rattle.season.proofs.Sums.{Lefts, begin-lefts, next-left, too-few, too-many, too-long, left-over}
 use Rattle.season.proofs.lengths.lengths_fit.Statement.{statement}
 use Rattle.season.proofs.lengths.lengths_fit.Tie as tie
 

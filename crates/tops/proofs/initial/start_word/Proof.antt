@@ -1,7 +1,7 @@
 -- `tops::initial::start_word` meets its contract. Assumes nothing.
 use borrow.Author.Needs.{needs}
 use borrow.Author.Tests.{eq-eqb, ne-eqb}
-use Rattle.format.specs.Reading.{isInitial}
+use Rattle.table_spec.specs.Reading.{isInitial}
 use Rattle.tops.specs.First.{startWord}
 use Rattle.tops.proofs.initial.start_word.Statement.{statement}
 use Rattle.tops.proofs.initial.start_word.Tie as tie

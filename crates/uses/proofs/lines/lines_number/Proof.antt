@@ -2,7 +2,7 @@
 use borrow.Author.Needs.{needs}
 use mathlib.Core.Path.{sym, _∙_}
 use borrow.Author.Tests.{not-true, not-false}
-use Rattle.usage.proofs.Promises.{not-whole, too-many, past-count, no-refusal}
+use Rattle.uses_spec.proofs.Promises.{not-whole, too-many, past-count, no-refusal}
 use Rattle.uses.proofs.lines.lines_number.Statement.{statement}
 use Rattle.uses.proofs.lines.lines_number.Tie as tie
 

@@ -1,6 +1,6 @@
 -- `uses::lines::state_in` meets its contract: the first byte. Assumes nothing.
 use borrow.Author.Needs.{needs}
-use Rattle.usage.specs.Uses.{lineOf}
+use Rattle.uses_spec.specs.Uses.{lineOf}
 use Rattle.uses.proofs.lines.state_in.Statement.{statement}
 use Rattle.uses.proofs.lines.state_in.Tie as tie
 

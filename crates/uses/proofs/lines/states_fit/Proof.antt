@@ -7,10 +7,10 @@ use lib.ListN.{length}
 use lib.Dec.{ltb}
 use borrow.Author.Tests.{lt-ltb, le-ltb}
 use Rattle.lists.specs.Lists.{all}
-use Rattle.format.specs.File.{records}
-use Rattle.keyed.proofs.Walks.{Still, begin, records-passed, records-failed, records-done}
-use Rattle.usage.specs.Uses.{lineOf}
-use Rattle.uses.proofs.Lines.{states-tests}
+use Rattle.table_spec.specs.File.{records}
+use Rattle.table_find.proofs.Walks.{Still, begin, records-passed, records-failed, records-done}
+use Rattle.uses_spec.specs.Uses.{lineOf}
+use Rattle.uses.proofs.Numbered.{states-tests}
 use Rattle.uses.proofs.lines.states_fit.Statement.{statement}
 use Rattle.uses.proofs.lines.states_fit.Tie as tie
 

@@ -1,6 +1,6 @@
 -- `uses::lines::uses_in` meets its contract: the four bytes are below 256, so that the number fits. Assumes nothing.
 use borrow.Author.Needs.{needs}
-use Rattle.usage.specs.Uses.{lineOf}
+use Rattle.uses_spec.specs.Uses.{lineOf}
 use Rattle.uses.proofs.lines.uses_in.Statement.{statement}
 use Rattle.uses.proofs.lines.uses_in.Tie as tie
 

@@ -1,0 +1,27 @@
+-- What the closing and the turns are lent beside the list: its index by literals and room for the words of its clauses, or its index by segments. Assumes nothing.
+use mathlib.Core.Path.{_≡_}
+use mathlib.Core.Bool.{Bool, true}
+use mathlib.Core.List.{List}
+use Prim.Native.Nat.{ℕ, _≤_, _<_}
+use lib.ListN.{length}
+use Rattle.cnf.specs.Clauses.{whole}
+use Rattle.sat_counters.specs.Tallies.{Tallied}
+use Rattle.sat_propagate.specs.Sinking.{Room, Caught}
+use Rattle.sat_restore.specs.Restoring.{IndexedIf}
+use Rattle.sat_segments.specs.Segments.{Marked}
+
+-- whole clauses, indexed by literals where there is room for each place, and by segments where there is not; room for their words and to note as many as
+-- there are places
+pub record Prepared (ws firsts clauses starts masks words noted : List ℕ) : Type 0 where
+  pub all-there : whole ws ≡ true
+  pub indexed : IndexedIf ws firsts clauses
+  pub marked : length clauses < length ws → Marked ws starts masks
+  pub room : Room clauses words noted
+
+-- where they are indexed, the words are those of the values
+abbrev pub TalliedIf : List ℕ → List ℕ → List ℕ → List ℕ → Type 0
+TalliedIf ws clauses v words = length ws ≤ length clauses → Tallied ws v words
+
+-- where they are indexed, the words are those of the values once these are closed and no clause is broken
+abbrev pub CaughtIf : List ℕ → List ℕ → List ℕ → List ℕ → Bool → Type 0
+CaughtIf ws clauses v words isBroken = length ws ≤ length clauses → Caught ws v words isBroken

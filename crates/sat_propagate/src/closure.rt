@@ -1,0 +1,80 @@
+// Values are closed before each turn of the search.
+ghost use Prim.Native.Nat.{_≤_};
+ghost use lib.ListN.{length};
+ghost use Rattle.pairs.specs.Entries.{PairTable};
+ghost use Rattle.sat_trail.specs.Conclusions.{withTriangles};
+ghost use Rattle.sat_trail.specs.Rows.{Rows};
+ghost use Rattle.sat_trail.specs.Trail.{Ready, Queue, Settles};
+ghost use Rattle.sat_restore.specs.Restoring.{Lags};
+ghost use Rattle.sat_propagate.specs.Preparing.{Prepared, CaughtIf};
+use super::settle_indexed;
+use equality_spread::Reached;
+use sat_segments::settle_marked;
+
+// Closes the values, where clauses wait for the trail's variables from `from` on: by the clauses of each literal where the list is indexed so, else by passes
+// over the segments of each variable.
+pub fn close(
+    list: &[u16],
+    n: u8,
+    table: &[u16],
+    firsts: &[u16; 1561],
+    clauses: &[u16],
+    starts: &[usize],
+    masks: &[u64],
+    words: &mut [u32],
+    noted: &mut [u16],
+    values: &mut [u8],
+    trail: &mut [u16],
+    joined: &mut [u64; 40],
+    apart: &mut [u64; 40],
+    from: usize,
+    start: usize,
+) -> Reached
+    requires { ⌜ Prepared (now list) (now firsts) (now clauses) (now starts) (now masks) (now words) (now noted) ⌝ }
+    requires { ⌜ Lags (now list) (now clauses) (now values) (now trail) from start (now words) ⌝ }
+    requires { ⌜ Ready (withTriangles (now list) n) (now values) (now trail) start ⌝ }
+    requires { ⌜ Queue (withTriangles (now list) n) (now values) (now trail) from start × (length (now values) ≤ 780) ⌝ }
+    requires { ⌜ PairTable (now table) × Rows n (now values) (now joined) (now apart) ⌝ }
+    ensures { λ r. ⌜
+        Settles (withTriangles (now (list .entry)) n) (now (values .entry)) (now (trail .entry)) start (now (values .exit)) (now (trail .exit)) (r .broken)
+        (r .count)
+        × Rows n (now (values .exit)) (now (joined .exit)) (now (apart .exit)) ⌝ }
+    ensures caught { λ r. ⌜ CaughtIf (now (list .entry)) (now (clauses .entry)) (now (values .exit)) (now (words .exit)) (r .broken) ⌝ }
+{
+    if from == start {
+        return Reached {
+            broken: false,
+            count: start,
+        };
+    }
+    if list.len() <= clauses.len() {
+        return settle_indexed(
+            list,
+            n,
+            table,
+            firsts,
+            clauses,
+            words,
+            noted,
+            values,
+            trail,
+            joined,
+            apart,
+            from,
+            start,
+        );
+    }
+    settle_marked(
+        list,
+        n,
+        table,
+        starts,
+        masks,
+        values,
+        trail,
+        joined,
+        apart,
+        from,
+        start,
+    )
+}

@@ -1,0 +1,82 @@
+// The words of the clauses, as they were before a guess.
+ghost use mathlib.Core.Path.{_≡_};
+ghost use Prim.Native.Nat.{_≤_};
+ghost use lib.ListN.{length};
+ghost use Rattle.sat_counters.specs.Tallies.{Indexed};
+ghost use Rattle.sat_counters.specs.Behind.{Behind};
+ghost use Rattle.sat_restore.specs.Restoring.{Passed, Sized};
+use sat_counters::false_literal;
+use sat_counters::rise;
+use sat_trail::wide;
+
+// Copies the words.
+pub fn copy(from: &[u32], to: &mut [u32])
+    requires { ⌜ (length (now from) ≡ length (now to)) × (length (now to) ≤ 32768) ⌝ }
+    ensures { λ _. ⌜ now (to .exit) ≡ now (from .entry) ⌝ }
+{
+    let mut i: usize = 0;
+    'words: while i < from.len() {
+        to[i] = from[i];
+        i += 1;
+    }
+}
+
+// Gives the clauses the weights back that they lost by the trail's variables from `mark` up to `base`. The trail has `count` variables.
+fn climb(
+    list: &[u16],
+    firsts: &[u16; 1561],
+    clauses: &[u16],
+    words: &mut [u32],
+    values: &[u8],
+    trail: &[u16],
+    mark: usize,
+    base: usize,
+    count: usize,
+)
+    requires { ⌜ Indexed (now list) (now firsts) (now clauses) × Sized (now clauses) (now words) ⌝ }
+    requires { ⌜ Passed (now list) (now values) (now trail) mark base count × Behind (now list) (now values) (now trail) base count (now words) ⌝ }
+    ensures { λ _. ⌜ Behind (now (list .entry)) (now (values .entry)) (now (trail .entry)) mark count (now (words .exit)) ⌝ }
+{
+    let mut i = base;
+    'trail: while mark < i {
+        i -= 1;
+        let l = false_literal(values, trail[i]);
+        let places = &clauses[wide(firsts[l])..wide(firsts[l + 1])];
+        rise(places, l as u16, words);
+    }
+}
+
+// The words before the guess at `mark`: those that were saved before the variables from `base` on, and back from there. They are saved too.
+pub fn restore(
+    list: &[u16],
+    firsts: &[u16; 1561],
+    clauses: &[u16],
+    words: &mut [u32],
+    saved: &mut [u32],
+    values: &[u8],
+    trail: &[u16],
+    mark: usize,
+    base: usize,
+    count: usize,
+)
+    requires { ⌜ Indexed (now list) (now firsts) (now clauses) × Sized (now clauses) (now words) × (length (now saved) ≡ length (now words)) ⌝ }
+    requires { ⌜ Passed (now list) (now values) (now trail) mark base count × Behind (now list) (now values) (now trail) base count (now saved) ⌝ }
+    ensures { λ _. ⌜ Behind (now (list .entry)) (now (values .entry)) (now (trail .entry)) mark count (now (words .exit)) × (now (saved .exit) ≡ now (words .exit)) ⌝ }
+{
+    copy(saved, words);
+    if mark == base {
+        return;
+    }
+    climb(
+        list,
+        firsts,
+        clauses,
+        words,
+        values,
+        trail,
+        mark,
+        base,
+        count,
+    );
+    copy(words, saved);
+}

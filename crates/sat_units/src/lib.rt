@@ -1,0 +1,64 @@
+// Clauses that have at most one literal left are seen to, by their words.
+ghost use Prim.Native.Nat.{_≤_};
+ghost use lib.ListN.{length};
+ghost use Rattle.cnf.specs.Clauses.{clausesIn};
+ghost use Rattle.pairs.specs.Entries.{PairTable};
+ghost use Rattle.sat_trail.specs.Rows.{Rows};
+ghost use Rattle.sat_trail.specs.Trail.{Ready};
+ghost use Rattle.sat_units.specs.Heeding.{Told, Heeded};
+use equality_spread::Reached;
+use sat_literal::is_right;
+use sat_literal::is_unset;
+use sat_trail::force;
+use sat_trail::wide;
+
+// Sees to clauses that have at most one literal left, by their words: one that is unset is forced, and without one the clause is broken.
+pub fn heed(
+    list: &[u16],
+    n: u8,
+    table: &[u16],
+    words: &[u32],
+    noted: &[u16],
+    values: &mut [u8],
+    trail: &mut [u16],
+    joined: &mut [u64; 40],
+    apart: &mut [u64; 40],
+    start: usize,
+) -> Reached
+    requires { ⌜ Ready (clausesIn (now list)) (now values) (now trail) start × (length (now values) ≤ 780) ⌝ }
+    requires { ⌜ Told (now list) (now values) (now words) (now noted) ⌝ }
+    requires { ⌜ PairTable (now table) × Rows n (now values) (now joined) (now apart) ⌝ }
+    ensures { λ r. ⌜
+        Heeded (now (list .entry)) (now (noted .entry)) (now (values .entry)) (now (trail .entry)) start (now (values .exit)) (now (trail .exit)) (r .broken)
+        (r .count)
+        × Rows n (now (values .exit)) (now (joined .exit)) (now (apart .exit)) ⌝ }
+{
+    let mut count = start;
+    let mut k: usize = 0;
+    'noted: while k < noted.len() {
+        let w = words[wide(noted[k])];
+        if w < 2048 {
+            return Reached {
+                broken: true,
+                count,
+            };
+        }
+        let m = (w - 2048) as u16;
+        k += 1;
+        if is_right(values, m) {
+            continue 'noted;
+        }
+        if is_unset(values, m) {
+            count = force(n, table, m, values, trail, joined, apart, count);
+            continue 'noted;
+        }
+        return Reached {
+            broken: true,
+            count,
+        };
+    }
+    Reached {
+        broken: false,
+        count,
+    }
+}

@@ -1,0 +1,81 @@
+-- The bytes of a table whose records are given by their keys, section behind section, and what stands behind each. Assumes nothing.
+use mathlib.Core.Path.{_≡_, refl, sym, ap, _∙_}
+use mathlib.Core.List.{List, [], _∷_, _++_, append-assoc, map, List·Memᴰ, Memᴰ·of-map}
+use Prim.Native.Nat.{ℕ, _+_, _*_, _≤_}
+use native.Mathlib.Nat.{mul-zero, mul-suc}
+use native.Mathlib.Omega.{arith}
+use lib.ListN.{length, length-append, length-map}
+use Rattle.lists.specs.Lists.{flat, gather}
+use Rattle.table_spec.specs.File.{Table, bytes16, fromReturns, fromCalls, fromInternals, fromStates, fromSymbols, trailerOf, bytesOf}
+use Rattle.table_spec.proofs.Passed.{Wide}
+use Rattle.table_spec.proofs.Bytes.{lengths}
+use Rattle.table_write.specs.Keys.{recordOf}
+use Rattle.table_write.specs.Tables.{keyedTable, trailerFrom}
+use Rattle.table_write.proofs.Keys.{length-last}
+
+gather-flat : (f : ℕ → List ℕ) (ks : List ℕ) → gather f ks ≡ flat (map f ks)
+unfolding gather flat
+gather-flat f [] = refl
+gather-flat f (k ∷ ks) = ap (λ xs. f k ++ xs) (gather-flat f ks)
+
+pub gather-long : (w : ℕ) (f : ℕ → List ℕ) → ((k : ℕ) → length (f k) ≡ w) → (ks : List ℕ) → length (gather f ks) ≡ w * length ks
+unfolding gather
+gather-long w f h [] = sym (mul-zero w)
+gather-long w f h (k ∷ ks) = omega (arith, length-append (f k) (gather f ks), h k, gather-long w f h ks, mul-suc w (length ks))
+
+regroup : (a b c d e f : List ℕ) → (a ++ (b ++ (c ++ (d ++ e)))) ++ f ≡ a ++ (b ++ (c ++ (d ++ (e ++ f))))
+regroup a b c d e f = simp append-assoc
+
+-- ---- what stands behind each section
+
+module _ (v : ℕ) (y s i c r : List ℕ) where
+  abbrev pub behindReturns : List ℕ
+  behindReturns = trailerFrom v (length y) (length s) (length i) (length c) (length r)
+
+  abbrev pub behindCalls : List ℕ
+  behindCalls = gather (recordOf 4) r ++ behindReturns
+
+  abbrev pub behindInternals : List ℕ
+  behindInternals = gather (recordOf 3) c ++ behindCalls
+
+  abbrev pub behindStates : List ℕ
+  behindStates = gather (recordOf 3) i ++ behindInternals
+
+  abbrev pub behindSymbols : List ℕ
+  behindSymbols = s ++ behindStates
+
+  abbrev keyed : Table
+  keyed = keyedTable v y s i c r
+
+  keyed-wide : Wide keyed
+  keyed-wide = record { internals = wide 3 (omega arith) i; calls = wide 3 (omega arith) c; returns = wide 4 (omega arith) r }
+    where
+      wide : (w : ℕ) → w ≤ 4 → (ks : List ℕ) (x : List ℕ) → List·Memᴰ x (map (recordOf w) ks) → length x ≡ w
+      wide w h ks x m = let k = Memᴰ·of-map (recordOf w) ks m in sym (ap length (k .2)) ∙ length-last w (k .0) h
+
+  trailer-again : trailerOf keyed ≡ behindReturns
+  unfolding trailerOf trailerFrom
+  trailer-again =
+      let n = lengths keyed keyed-wide in
+      let i' = length-map i (recordOf 3) in
+      let c' = length-map c (recordOf 3) in
+      let r' = length-map r (recordOf 4) in
+      let e4 : length (fromReturns keyed) ≡ 4 * length r = omega arith in
+      let e3 : length (fromCalls keyed) ≡ 3 * length c + 4 * length r = omega arith in
+      let e2 : length (fromInternals keyed) ≡ 3 * length i + (3 * length c + 4 * length r) = omega arith in
+      let e1 : length (fromStates keyed) ≡ length s + (3 * length i + (3 * length c + 4 * length r)) = omega arith in
+      let e0 : length (fromSymbols keyed) ≡ length y + (length s + (3 * length i + (3 * length c + 4 * length r))) = omega arith in
+      λ j. gather bytes16 (e0 j ∷ e1 j ∷ e2 j ∷ e3 j ∷ e4 j ∷ v ∷ [])
+
+  pub bytes-apart : bytesOf keyed ≡ y ++ behindSymbols
+  unfolding bytesOf fromSymbols fromStates fromInternals fromCalls fromReturns
+  bytes-apart =
+      (λ j. (y ++ (s ++ (sym (gather-flat (recordOf 3) i) j ++ (sym (gather-flat (recordOf 3) c) j ++ sym (gather-flat (recordOf 4) r) j)))) ++ trailer-again j)
+      ∙ regroup y s (gather (recordOf 3) i) (gather (recordOf 3) c) (gather (recordOf 4) r) behindReturns
+
+  pub length-trailer : length behindReturns ≡ 12
+  unfolding trailerFrom gather bytes16
+  length-trailer = refl
+
+  pub bytes-long : length (bytesOf keyed) ≡ length y + length s + 3 * length i + 3 * length c + 4 * length r + 12
+  bytes-long = omega (arith, lengths keyed keyed-wide, length-map i (recordOf 3), length-map c (recordOf 3), length-map r (recordOf 4))
