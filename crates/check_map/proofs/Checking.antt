@@ -19,7 +19,7 @@ use Rattle.table_view.specs.declared.Section.the-variants.{States, Internals, C
 use Rattle.table_view.proofs.Parts.{states-read, internals-read, calls-read, returns-read}
 use Rattle.tops.specs.declared.Examined.{Examined}
 use Rattle.tops.specs.Steps.{examinedOf}
-use Rattle.check_spec.specs.Check.{looksAgree, movesMatched, returnsMatched, mapTests, checkNumber}
+use Rattle.check_spec.specs.Check.{labelsAgree, movesMatched, returnsMatched, mapTests, checkNumber}
 use Rattle.table_index.proofs.Parts.{parts-lent}
 use Rattle.check_map.specs.Known.{Known, Parted, partTests}
 use Rattle.check_matching.specs.Matching.{recordMatched, recordsMatched, Lent}
@@ -41,11 +41,11 @@ module _ (s i c r f m : List ℕ) where
     told w rs h = ap (λ (k : ℕ). recordsMatched w f rs k m) (sym p15) ∙ h
 
     module _ (p16 : numbered m ≡ true) where
-      pub number-17 : looksAgree (ofStates s) m ≡ false → 17 ≡ firstFailed (partTests s i c r f m)
+      pub number-17 : labelsAgree (ofStates s) m ≡ false → 17 ≡ firstFailed (partTests s i c r f m)
       unfolding partTests
       number-17 h = sym (passes 15 _ (eq-eqb _ _ p15) ∙ passes 16 _ p16 ∙ fails 17 _ h)
 
-      module _ (p17 : looksAgree (ofStates s) m ≡ true) where
+      module _ (p17 : labelsAgree (ofStates s) m ≡ true) where
         pub number-18 : recordsMatched 3 f (records 3 i) (length m) m ≡ false → 18 ≡ firstFailed (partTests s i c r f m)
         unfolding partTests
         number-18 h = sym (passes 15 _ (eq-eqb _ _ p15) ∙ passes 16 _ p16 ∙ passes 17 _ p17 ∙ fails 18 _ (told 3 (records 3 i) h))
@@ -82,13 +82,13 @@ module _ {b f : List ℕ} {s : Starts} (k : Known b s f) {states internals calls
 
   -- of records of 3 and 4 bytes the conditions over the width are (ii) to (iv)
   pub parts-tests : (m : List ℕ) → firstFailed (partTests states internals calls returns f m) ≡ firstFailed (mapTests (tableOf b) m)
-  unfolding partTests mapTests looksAgree recordMatched movesMatched returnsMatched
+  unfolding partTests mapTests labelsAgree recordMatched movesMatched returnsMatched
   parts-tests m =
       let n = states-read (k .read) e1 in
       λ j. firstFailed
       ((15, eqb (length m) (length (n j)))
       ∷ (16, numbered m)
-      ∷ (17, looksAgree (ofStates (n j)) m)
+      ∷ (17, labelsAgree (ofStates (n j)) m)
       ∷ (18, recordsMatched 3 (k .words j) (internals-read (k .read) e2 j) (length (n j)) m)
       ∷ (19, recordsMatched 3 (k .words j) (calls-read (k .read) e3 j) (length (n j)) m)
       ∷ (20, recordsMatched 4 (k .words j) (returns-read (k .read) e4 j) (length (n j)) m)

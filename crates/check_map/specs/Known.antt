@@ -13,7 +13,7 @@ use Rattle.table_spec.specs.declared.Starts.{Starts}
 use Rattle.table_view.specs.Sections.{ReadAs}
 use Rattle.tops_spec.specs.Tops.{topWords}
 use Rattle.check_matching.specs.Matching.{recordsMatched, Lent}
-use Rattle.check_spec.specs.Check.{looksAgree}
+use Rattle.check_spec.specs.Check.{labelsAgree}
 
 -- P at all limits that the bytes are readable at
 abbrev pub WhereReadable : List ℕ → (Limits → Type 0) → Type 0
@@ -36,7 +36,7 @@ unfoldable pub partTests : List ℕ → List ℕ → List ℕ → List ℕ → L
 partTests states internals calls returns f m =
     (15, eqb (length m) (length states))
     ∷ (16, numbered m)
-    ∷ (17, looksAgree (ofStates states) m)
+    ∷ (17, labelsAgree (ofStates states) m)
     ∷ (18, recordsMatched 3 f (records 3 internals) (length states) m)
     ∷ (19, recordsMatched 3 f (records 3 calls) (length states) m)
     ∷ (20, recordsMatched 4 f (records 4 returns) (length states) m)

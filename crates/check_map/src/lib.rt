@@ -6,7 +6,7 @@ ghost use Rattle.table_spec.specs.File.{tableOf};
 ghost use Rattle.check_spec.specs.Check.{mapTests, checkOf, CheckSays};
 ghost use Rattle.check_spec.specs.Demands.{AcceptsExactly};
 ghost use Rattle.check_map.specs.Known.{Known, Parted, partTests};
-use check_matching::looks_agree;
+use check_matching::labels_agree;
 use check_numbering::class_count;
 use check_numbering::numbered;
 use check_sections::live_matched;
@@ -34,7 +34,7 @@ fn tests_number(
     if !numbered(map) {
         return 16;
     }
-    if !looks_agree(states, map) {
+    if !labels_agree(states, map) {
         return 17;
     }
     if !records_matched(internals, 3, words, map) {

@@ -14,7 +14,7 @@ use Rattle.lists.proofs.Members.{all-true, all-of, upto-mem, upto-of, gives, gi
 use Rattle.table_spec.specs.File.{ofStates}
 use Rattle.table_spec.specs.Language.{agreedOn}
 use Rattle.table_spec.specs.Maps.{classOf, joins}
-use Rattle.check_spec.specs.Check.{looksAgree}
+use Rattle.check_spec.specs.Check.{labelsAgree}
 
 -- what a state has, plus one
 abbrev pub lookOf : List ℕ → ℕ → ℕ
@@ -57,18 +57,18 @@ module _ {states m looks : List ℕ} {q : ℕ} (g : Looking states m looks q) wh
       there x n (no y) = let t = g .first x (λ w. n (getD-set-other looks c x v 0 y ∙ w)) in (t .0, omega (arith, t .1), t .2)
 
   -- a state that does not agree with the first of its class
-  pub looks-differ : q < length states → getD looks (classOf m q) 0 ≢ 0 → getD looks (classOf m q) 0 ≢ lookOf states q → false ≡ looksAgree (ofStates states) m
-  unfolding looksAgree joins
+  pub looks-differ : q < length states → getD looks (classOf m q) 0 ≢ 0 → getD looks (classOf m q) 0 ≢ lookOf states q → false ≡ labelsAgree (ofStates states) m
+  unfolding labelsAgree joins
   looks-differ l n d = sym (not-so _ (λ h. go h (g .first (classOf m q) n)))
     where
-      go : looksAgree (ofStates states) m ≡ true → (p : ℕ) × (p < q) × (classOf m p ≡ classOf m q) → ⊥
+      go : labelsAgree (ofStates states) m ≡ true → (p : ℕ) × (p < q) × (classOf m p ≡ classOf m q) → ⊥
       go h (p, k, e) =
           let t = all-true _ (upto (length states)) (all-true _ (upto (length states)) h p (upto-of _ p (omega arith))) q (upto-of _ q l) in
           let s = eqb-true (agreedOn (getD states p 0)) (agreedOn (getD states q 0)) (gives (joins m p q) _ t (eq-eqb (classOf m p) (classOf m q) e)) in
           d (ap (λ (i : ℕ). getD looks i 0) (sym e) ∙ g .kept p k ∙ ap (λ (x : ℕ). x + 1) s)
 
-  pub looks-alike : length states ≤ q → true ≡ looksAgree (ofStates states) m
-  unfolding looksAgree joins
+  pub looks-alike : length states ≤ q → true ≡ labelsAgree (ofStates states) m
+  unfolding labelsAgree joins
   looks-alike l = sym (all-of _ (upto (length states)) (λ p h. all-of _ (upto (length states)) (λ r k. gives-of (joins m p r) _ (λ j. eq-eqb (agreedOn (getD states p 0)) (agreedOn (getD states r 0)) (one p r (upto-mem _ p h) (upto-mem _ r k) (eqb-true (classOf m p) (classOf m r) j))))))
     where
       one : (p r : ℕ) → p < length states → r < length states → classOf m p ≡ classOf m r → agreedOn (getD states p 0) ≡ agreedOn (getD states r 0)

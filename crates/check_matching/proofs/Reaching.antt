@@ -6,7 +6,7 @@ use Prim.Native.Nat.{ℕ, _+_, _-_, _≤_, _<_}
 use native.Mathlib.Omega.{arith}
 use lib.ListN.{length, getD, take, drop}
 use lib.Seq.{getD-take, getD-drop}
-use Rattle.lists.specs.Lists.{any, keep}
+use Rattle.lists.specs.Lists.{any, filter}
 use Rattle.table_spec.specs.File.{records}
 use Rattle.table_spec.specs.Language.{targets}
 use Rattle.table_spec.specs.Maps.{joins}
@@ -41,8 +41,8 @@ module _ (m : List ℕ) (target k : ℕ) where
     none-met h = records-none-met (goes m target k) w i h
 
 -- over the part is over the section's targets
-pub over-targets : (w : ℕ) (section key found m : List ℕ) (target : ℕ) {b : Bool} → length key + 1 ≡ w → records w found ≡ keep (startsWith key) (records w section) → b ≡ any (goes m target (w - 1)) (records w found) → b ≡ any (joins m target) (targets (records w section) key)
+pub over-targets : (w : ℕ) (section key found m : List ℕ) (target : ℕ) {b : Bool} → length key + 1 ≡ w → records w found ≡ filter (startsWith key) (records w section) → b ≡ any (goes m target (w - 1)) (records w found) → b ≡ any (joins m target) (targets (records w section) key)
 unfolding targets startsWith
 over-targets w section key found m target l e h =
     let n : w - 1 ≡ length key = omega arith in
-    h ∙ (λ i. any (goes m target (n i)) (e i)) ∙ sym (any-map (joins m target) (λ r. getD r (length key) 0) (keep (startsWith key) (records w section)))
+    h ∙ (λ i. any (goes m target (n i)) (e i)) ∙ sym (any-map (joins m target) (λ r. getD r (length key) 0) (filter (startsWith key) (records w section)))

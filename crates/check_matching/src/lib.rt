@@ -11,7 +11,7 @@ ghost use Rattle.table_spec.specs.Reading.{ascend};
 ghost use Rattle.table_spec.specs.Language.{targets};
 ghost use Rattle.table_spec.specs.Maps.{classOf, joins};
 ghost use Rattle.table_find.specs.Keys.{ByKey};
-ghost use Rattle.check_spec.specs.Check.{looksAgree, returnMatched};
+ghost use Rattle.check_spec.specs.Check.{labelsAgree, returnMatched};
 ghost use Rattle.check_matching.specs.Matching.{kept, returnMet, recordMatched, recordMet, recordsMatched, Lent};
 use bits::wide;
 use check_numbering::class_of;
@@ -55,8 +55,8 @@ fn is_in(map: &[u8], class: u8, q: usize) -> bool
 }
 
 // (i) "joined states agree on mark and accepting": what the first state of each class has, plus one, is kept by its class.
-pub fn looks_agree(states: &[u8], map: &[u8]) -> bool
-    ensures { λ r. ⌜ r ≡ looksAgree (ofStates (now (states .entry))) (now (map .entry)) ⌝ }
+pub fn labels_agree(states: &[u8], map: &[u8]) -> bool
+    ensures { λ r. ⌜ r ≡ labelsAgree (ofStates (now (states .entry))) (now (map .entry)) ⌝ }
 {
     let mut looks = [0u8; 256];
     let mut q: usize = 0;
@@ -81,7 +81,7 @@ fn reaches(section: &[u8], width: usize, wanted: u32, map: &[u8], target: usize)
     requires { ⌜ (3 ≤ width) × (ascend (records width (now section)) ≡ true) ⌝ }
     ensures { λ r. ⌜ ByKey width wanted r (λ k. any (joins (now (map .entry)) target) (targets (records width (now (section .entry))) k)) ⌝ }
 {
-    let found = table_find::starting(section, width, wanted);
+    let found = table_find::equal_range(section, width, wanted);
     let mut at: usize = 0;
     'records: while width <= found.len() - at {
         let next = at + width;

@@ -8,7 +8,7 @@ ghost use Prim.Native.Nat.{_<_, _≤_};
 ghost use lib.ListN.{length, getD, take};
 ghost use lib.Bits.{bitOr};
 ghost use lib.Dec.{eqb};
-ghost use Rattle.lists.specs.Lists.{all, keep};
+ghost use Rattle.lists.specs.Lists.{all, filter};
 ghost use Rattle.lists.specs.Bits.{hasBit};
 ghost use Rattle.table_spec.specs.File.{records};
 ghost use Rattle.check_matching.specs.Matching.{kept, recordsMatched, Lent};
@@ -236,9 +236,9 @@ pub fn records_matched(section: &[u8], width: usize, words: &[u64], map: &[u8]) 
 }
 
 // The returns that are live, one after the other; how many bytes they take.
-fn gather(section: &[u8], words: &[u64], live: &mut [u8; 16384]) -> usize
+fn concatMap(section: &[u8], words: &[u64], live: &mut [u8; 16384]) -> usize
     requires { ⌜ (length (records 4 (now section)) ≤ 4096) × (length (now live) ≡ 16384) ⌝ }
-    ensures { λ r. ⌜ (r ≤ length (now (live .exit))) × (records 4 (take r (now (live .exit))) ≡ keep (kept (now (words .entry))) (records 4 (now (section .entry)))) ⌝ }
+    ensures { λ r. ⌜ (r ≤ length (now (live .exit))) × (records 4 (take r (now (live .exit))) ≡ filter (kept (now (words .entry))) (records 4 (now (section .entry)))) ⌝ }
 {
     let mut n: usize = 0;
     let mut at: usize = 0;
@@ -265,6 +265,6 @@ pub fn live_matched(section: &[u8], words: &[u64], map: &[u8]) -> bool
         return records_matched(section, 4, words, map);
     }
     let mut live = [0u8; 16384];
-    let n = gather(section, words, &mut live);
+    let n = concatMap(section, words, &mut live);
     records_matched(&live[..n], 4, words, map)
 }

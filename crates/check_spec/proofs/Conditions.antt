@@ -19,7 +19,7 @@ use Rattle.table_spec.specs.Maps.{classOf, joins, JoinedBy}
 use Rattle.table_spec.proofs.Facts.{Fit, internals-fit, calls-fit, returns-fit, three-bytes, four-bytes, targets-mem, mem-targets, look-accepting, look-mark, agreed-look}
 use Rattle.tops_spec.specs.Tops.{topWords}
 use Rattle.tops_spec.proofs.Formed.{told}
-use Rattle.check_spec.specs.Check.{looksAgree, moveMatched, movesMatched, returnMatched, returnsMatched}
+use Rattle.check_spec.specs.Check.{labelsAgree, moveMatched, movesMatched, returnMatched, returnsMatched}
 
 pub joins-true : (m : List ℕ) (p q : ℕ) → joins m p q ≡ true → classOf m p ≡ classOf m q
 unfolding joins
@@ -42,14 +42,14 @@ module _ (t : Table) (m : List ℕ) where
     any-reaches (q', k, e) = any-of (joins m p') (targets rs key) q' (mem-targets rs key q' k) (joins-of m p' q' e)
 
   -- (i)
-  pub looks-true : looksAgree t m ≡ true → (p q : ℕ) → JoinedBy t m p q → agreedOn (byteOf t p) ≡ agreedOn (byteOf t q)
-  unfolding looksAgree
+  pub looks-true : labelsAgree t m ≡ true → (p q : ℕ) → JoinedBy t m p q → agreedOn (byteOf t p) ≡ agreedOn (byteOf t q)
+  unfolding labelsAgree
   looks-true e p q j =
       eqb-true _ _
       (gives (joins m p q) _ (all-true _ (upto (count t)) (all-true _ (upto (count t)) e p (upto-of (count t) p (j .left))) q (upto-of (count t) q (j .right))) (joins-of m p q (j .classes)))
 
-  pub looks-test : ((p q : ℕ) → JoinedBy t m p q → agreedOn (byteOf t p) ≡ agreedOn (byteOf t q)) → looksAgree t m ≡ true
-  unfolding looksAgree
+  pub looks-test : ((p q : ℕ) → JoinedBy t m p q → agreedOn (byteOf t p) ≡ agreedOn (byteOf t q)) → labelsAgree t m ≡ true
+  unfolding labelsAgree
   looks-test h = all-of _ (upto (count t)) (λ p mp. all-of _ (upto (count t)) (λ q mq. gives-of (joins m p q) _ (λ e.
       eq-eqb _ _ (h p q (record { left = upto-mem (count t) p mp; right = upto-mem (count t) q mq; classes = joins-true m p q e })))))
 
@@ -111,7 +111,7 @@ module _ (t : Table) (m : List ℕ) where
 
 -- the four tests together
 pub record TestsPass (t : Table) (m : List ℕ) : Type 0 where
-  pub looks : looksAgree t m ≡ true
+  pub looks : labelsAgree t m ≡ true
   pub internals : movesMatched (t .internals) (count t) m ≡ true
   pub calls : movesMatched (t .calls) (count t) m ≡ true
   pub returns : returnsMatched (topWords t) (t .returns) (count t) m ≡ true

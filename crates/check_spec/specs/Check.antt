@@ -16,8 +16,8 @@ use Rattle.check_spec.specs.declared.Checked.{Checked}
 use Rattle.check_spec.specs.declared.Checked.the-variants.{Accepted, Refused}
 
 -- (i) "joined states agree on accepting"; request (v): "on mark and accepting"
-unfoldable pub looksAgree : Table → List ℕ → Bool
-looksAgree t m = all (λ p. all (λ q. not (joins m p q) || eqb (agreedOn (byteOf t p)) (agreedOn (byteOf t q))) (upto (count t))) (upto (count t))
+unfoldable pub labelsAgree : Table → List ℕ → Bool
+labelsAgree t m = all (λ p. all (λ q. not (joins m p q) || eqb (agreedOn (byteOf t p)) (agreedOn (byteOf t q))) (upto (count t))) (upto (count t))
 
 -- a record (p, a, p') and a state q: where q is joined to p, it has a record with symbol a "to a joined target"
 unfoldable pub moveMatched : List (List ℕ) → List ℕ → ℕ → ℕ → ℕ → ℕ → Bool
@@ -40,7 +40,7 @@ unfoldable pub mapTests : Table → List ℕ → List (ℕ × Bool)
 mapTests t m =
     (15, eqb (length m) (count t))
     ∷ (16, numbered m)
-    ∷ (17, looksAgree t m)
+    ∷ (17, labelsAgree t m)
     ∷ (18, movesMatched (t .internals) (count t) m)
     ∷ (19, movesMatched (t .calls) (count t) m)
     ∷ (20, returnsMatched (topWords t) (t .returns) (count t) m)

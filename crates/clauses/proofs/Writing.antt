@@ -10,7 +10,7 @@ use lib.ListN.{length, take, drop, length-append, take-append-drop}
 use lib.Seq.{length-take-le, drop-drop, take-at, drop-at}
 use lib.Dec.{ltb}
 use borrow.Author.Tests.{lt-ltb, le-ltb, le-leb, lt-leb}
-use Rattle.lists.specs.Lists.{gather, over}
+use Rattle.lists.specs.Lists.{concatMap, over}
 use Rattle.cnf.specs.Clauses.{wordsOf}
 use Rattle.clauses_spec.specs.declared.Listed.the-variants.{List as Words, Refused}
 use Rattle.clauses_emit.specs.declared.emit.Tally.{Tally}
@@ -21,7 +21,7 @@ use Rattle.clauses_emit.proofs.Emitting.{emit-full, length-place, length-writte
 -- ---- the words of clauses
 
 words-cons : (c : List ℕ) (cs : List (List ℕ)) → wordsOf (c ∷ cs) ≡ (length c ∷ c) ++ wordsOf cs
-unfolding wordsOf gather
+unfolding wordsOf concatMap
 words-cons c cs = refl
 
 length-words : (c : List ℕ) (cs : List (List ℕ)) → length (wordsOf (c ∷ cs)) ≡ 1 + length c + length (wordsOf cs)
@@ -64,7 +64,7 @@ one-fits c true a k list h = let l : k ≤ length list = omega arith in rw (le-l
 one-fits c false a k list h = let l : k ≤ length list = omega arith in rw (le-ltb _ _ l, emitOne)
 
 fits : (cs : List (List ℕ)) (w : Bool) (a k : ℕ) (list : List ℕ) → k + length (wordsOf cs) ≤ length list → emit cs (state (tally w a k) list) ≡ state (tally w (a + length cs) (k + length (wordsOf cs))) (filled w k (wordsOf cs) list)
-unfolding emit wordsOf gather
+unfolding emit wordsOf concatMap
 fits [] w a k list h = λ i. state (tally w (sym (add-zero a) i) (sym (add-zero k) i)) (none w i)
   where
     none : (w : Bool) → list ≡ filled w k [] list
@@ -100,7 +100,7 @@ unfolding emitOne
 one-more c s h = rw (le-ltb _ _ h, emitOne) (refl, length-written (s .tally) c (s .list))
 
 exceeds : (cs : List (List ℕ)) (s : State) → length (s .list) < s .tally .words + length (wordsOf cs) → length (s .list) < emit cs s .tally .words
-unfolding emit wordsOf gather
+unfolding emit wordsOf concatMap
 exceeds [] s h = omega arith
 exceeds (c ∷ cs) s h = go (decLt (length (s .list)) (s .tally .words)) (exceeds cs (emitOne c s))
   where

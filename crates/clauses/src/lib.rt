@@ -15,7 +15,7 @@ use clauses_emit::Tally;
 use clauses_records::live_returns;
 use clauses_records::moves;
 use clauses_spec::Listed;
-use clauses_states::looks_apart;
+use clauses_states::labels_apart;
 use clauses_states::transitive;
 use limits::Limits;
 use table_spec::Starts;
@@ -50,7 +50,7 @@ fn all_groups(
         (state tally (now (list .entry))) ⌝ }
 {
     let count = states.len() as u8;
-    let first = looks_apart(states, tally, list);
+    let first = labels_apart(states, tally, list);
     let second = closure(whole, states, first, list);
     let third = moves(internals, count, second, list);
     let fourth = moves(calls, count, third, list);

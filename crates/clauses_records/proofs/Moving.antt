@@ -9,7 +9,7 @@ use native.Mathlib.Nat.{add-zero}
 use lib.ListN.{length, getD, take, drop, length-take}
 use lib.Dec.{eqb}
 use borrow.Author.Tests.{eq-eqb, ne-eqb}
-use Rattle.lists.specs.Lists.{gather, upto, keep, same}
+use Rattle.lists.specs.Lists.{concatMap, upto, filter, same}
 use Rattle.limits.specs.Limits.{stateMost, symbolMost}
 use Rattle.pairs.specs.Triangles.{apart}
 use Rattle.table_spec.specs.File.{records}
@@ -52,7 +52,7 @@ module _ (s : List ℕ) (p a p' q : ℕ) where
   unfolding moveClause emit
   move-self t e = sym (rw (eq-eqb q p e, moveClause))
 
-  module _ (found : List ℕ) {none c : Literals} (f : records 3 found ≡ keep (startsWith (q ∷ a ∷ [])) (records 3 s)) (z : Holds none []) (h : Holds c (withAll (literalsOf none) (premise p q))) where
+  module _ (found : List ℕ) {none c : Literals} (f : records 3 found ≡ filter (startsWith (q ∷ a ∷ [])) (records 3 s)) (z : Holds none []) (h : Holds c (withAll (literalsOf none) (premise p q))) where
     pub move-premised : Lent 3 stateMost s → Premised 3 found c
     move-premised o = record {
       some-width = omega arith;
@@ -77,11 +77,11 @@ symbol-few {w = w} {s = s} {at = at} i p h o = let k = o .symbols (take w (drop 
 
 -- the clauses of the record at a place
 pub move-turn : (n : ℕ) {s : List ℕ} {all : List (List ℕ)} {start : State} {at : ℕ} {now next : State}
-    → Along (λ r. gather (λ q. moveClause (records 3 s) (getD r 0 0) (getD r 1 0) (getD r 2 0) q) (upto n)) 3 s all start at now → 3 ≤ length s - at
-    → next ≡ emit (gather (λ q. moveClause (records 3 s) (getD s at 0) (getD s (at + 1) 0) (getD s (at + 2) 0) q) (upto n)) now
-    → Along (λ r. gather (λ q. moveClause (records 3 s) (getD r 0 0) (getD r 1 0) (getD r 2 0) q) (upto n)) 3 s all start (at + 3) next
+    → Along (λ r. concatMap (λ q. moveClause (records 3 s) (getD r 0 0) (getD r 1 0) (getD r 2 0) q) (upto n)) 3 s all start at now → 3 ≤ length s - at
+    → next ≡ emit (concatMap (λ q. moveClause (records 3 s) (getD s at 0) (getD s (at + 1) 0) (getD s (at + 2) 0) q) (upto n)) now
+    → Along (λ r. concatMap (λ q. moveClause (records 3 s) (getD r 0 0) (getD r 1 0) (getD r 2 0) q) (upto n)) 3 s all start (at + 3) next
 move-turn n {s} {at} {now} i h e =
     let first : getD s at 0 ≡ getD (take 3 (drop at s)) 0 0 = sym (record-byte 3 s at 0 (omega arith) ∙ ap (λ k. getD s k 0) (add-zero at)) in
     let second : getD s (at + 1) 0 ≡ getD (take 3 (drop at s)) 1 0 = sym (record-byte 3 s at 1 (omega arith)) in
     let third : getD s (at + 2) 0 ≡ getD (take 3 (drop at s)) 2 0 = sym (record-byte 3 s at 2 (omega arith)) in
-    along-on i (omega arith) h (e ∙ λ j. emit (gather (λ q. moveClause (records 3 s) (first j) (second j) (third j) q) (upto n)) now)
+    along-on i (omega arith) h (e ∙ λ j. emit (concatMap (λ q. moveClause (records 3 s) (first j) (second j) (third j) q) (upto n)) now)

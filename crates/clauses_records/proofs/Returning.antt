@@ -11,11 +11,11 @@ use lib.ListN.{length, getD, take, drop}
 use lib.Pow.{pow-pos}
 use lib.Count.{trailingZeros}
 use lib.Dec.{eqb}
-use Rattle.lists.specs.Lists.{gather, keep, upto, same}
+use Rattle.lists.specs.Lists.{concatMap, filter, upto, same}
 use Rattle.lists.specs.Bits.{hasBit, has}
 use Rattle.lists.proofs.Bits.{no-bit}
 use Rattle.lists.proofs.Members.{and-true, and-of}
-use Rattle.lists.proofs.Lowest.{LowestBit, trailing-lowest, keep-none, keep-lowest, bit-le}
+use Rattle.lists.proofs.Lowest.{LowestBit, trailing-lowest, filter-none, filter-lowest, bit-le}
 use Rattle.limits.specs.Limits.{stateMost}
 use Rattle.table_spec.specs.File.{records}
 use Rattle.table_spec.specs.Language.{targets}
@@ -43,7 +43,7 @@ module _ (s : List ℕ) (x : Return) (q u : ℕ) where
   unfolding returnClause emit
   return-self t e f = let g : (eqb q (x .from) && eqb u (x .under)) ≡ true = sym e ∙ f in sym (rw (g, returnClause))
 
-  module _ (found : List ℕ) {none c d : Literals} (f : records 4 found ≡ keep (startsWith (q ∷ x .symbol ∷ u ∷ [])) (records 4 s))
+  module _ (found : List ℕ) {none c d : Literals} (f : records 4 found ≡ filter (startsWith (q ∷ x .symbol ∷ u ∷ [])) (records 4 s))
       (z : Holds none []) (h : Holds c (withAll (literalsOf none) (premise (x .from) q))) (k : Holds d (withAll (literalsOf c) (premise (x .under) u))) where
     pub return-premised : Lent 4 stateMost s → Premised 4 found d
     return-premised o = record {
@@ -69,9 +69,9 @@ module _ (s : List ℕ) (x : Return) (q u : ℕ) where
 module _ (g : ℕ → List (List ℕ)) (n : ℕ) where
   pub record Toward (all : List (List ℕ)) (start : State) (rest : ℕ) (now : State) : Type 0 where
     pub small : rest < 2 ^ 64
-    pub coming : Coming all start (gather g (keep (hasBit rest) (upto n))) now
+    pub coming : Coming all start (concatMap g (filter (hasBit rest) (upto n))) now
 
-  pub toward : (word : ℕ) (start : State) → word < 2 ^ 64 → Ordered (start .tally) → Toward (gather g (keep (hasBit word) (upto n))) start word start
+  pub toward : (word : ℕ) (start : State) → word < 2 ^ 64 → Ordered (start .tally) → Toward (concatMap g (filter (hasBit word) (upto n))) start word start
   toward word start l h = record { small = l; coming = coming _ start h }
 
 module _ {g : ℕ → List (List ℕ)} {n : ℕ} {all : List (List ℕ)} {start : State} {rest : ℕ} {now : State} (w : Toward g n all start rest now) where
@@ -84,20 +84,20 @@ module _ {g : ℕ → List (List ℕ)} {n : ℕ} {all : List (List ℕ)} {start 
     toward-less = omega (arith, pow-pos (trailingZeros 64 rest), bit-le rest (trailingZeros 64 rest) (trailing-lowest 64 rest (w .small) d .1 .own))
 
     pub toward-on : {next : State} {later : ℕ} → u < n → next ≡ emit (g u) now → later ≡ rest - 2 ^ trailingZeros 64 rest → Toward g n all start later next
-    unfolding gather
+    unfolding concatMap
     toward-on {next} {later} h f l =
         let k : rest - 2 ^ u ≡ later = ap (λ x. rest - 2 ^ x) e ∙ sym l in
-        let step : keep (hasBit rest) (upto n) ≡ u ∷ keep (hasBit later) (upto n) = keep-lowest n rest u low h ∙ ap (λ v. u ∷ keep (hasBit v) (upto n)) k in
-        record { small = omega (arith, w .small, toward-less); coming = come-on (g u) _ (come-as (ap (gather g) step) (w .coming)) f }
+        let step : filter (hasBit rest) (upto n) ≡ u ∷ filter (hasBit later) (upto n) = filter-lowest n rest u low h ∙ ap (λ v. u ∷ filter (hasBit v) (upto n)) k in
+        record { small = omega (arith, w .small, toward-less); coming = come-on (g u) _ (come-as (ap (concatMap g) step) (w .coming)) f }
 
     -- bottom is no state: no top is left
     pub toward-past : n ≤ u → now ≡ emit all start
-    unfolding gather
-    toward-past h = come (come-as (ap (gather g) (keep-none n rest (λ x l b. let k = low .least x b in omega arith))) (w .coming))
+    unfolding concatMap
+    toward-past h = come (come-as (ap (concatMap g) (filter-none n rest (λ x l b. let k = low .least x b in omega arith))) (w .coming))
 
   pub toward-done : rest ≡ 0 → now ≡ emit all start
-  unfolding gather
-  toward-done e = come (come-as (ap (gather g) (ap (λ v. keep (hasBit v) (upto n)) e ∙ keep-none n 0 (λ x l. no-bit x))) (w .coming))
+  unfolding concatMap
+  toward-done e = come (come-as (ap (concatMap g) (ap (λ v. filter (hasBit v) (upto n)) e ∙ filter-none n 0 (λ x l. no-bit x))) (w .coming))
 
 -- ---- one record
 
@@ -111,53 +111,53 @@ starts-shorter q a u (x ∷ y ∷ z ∷ r) e =
     let p = and-true (eqb q x) (same (a ∷ u ∷ []) (y ∷ z ∷ [])) e in
     and-of (p .0) (and-of (and-true (eqb a y) (same (u ∷ []) (z ∷ [])) (p .1) .0) refl)
 
-keep-within : (f g : List ℕ → Bool) (rs : List (List ℕ)) → ((r : List ℕ) → f r ≡ true → g r ≡ true) → keep f (keep g rs) ≡ keep f rs
-unfolding keep
-keep-within f g [] h = refl
-keep-within f g (r ∷ rs) h = go (f r) (g r) refl refl (keep-within f g rs h)
+filter-within : (f g : List ℕ → Bool) (rs : List (List ℕ)) → ((r : List ℕ) → f r ≡ true → g r ≡ true) → filter f (filter g rs) ≡ filter f rs
+unfolding filter
+filter-within f g [] h = refl
+filter-within f g (r ∷ rs) h = go (f r) (g r) refl refl (filter-within f g rs h)
   where
-    go : (t v : Bool) → f r ≡ t → g r ≡ v → keep f (keep g rs) ≡ keep f rs → keep f (keep g (r ∷ rs)) ≡ keep f (r ∷ rs)
-    go true true a b ih = rw (b, keep, a, keep) (ap (λ ss. r ∷ ss) ih)
+    go : (t v : Bool) → f r ≡ t → g r ≡ v → filter f (filter g rs) ≡ filter f rs → filter f (filter g (r ∷ rs)) ≡ filter f (r ∷ rs)
+    go true true a b ih = rw (b, filter, a, filter) (ap (λ ss. r ∷ ss) ih)
     go true false a b ih = absurd (true≢false (sym (h r a) ∙ b))
-    go false true a b ih = rw (b, keep, a, keep) ih
-    go false false a b ih = rw (b, keep, a, keep) ih
+    go false true a b ih = rw (b, filter, a, filter) ih
+    go false false a b ih = rw (b, filter, a, filter) ih
 
 -- the clause by a part that has all the records that it is about is the one by all records
-of-part : (s part : List ℕ) (x : Return) (q u : ℕ) (g : List ℕ → Bool) → ((r : List ℕ) → startsWith (q ∷ x .symbol ∷ u ∷ []) r ≡ true → g r ≡ true) → records 4 part ≡ keep g (records 4 s) → returnOf (records 4 part) x q u ≡ returnOf (records 4 s) x q u
+of-part : (s part : List ℕ) (x : Return) (q u : ℕ) (g : List ℕ → Bool) → ((r : List ℕ) → startsWith (q ∷ x .symbol ∷ u ∷ []) r ≡ true → g r ≡ true) → records 4 part ≡ filter g (records 4 s) → returnOf (records 4 part) x q u ≡ returnOf (records 4 s) x q u
 unfolding returnClause targets startsWith
 of-part s part x q u g h e =
     let own = startsWith (q ∷ x .symbol ∷ u ∷ []) in
-    let f : keep own (records 4 part) ≡ keep own (records 4 s) = ap (keep own) e ∙ keep-within own g (records 4 s) h in
+    let f : filter own (records 4 part) ≡ filter own (records 4 s) = ap (filter own) e ∙ filter-within own g (records 4 s) h in
     λ i. elim (eqb q (x .from) && eqb u (x .under)) as (λ _. List (List ℕ)) [ true ↦ [] | false ↦ matching (premise (x .from) q ++ premise (x .under) u) (x .to) (map (λ r. getD r 3 0) (f i)) ]
 
 -- by the returns over the top
-pub of-top : (s part : List ℕ) (x : Return) (q u : ℕ) → records 4 part ≡ keep (startsWith (q ∷ x .symbol ∷ u ∷ [])) (records 4 s) → (t : State) {next : State} → next ≡ emit (returnOf (records 4 part) x q u) t → next ≡ emit (returnOf (records 4 s) x q u) t
+pub of-top : (s part : List ℕ) (x : Return) (q u : ℕ) → records 4 part ≡ filter (startsWith (q ∷ x .symbol ∷ u ∷ [])) (records 4 s) → (t : State) {next : State} → next ≡ emit (returnOf (records 4 part) x q u) t → next ≡ emit (returnOf (records 4 s) x q u) t
 of-top s part x q u e t f = f ∙ ap (λ cs. emit cs t) (of-part s part x q u (startsWith (q ∷ x .symbol ∷ u ∷ [])) (λ r h. h) e)
 
 -- the tops of a state are those of its word, which the code reads at i
-pub of-word : (s part : List ℕ) (x : Return) (q : ℕ) → records 4 part ≡ keep (startsWith (q ∷ x .symbol ∷ [])) (records 4 s) → (f : List ℕ) (n : ℕ) {i : ℕ} (t : State) {next : State} → i ≡ q
-    → next ≡ emit (gather (λ u. returnOf (records 4 part) x q u) (keep (hasBit (getD f i 0)) (upto n))) t → next ≡ emit (gather (λ u. returnOf (records 4 s) x q u) (topStates f n q)) t
+pub of-word : (s part : List ℕ) (x : Return) (q : ℕ) → records 4 part ≡ filter (startsWith (q ∷ x .symbol ∷ [])) (records 4 s) → (f : List ℕ) (n : ℕ) {i : ℕ} (t : State) {next : State} → i ≡ q
+    → next ≡ emit (concatMap (λ u. returnOf (records 4 part) x q u) (filter (hasBit (getD f i 0)) (upto n))) t → next ≡ emit (concatMap (λ u. returnOf (records 4 s) x q u) (topStates f n q)) t
 unfolding topStates has
-of-word s part x q d f n t e h = h ∙ (λ j. emit (gather (λ u. of-part s part x q u (startsWith (q ∷ x .symbol ∷ [])) (starts-shorter q (x .symbol) u) d j) (keep (hasBit (getD f (e j) 0)) (upto n))) t)
+of-word s part x q d f n t e h = h ∙ (λ j. emit (concatMap (λ u. of-part s part x q u (startsWith (q ∷ x .symbol ∷ [])) (starts-shorter q (x .symbol) u) d j) (filter (hasBit (getD f (e j) 0)) (upto n))) t)
 
 module _ (rs : List (List ℕ)) (f : List ℕ) (n : ℕ) (x : Return) (t : State) {b : Bool} (e : b ≡ has f (x .from) (x .under)) where
   pub dead : b ≡ false → t ≡ emit (liveRecord rs f n x) t
   unfolding liveRecord emit
   dead g = let h : has f (x .from) (x .under) ≡ false = sym e ∙ g in sym (rw (h, liveRecord))
 
-  pub alive : {next : State} → b ≡ true → next ≡ emit (gather (λ q. gather (λ u. returnOf rs x q u) (topStates f n q)) (upto n)) t → next ≡ emit (liveRecord rs f n x) t
+  pub alive : {next : State} → b ≡ true → next ≡ emit (concatMap (λ q. concatMap (λ u. returnOf rs x q u) (topStates f n q)) (upto n)) t → next ≡ emit (liveRecord rs f n x) t
   unfolding liveRecord
   alive g k = let h : has f (x .from) (x .under) ≡ true = sym e ∙ g in k ∙ sym (rw (h, liveRecord))
 
-gather-keep : {A : Type 0} (test : A → Bool) (g : A → List (List ℕ)) (xs : List A) → gather g (keep test xs) ≡ gather (λ y. elim (test y) [ true ↦ g y | false ↦ [] ]) xs
-unfolding gather keep
-gather-keep test g [] = refl
-gather-keep test g (y ∷ xs) = go (test y) refl (gather-keep test g xs)
+concatMap-filter : {A : Type 0} (test : A → Bool) (g : A → List (List ℕ)) (xs : List A) → concatMap g (filter test xs) ≡ concatMap (λ y. elim (test y) [ true ↦ g y | false ↦ [] ]) xs
+unfolding concatMap filter
+concatMap-filter test g [] = refl
+concatMap-filter test g (y ∷ xs) = go (test y) refl (concatMap-filter test g xs)
   where
-    go : (t : Bool) → test y ≡ t → gather g (keep test xs) ≡ gather (λ y. elim (test y) [ true ↦ g y | false ↦ [] ]) xs
-        → gather g (keep test (y ∷ xs)) ≡ elim t as (λ _. List (List ℕ)) [ true ↦ g y | false ↦ [] ] ++ gather (λ y. elim (test y) [ true ↦ g y | false ↦ [] ]) xs
-    go true p ih = rw (p, keep) (ap (λ cs. g y ++ cs) ih)
-    go false p ih = rw (p, keep) ih
+    go : (t : Bool) → test y ≡ t → concatMap g (filter test xs) ≡ concatMap (λ y. elim (test y) [ true ↦ g y | false ↦ [] ]) xs
+        → concatMap g (filter test (y ∷ xs)) ≡ elim t as (λ _. List (List ℕ)) [ true ↦ g y | false ↦ [] ] ++ concatMap (λ y. elim (test y) [ true ↦ g y | false ↦ [] ]) xs
+    go true p ih = rw (p, filter) (ap (λ cs. g y ++ cs) ih)
+    go false p ih = rw (p, filter) ih
 
 -- a record's fields
 abbrev pub fieldsOf : List ℕ → Return
@@ -166,7 +166,7 @@ fieldsOf r = record { from = getD r 0 0; symbol = getD r 1 0; under = getD r 2 0
 module _ (f : List ℕ) (n : ℕ) (s : List ℕ) where
   pub return-all : (start : State) → Ordered (start .tally) → Along (λ r. liveRecord (records 4 s) f n (fieldsOf r)) 4 s (returnClausesBy f (records 4 s) n) start 0 start
   unfolding returnClausesBy liveRecord live
-  return-all start h = let w = along-all (λ r. liveRecord (records 4 s) f n (fieldsOf r)) 4 s start h in record { inside = w .inside; among = w .among; coming = come-all (sym (gather-keep (live f) (λ r. gather (λ q. gather (λ u. returnOf (records 4 s) (fieldsOf r) q u) (topStates f n q)) (upto n)) (records 4 s))) (w .coming) }
+  return-all start h = let w = along-all (λ r. liveRecord (records 4 s) f n (fieldsOf r)) 4 s start h in record { inside = w .inside; among = w .among; coming = come-all (sym (concatMap-filter (live f) (λ r. concatMap (λ q. concatMap (λ u. returnOf (records 4 s) (fieldsOf r) q u) (topStates f n q)) (upto n)) (records 4 s))) (w .coming) }
 
 module _ {s : List ℕ} {g : List ℕ → List (List ℕ)} {all : List (List ℕ)} {start : State} {at : ℕ} {now : State} (i : Along g 4 s all start at now) (h : 4 ≤ length s - at) where
   first : getD (take 4 (drop at s)) 0 0 ≡ getD s at 0

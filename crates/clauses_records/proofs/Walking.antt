@@ -9,9 +9,9 @@ use native.Mathlib.Decide.{decLt, ℕ-discrete}
 use lib.ListN.{length, getD, take, drop}
 use lib.Dec.{eqb}
 use borrow.Author.Tests.{eq-eqb, eqb-true}
-use Rattle.lists.specs.Lists.{keep, same}
+use Rattle.lists.specs.Lists.{filter, same}
 use Rattle.lists.specs.Bits.{Bit}
-use Rattle.lists.proofs.Members.{and-true, and-of, not-so, getD-mem, keep-mem}
+use Rattle.lists.proofs.Members.{and-true, and-of, not-so, getD-mem, filter-mem}
 use Rattle.lists.proofs.Lowest.{LowestBit, clear-own, clear-other}
 use Rattle.limits.specs.Limits.{stateMost}
 use Rattle.table_spec.specs.File.{records}
@@ -22,22 +22,22 @@ use Rattle.table_find.specs.Spans.{startsWith}
 use Rattle.table_find.proofs.Spanning.{span-records}
 use Rattle.table_index.specs.Index.{Lent}
 use Rattle.table_index.proofs.Index.{record-there, byte-at}
-use Rattle.table_index.proofs.Blocks.{keep-run, lent-kept}
+use Rattle.table_index.proofs.Blocks.{filter-run, lent-kept}
 use Rattle.clauses_records.specs.Returns.{Starting, under, Reached}
 
 -- ---- records that start with a key
 
 -- those of others that do
-pub starting-kept : {s : List ℕ} (key part : List ℕ) → Lent 4 stateMost s → records 4 part ≡ keep (startsWith key) (records 4 s) → Starting key part
-starting-kept {s} key part h e = record { lent = lent-kept part (startsWith key) h e; each = λ r m. keep-mem (startsWith key) (records 4 s) r (subst (λ (rs : List (List ℕ)). List·Memᴰ r rs) e m) .1 }
+pub equal-range-kept : {s : List ℕ} (key part : List ℕ) → Lent 4 stateMost s → records 4 part ≡ filter (startsWith key) (records 4 s) → Starting key part
+equal-range-kept {s} key part h e = record { lent = lent-kept part (startsWith key) h e; each = λ r m. filter-mem (startsWith key) (records 4 s) r (subst (λ (rs : List (List ℕ)). List·Memᴰ r rs) e m) .1 }
 
-keep-all : (f : List ℕ → Bool) (rs : List (List ℕ)) → ((r : List ℕ) → List·Memᴰ r rs → f r ≡ true) → keep f rs ≡ rs
-unfolding keep
-keep-all f [] h = refl
-keep-all f (r ∷ rs) h = rw (h r (List·Memᴰ·head refl), keep) (ap (λ ss. r ∷ ss) (keep-all f rs (λ s m. h s (List·Memᴰ·tail m))))
+filter-all : (f : List ℕ → Bool) (rs : List (List ℕ)) → ((r : List ℕ) → List·Memᴰ r rs → f r ≡ true) → filter f rs ≡ rs
+unfolding filter
+filter-all f [] h = refl
+filter-all f (r ∷ rs) h = rw (h r (List·Memᴰ·head refl), filter) (ap (λ ss. r ∷ ss) (filter-all f rs (λ s m. h s (List·Memᴰ·tail m))))
 
-pub starting-all : {key s : List ℕ} → Starting key s → records 4 s ≡ keep (startsWith key) (records 4 s)
-starting-all {key} {s} o = sym (keep-all (startsWith key) (records 4 s) (o .each))
+pub equal-range-all : {key s : List ℕ} → Starting key s → records 4 s ≡ filter (startsWith key) (records 4 s)
+equal-range-all {key} {s} o = sym (filter-all (startsWith key) (records 4 s) (o .each))
 
 -- ---- a key and one byte more
 
@@ -176,7 +176,7 @@ module _ {s : List ℕ} {rest at u from to : ℕ} (w : Walked s rest at) (low : 
     elsewhere k l n = not-so _ (λ e. n (three-start q a u (getD (records 4 s) k []) (long k l) e .1))
 
     -- the part walked over has the records over the top
-    pub walk-found : records 4 (take (to * 4 - from * 4) (drop (from * 4) s)) ≡ keep (startsWith (q ∷ a ∷ u ∷ [])) (records 4 s)
+    pub walk-found : records 4 (take (to * 4 - from * 4) (drop (from * 4) s)) ≡ filter (startsWith (q ∷ a ∷ u ∷ [])) (records 4 s)
     walk-found =
         let m = to - from in
         let n : to ≡ from + m = omega (arith, t .begun) in
@@ -184,7 +184,7 @@ module _ {s : List ℕ} {rest at u from to : ℕ} (w : Walked s rest at) (low : 
         let i : to ≤ length (records 4 s) = t .within in
         ap (λ v. records 4 (take v (drop (from * 4) s))) e
         ∙ span-records 4 s from m (omega arith) (omega (arith, length-records 4 s))
-        ∙ sym (keep-run (startsWith (q ∷ a ∷ u ∷ [])) [] from m (records 4 s) (omega arith)
+        ∙ sym (filter-run (startsWith (q ∷ a ∷ u ∷ [])) [] from m (records 4 s) (omega arith)
         (λ k l. elsewhere k (omega arith) (λ g. omega (arith, below-from k l)))
         (λ k l g. let d : k < length (records 4 s) = omega arith in starts-three q a u (getD (records 4 s) k []) (long k d) (own k d) (omega (arith, below-to k (omega arith), f .there (omega arith), rises from k l d)))
         (λ k l g. elsewhere k g (λ d. omega (arith, t .there (omega arith), rises to k (omega arith) g))))

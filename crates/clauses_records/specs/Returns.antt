@@ -4,7 +4,7 @@ use mathlib.Core.Bool.{true, false}
 use mathlib.Core.List.{List, [], List·Memᴰ}
 use Prim.Native.Nat.{ℕ, _<_, _≤_}
 use lib.ListN.{length, getD}
-use Rattle.lists.specs.Lists.{gather, keep, upto}
+use Rattle.lists.specs.Lists.{concatMap, filter, upto}
 use Rattle.lists.specs.Bits.{has}
 use Rattle.limits.specs.Limits.{stateMost}
 use Rattle.table_spec.specs.File.{records}
@@ -37,13 +37,13 @@ returnOf rs x q u = returnClause rs (x .from) (x .symbol) (x .under) (x .to) q u
 -- the clauses of one record under the tops, which has none where it is dead
 unfoldable pub liveRecord : List (List ℕ) → List ℕ → ℕ → Return → List (List ℕ)
 liveRecord rs f n x = elim (has f (x .from) (x .under)) [
-  | true ↦ gather (λ q. gather (λ u. returnOf rs x q u) (topStates f n q)) (upto n)
+  | true ↦ concatMap (λ q. concatMap (λ u. returnOf rs x q u) (topStates f n q)) (upto n)
   | false ↦ []
 ]
 
 -- the whole group, by the tops, the records and how many states there are
 unfoldable pub returnClausesBy : List ℕ → List (List ℕ) → ℕ → List (List ℕ)
 returnClausesBy f rs n =
-    gather (λ r. gather (λ q. gather (λ u.
+    concatMap (λ r. concatMap (λ q. concatMap (λ u.
     returnClause rs (getD r 0 0) (getD r 1 0) (getD r 2 0) (getD r 3 0) q u)
-    (topStates f n q)) (upto n)) (keep (live f) rs)
+    (topStates f n q)) (upto n)) (filter (live f) rs)

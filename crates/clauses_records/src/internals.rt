@@ -1,7 +1,7 @@
 // The clauses of internals and calls: groups 3 and 4 of the list.
 ghost use mathlib.Core.Path.{_≡_};
 ghost use Prim.Native.Nat.{_<_, _≤_};
-ghost use Rattle.lists.specs.Lists.{gather, upto};
+ghost use Rattle.lists.specs.Lists.{concatMap, upto};
 ghost use Rattle.table_spec.specs.File.{records};
 ghost use Rattle.clauses_spec.specs.Clauses.{moveClause, moveClauses};
 ghost use Rattle.clauses_emit.specs.Emit.{state, Ordered, emit};
@@ -48,7 +48,7 @@ fn move_record(
     list: &mut [u16],
 ) -> Tally
     requires { ⌜ Lent 3 40 (now section) × Indexed count (records 3 (now section)) (now starts) × (count ≤ 40) × (a < 64) × Ordered tally ⌝ }
-    ensures { λ r. ⌜ state r (now (list .exit)) ≡ emit (gather (λ q. moveClause (records 3 (now (section .entry))) p a target q) (upto count)) (state tally (now (list .entry))) ⌝ }
+    ensures { λ r. ⌜ state r (now (list .exit)) ≡ emit (concatMap (λ q. moveClause (records 3 (now (section .entry))) p a target q) (upto count)) (state tally (now (list .entry))) ⌝ }
 {
     let mut at = tally;
     let mut q: u8 = 0;

@@ -5,7 +5,7 @@ ghost use mathlib.Core.List.{[], _∷_};
 ghost use Prim.Native.Nat.{_≤_, _<_};
 ghost use lib.ListN.{length};
 ghost use lib.Dec.{eqb};
-ghost use Rattle.lists.specs.Lists.{gather, keep, upto};
+ghost use Rattle.lists.specs.Lists.{concatMap, filter, upto};
 ghost use Rattle.lists.specs.Bits.{hasBit, has};
 ghost use Rattle.table_spec.specs.File.{records};
 ghost use Rattle.clauses_spec.specs.Clauses.{topStates};
@@ -79,7 +79,7 @@ fn return_tops(
     list: &mut [u16],
 ) -> Tally
     requires { ⌜ Starting (q ∷ x .symbol ∷ []) (now block) × Ordered tally ⌝ }
-    ensures { λ r. ⌜ state r (now (list .exit)) ≡ emit (gather (λ u. returnOf (records 4 (now (block .entry))) x q u) (keep (hasBit word) (upto count))) (state tally (now (list .entry))) ⌝ }
+    ensures { λ r. ⌜ state r (now (list .exit)) ≡ emit (concatMap (λ u. returnOf (records 4 (now (block .entry))) x q u) (filter (hasBit word) (upto count))) (state tally (now (list .entry))) ⌝ }
 {
     let mut so_far = tally;
     let mut rest = word;
@@ -113,7 +113,7 @@ fn return_record(
     requires { ⌜ Lent 4 40 (now section) × Indexed count (records 4 (now section)) (now starts) × (x .symbol < 64) × (count ≤ 40) × Ordered tally ⌝ }
     ensures { λ r. ⌜
         state r (now (list .exit))
-        ≡ emit (gather (λ q. gather (λ u. returnOf (records 4 (now (section .entry))) x q u) (topStates (now (tops .entry)) count q)) (upto count))
+        ≡ emit (concatMap (λ q. concatMap (λ u. returnOf (records 4 (now (section .entry))) x q u) (topStates (now (tops .entry)) count q)) (upto count))
         (state tally (now (list .entry))) ⌝ }
 {
     let mut at = tally;

@@ -10,9 +10,9 @@ use native.Mathlib.Decide.{ℕ-discrete}
 use lib.ListN.{length, getD}
 use lib.Dec.{eqb, ltb}
 use borrow.Author.Tests.{eqb-true, eqb-false, ne-eqb, not-true}
-use Rattle.lists.specs.Lists.{any, all, keep, upto, mem}
+use Rattle.lists.specs.Lists.{any, all, filter, upto, mem}
 use Rattle.lists.specs.Bits.{has}
-use Rattle.lists.proofs.Members.{and-true, any-false, all-of, keep-mem, gather-mem, upto-mem, mem-true, mem-of, mem-false}
+use Rattle.lists.proofs.Members.{and-true, any-false, all-of, filter-mem, concatMap-mem, upto-mem, mem-true, mem-of, mem-false}
 use Rattle.cnf.specs.Clauses.{distinct, clauseFits, isPositive, Horn}
 use Rattle.cnf.proofs.Words.{fits-of}
 use Rattle.limits.specs.declared.Limits.{Limits}
@@ -111,17 +111,17 @@ together-half p q = omega arith
 -- ---- positive literals
 
 -- all positive literals are one, and no variable stands twice: at most one is positive
-keep-none : (c : List ℕ) → ((l : ℕ) → List·Memᴰ l c → isPositive l ≡ false) → length (keep isPositive c) ≡ 0
-unfolding keep
-keep-none [] h = refl
-keep-none (l ∷ c) h = rw (h l (List·Memᴰ·head refl), keep) (keep-none c (λ k m. h k (List·Memᴰ·tail m)))
+filter-none : (c : List ℕ) → ((l : ℕ) → List·Memᴰ l c → isPositive l ≡ false) → length (filter isPositive c) ≡ 0
+unfolding filter
+filter-none [] h = refl
+filter-none (l ∷ c) h = rw (h l (List·Memᴰ·head refl), filter) (filter-none c (λ k m. h k (List·Memᴰ·tail m)))
 
 distinct-head : (x : ℕ) (xs : List ℕ) → distinct (x ∷ xs) ≡ true → (List·Memᴰ x xs → ⊥) × (distinct xs ≡ true)
 unfolding distinct
 distinct-head x xs d = let e = and-true (not (mem x xs)) (distinct xs) d in (λ m. true≢false (sym (mem-of x xs m) ∙ not-true (mem x xs) (e .0)), e .1)
 
-pub one-positive : (c : List ℕ) → distinct (map (λ l. l / 2) c) ≡ true → ((l k : ℕ) → List·Memᴰ l c → List·Memᴰ k c → isPositive l ≡ true → isPositive k ≡ true → l ≡ k) → length (keep isPositive c) ≤ 1
-unfolding keep
+pub one-positive : (c : List ℕ) → distinct (map (λ l. l / 2) c) ≡ true → ((l k : ℕ) → List·Memᴰ l c → List·Memᴰ k c → isPositive l ≡ true → isPositive k ≡ true → l ≡ k) → length (filter isPositive c) ≤ 1
+unfolding filter
 one-positive [] d h = zero-le
 one-positive (l ∷ c) d h = go (isPositive l) refl (one-positive c (distinct-head (l / 2) (map (λ k. k / 2) c) d .1) (λ a b i j. h a b (List·Memᴰ·tail i) (List·Memᴰ·tail j)))
   where
@@ -129,8 +129,8 @@ one-positive (l ∷ c) d h = go (isPositive l) refl (one-positive c (distinct-he
     other p k m true e = absurd (distinct-head (l / 2) (map (λ k. k / 2) c) d .0 (subst (λ (x : ℕ). List·Memᴰ (x / 2) (map (λ k. k / 2) c)) (sym (h l k (List·Memᴰ·head refl) (List·Memᴰ·tail m) p e)) (mathlib.Core.List.Memᴰ·map (λ k. k / 2) m)))
     other p k m false e = e
 
-    go : (t : Bool) → isPositive l ≡ t → length (keep isPositive c) ≤ 1 → length {A = ℕ} (elim t [ true ↦ l ∷ keep isPositive c | false ↦ keep isPositive c ]) ≤ 1
-    go true p r = omega (arith, keep-none c (λ k m. other p k m (isPositive k) refl))
+    go : (t : Bool) → isPositive l ≡ t → length (filter isPositive c) ≤ 1 → length {A = ℕ} (elim t [ true ↦ l ∷ filter isPositive c | false ↦ filter isPositive c ]) ≤ 1
+    go true p r = omega (arith, filter-none c (λ k m. other p k m (isPositive k) refl))
     go false p r = r
 
 apart-negative : (p q : ℕ) → isPositive (apart p q) ≡ false
@@ -156,8 +156,8 @@ module _ (t : Table) where
   look-kinds : (c : List ℕ) → List·Memᴰ c (lookClauses t) → Kind c
   unfolding lookClauses
   look-kinds c m =
-      let a = gather-mem _ (upto (count t)) c m in
-      let b = gather-mem _ (upto (a .0)) c (a .2) in
+      let a = concatMap-mem _ (upto (count t)) c m in
+      let b = concatMap-mem _ (upto (a .0)) c (a .2) in
       go (a .0) (b .0) (upto-mem (count t) (a .0) (a .1)) (upto-mem (a .0) (b .0) (b .1)) (eqb (agreedOn (byteOf t (b .0))) (agreedOn (byteOf t (a .0)))) (b .2)
     where
       go : (q p : ℕ) → q < count t → p < q → (x : Bool) → List·Memᴰ c (elim x [ true ↦ [] | false ↦ (apart p q ∷ []) ∷ [] ]) → Kind c
@@ -178,9 +178,9 @@ module _ (t : Table) where
   transitivity-kinds : (c : List ℕ) → List·Memᴰ c (transitivity t) → Kind c
   unfolding transitivity triangles
   transitivity-kinds c m =
-      let a = gather-mem _ (upto (count t)) c m in
-      let b = gather-mem _ (past (count t) (a .0)) c (a .2) in
-      let d = gather-mem _ (past (count t) (b .0)) c (b .2) in
+      let a = concatMap-mem _ (upto (count t)) c m in
+      let b = concatMap-mem _ (past (count t) (a .0)) c (a .2) in
+      let d = concatMap-mem _ (past (count t) (b .0)) c (b .2) in
       let lq = past-mem (count t) (a .0) (b .0) (b .1) in
       let ls = past-mem (count t) (b .0) (d .0) (d .1) in
       triangle-kinds (a .0) (b .0) (d .0) (lq .0) (ls .0) (ls .1) c (d .2)
@@ -218,8 +218,8 @@ module _ (t : Table) where
   move-kinds : (kind : ℕ) (rs : List (List ℕ)) → Fit t kind 3 rs → (OneTarget t → (key : List ℕ) (q s : ℕ) → List·Memᴰ (key ++ (q ∷ [])) rs → List·Memᴰ (key ++ (s ∷ [])) rs → q ≡ s) → (c : List ℕ) → List·Memᴰ c (moveClauses rs (count t)) → Kind c
   unfolding moveClauses moveClause
   move-kinds kind rs fit one c m =
-      let a = gather-mem _ rs c m in
-      let b = gather-mem _ (upto (count t)) c (a .2) in
+      let a = concatMap-mem _ rs c m in
+      let b = concatMap-mem _ (upto (count t)) c (a .2) in
       let r = a .0 in
       go (getD r 0 0) (getD r 1 0) (getD r 2 0) (b .0) (fit .states r (a .1) 0 (omega arith) (omega arith)) (fit .states r (a .1) 2 (omega arith) (omega arith)) (upto-mem (count t) (b .0) (b .1)) (eqb (b .0) (getD r 0 0)) (b .2)
     where
@@ -231,12 +231,12 @@ module _ (t : Table) where
   return-kinds : Fit t 2 4 (t .returns) → (c : List ℕ) → List·Memᴰ c (returnClauses t) → Kind c
   unfolding returnClauses returnClause liveReturns topStates
   return-kinds fit c m =
-      let a = gather-mem _ (liveReturns t) c m in
-      let b = gather-mem _ (upto (count t)) c (a .2) in
-      let d = gather-mem _ (topStates (topWords t) (count t) (b .0)) c (b .2) in
+      let a = concatMap-mem _ (liveReturns t) c m in
+      let b = concatMap-mem _ (upto (count t)) c (a .2) in
+      let d = concatMap-mem _ (topStates (topWords t) (count t) (b .0)) c (b .2) in
       let r = a .0 in
-      let k = keep-mem (live (topWords t)) (t .returns) r (a .1) .0 in
-      let j = keep-mem (has (topWords t) (b .0)) (upto (count t)) (d .0) (d .1) .0 in
+      let k = filter-mem (live (topWords t)) (t .returns) r (a .1) .0 in
+      let j = filter-mem (has (topWords t) (b .0)) (upto (count t)) (d .0) (d .1) .0 in
       go (getD r 0 0) (getD r 1 0) (getD r 2 0) (getD r 3 0) (b .0) (d .0)
       (fit .states r k 0 (omega arith) (omega arith)) (fit .states r k 2 (omega arith) (omega arith)) (fit .states r k 3 (omega arith) (omega arith)) (upto-mem (count t) (b .0) (b .1)) (upto-mem (count t) (d .0) j)
       (eqb (b .0) (getD r 0 0) && eqb (d .0) (getD r 2 0)) (d .2)

@@ -10,9 +10,9 @@ use native.Mathlib.Decide.{ℕ-discrete}
 use lib.ListN.{length, getD}
 use lib.Dec.{eqb, ltb}
 use borrow.Author.Tests.{eqb-true, eqb-false, eq-eqb, ne-eqb, ltb-true, ltb-false}
-use Rattle.lists.specs.Lists.{gather, upto, mem}
+use Rattle.lists.specs.Lists.{concatMap, upto, mem}
 use Rattle.lists.specs.Bits.{has}
-use Rattle.lists.proofs.Members.{keep-mem, keep-of, gather-mem, gather-of, upto-mem, upto-of, mem-false}
+use Rattle.lists.proofs.Members.{filter-mem, filter-of, concatMap-mem, concatMap-of, upto-mem, upto-of, mem-false}
 use Rattle.cnf.specs.Clauses.{valueOf, Right, Assignment}
 use Rattle.pairs.specs.Pairs.{pairs, variableOf}
 use Rattle.pairs.specs.Triangles.{together, apart, past, triangle, triangles}
@@ -42,11 +42,11 @@ module _ (v : List ℕ) where
       go (inl l) = h c l
       go (inr l) = k c l
 
-  pub satisfied-each : {A : Type 0} (f : A → List (List ℕ)) (xs : List A) → ((x : A) → List·Memᴰ x xs → Satisfied v (f x)) → Satisfied v (gather f xs)
-  satisfied-each f xs h c m = let r = gather-mem f xs c m in h (r .0) (r .1) c (r .2)
+  pub satisfied-each : {A : Type 0} (f : A → List (List ℕ)) (xs : List A) → ((x : A) → List·Memᴰ x xs → Satisfied v (f x)) → Satisfied v (concatMap f xs)
+  satisfied-each f xs h c m = let r = concatMap-mem f xs c m in h (r .0) (r .1) c (r .2)
 
-  pub satisfied-at : {A : Type 0} (f : A → List (List ℕ)) (xs : List A) → Satisfied v (gather f xs) → (x : A) → List·Memᴰ x xs → Satisfied v (f x)
-  satisfied-at f xs h x m c k = h c (gather-of f xs x c m k)
+  pub satisfied-at : {A : Type 0} (f : A → List (List ℕ)) (xs : List A) → Satisfied v (concatMap f xs) → (x : A) → List·Memᴰ x xs → Satisfied v (f x)
+  satisfied-at f xs h x m c k = h c (concatMap-of f xs x c m k)
 
   -- where a test passes there is no clause
   pub satisfied-unless : (t : Bool) (cs : List (List ℕ)) → (t ≡ false → Satisfied v cs) → Satisfied v (elim t [ true ↦ [] | false ↦ cs ])
@@ -295,8 +295,8 @@ module _ (t : Table) (v : List ℕ) (full : Assignment (pairs (count t)) v) wher
     pub returns-satisfied : ReturnsMatch → Satisfied v (returnClauses t)
     unfolding returnClauses returnClause liveReturns live topStates
     returns-satisfied h = satisfied-each v _ (liveReturns t) (λ r mr. satisfied-each v _ (upto (count t)) (λ q mq. satisfied-each v _ (topStates (topWords t) (count t) q) (λ u mu. satisfied-unless v (eqb q (getD r 0 0) && eqb u (getD r 2 0)) _ (λ e.
-        let k = keep-mem (live (topWords t)) (t .returns) r mr in
-        let j = keep-mem (has (topWords t) q) (upto (count t)) u mu in
+        let k = filter-mem (live (topWords t)) (t .returns) r mr in
+        let j = filter-mem (has (topWords t) q) (upto (count t)) u mu in
         one (getD r 0 0) (getD r 1 0) (getD r 2 0) (getD r 3 0) q u (k .1) (j .1) (subst (λ (x : List ℕ). List·Memᴰ x (t .returns)) (four-bytes r (fit .wide r (k .0))) (k .0)) (upto-mem (count t) q mq) (upto-mem (count t) u (j .0))))))
       where
         one : (p a s p' q u : ℕ) → has (topWords t) p s ≡ true → has (topWords t) q u ≡ true → List·Memᴰ (p ∷ a ∷ s ∷ p' ∷ []) (t .returns) → q < count t → u < count t → Satisfied v (matching (premise p q ++ premise s u) p' (targets (t .returns) (q ∷ a ∷ u ∷ [])))
@@ -321,8 +321,8 @@ module _ (t : Table) (v : List ℕ) (full : Assignment (pairs (count t)) v) wher
             (unless-satisfied v (eqb q p && eqb u s) _
             (satisfied-at v _ (topStates (topWords t) (count t) q)
             (satisfied-at v _ (upto (count t))
-            (satisfied-at v _ (liveReturns t) h (p ∷ a ∷ s ∷ p' ∷ []) (keep-of (live (topWords t)) (t .returns) (p ∷ a ∷ s ∷ p' ∷ []) m hp)) q (upto-of (count t) q (r .right)))
-            u (keep-of (has (topWords t) q) (upto (count t)) u (upto-of (count t) u (z .right)) hq)) e)
+            (satisfied-at v _ (liveReturns t) h (p ∷ a ∷ s ∷ p' ∷ []) (filter-of (live (topWords t)) (t .returns) (p ∷ a ∷ s ∷ p' ∷ []) m hp)) q (upto-of (count t) q (r .right)))
+            u (filter-of (has (topWords t) q) (upto (count t)) u (upto-of (count t) u (z .right)) hq)) e)
 
         go : Dec (q ≡ p) → Dec (u ≡ s) → (q' : ℕ) × List·Memᴰ (q ∷ a ∷ u ∷ q' ∷ []) (t .returns) × Related (count t) v p' q'
         go (yes e) (yes f) = (p', subst (λ (x : List ℕ). List·Memᴰ x (t .returns)) (λ i. sym e i ∷ a ∷ sym f i ∷ p' ∷ []) m, related-refl (count t) v (end-below m))

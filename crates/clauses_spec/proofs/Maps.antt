@@ -10,8 +10,8 @@ use lib.ListN.{length, length-append, List·getD-append}
 use lib.Seq.{getD-append-seam}
 use lib.Dec.{leb}
 use borrow.Author.Tests.{eqb-true, eq-eqb, le-leb}
-use Rattle.lists.specs.Lists.{keep, upto}
-use Rattle.lists.proofs.Members.{and-of, keep-mem, keep-of, upto-mem, upto-of}
+use Rattle.lists.specs.Lists.{filter, upto}
+use Rattle.lists.proofs.Members.{and-of, filter-mem, filter-of, upto-mem, upto-of}
 use Rattle.table_spec.specs.Maps.{classOf, classes, numberedFrom, numbered}
 use Rattle.check_spec.proofs.Numbered.{class-below}
 use Rattle.clauses_spec.specs.Maps.{joinedBy, nextClass, mapOf}
@@ -51,17 +51,17 @@ module _ (n : ℕ) (v : List ℕ) (trans : (p q s : ℕ) → Related n v p q →
     unfolding joinedBy
     joined p b r = eq-eqb _ _ (related-true n v r (omega arith))
 
-    class-of : (ps : List ℕ) → keep (joinedBy v k) (upto k) ≡ ps → Class (nextClass m ps)
+    class-of : (ps : List ℕ) → filter (joinedBy v k) (upto k) ≡ ps → Class (nextClass m ps)
     unfolding nextClass
     class-of [] e = record {
       small = omega arith;
       members = λ p b. (
         λ f. absurd (omega (arith, class-below m p (omega (arith, h .long)))),
-        λ r. absurd (not-nil (subst (λ (ps : List ℕ). List·Memᴰ p ps) e (keep-of (joinedBy v k) (upto k) p (upto-of k p b) (joined p b r)))),
+        λ r. absurd (not-nil (subst (λ (ps : List ℕ). List·Memᴰ p ps) e (filter-of (joinedBy v k) (upto k) p (upto-of k p b) (joined p b r)))),
       );
     }
     class-of (s ∷ ps) e =
-        let f = keep-mem (joinedBy v k) (upto k) s (subst (λ (qs : List ℕ). List·Memᴰ s qs) (sym e) (List·Memᴰ·head refl)) in
+        let f = filter-mem (joinedBy v k) (upto k) s (subst (λ (qs : List ℕ). List·Memᴰ s qs) (sym e) (List·Memᴰ·head refl)) in
         let b = upto-mem k s (f .0) in
         let r = related s b (f .1) in
         record {
@@ -101,7 +101,7 @@ module _ (n : ℕ) (v : List ℕ) (trans : (p q s : ℕ) → Related n v p q →
   map-classed zero h = record { long = refl; proper = refl; joins = λ p q a b. absurd (omega arith) }
   map-classed (suc k) h =
       let c = map-classed k (omega arith) in
-      one-more k (mapOf v k) c h (nextClass (mapOf v k) (keep (joinedBy v k) (upto k))) (class-of k (mapOf v k) c h (keep (joinedBy v k) (upto k)) refl)
+      one-more k (mapOf v k) c h (nextClass (mapOf v k) (filter (joinedBy v k) (upto k))) (class-of k (mapOf v k) c h (filter (joinedBy v k) (upto k)) refl)
 
   -- the map of all n states
   pub map-long : length (mapOf v n) ≡ n

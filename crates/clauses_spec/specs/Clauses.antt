@@ -4,7 +4,7 @@ use mathlib.Core.List.{List, [], _∷_, _++_, map}
 use Prim.Native.Nat.{ℕ, _+_, _-_, _%_}
 use lib.ListN.{length, getD}
 use lib.Dec.{eqb, leb}
-use Rattle.lists.specs.Lists.{any, keep, gather, upto, mem, over, firstFailed, stage, Says}
+use Rattle.lists.specs.Lists.{any, filter, concatMap, upto, mem, over, firstFailed, stage, Says}
 use Rattle.lists.specs.Bits.{has}
 use Rattle.cnf.specs.Clauses.{wordsOf}
 use Rattle.limits.specs.declared.Limits.{Limits}
@@ -31,7 +31,7 @@ tidy ls = elim (any (λ l. mem (opposite l) ls) ls) [ true ↦ [] | false ↦ on
 
 -- 1. 'By ascending variable: "false" where exactly one state is accepting.' Request (v): or where their marks differ
 unfoldable pub lookClauses : Table → List (List ℕ)
-lookClauses t = gather (λ q. gather (λ p. elim (eqb (agreedOn (byteOf t p)) (agreedOn (byteOf t q))) [ true ↦ [] | false ↦ (apart p q ∷ []) ∷ [] ]) (upto q)) (upto (count t))
+lookClauses t = concatMap (λ q. concatMap (λ p. elim (eqb (agreedOn (byteOf t p)) (agreedOn (byteOf t q))) [ true ↦ [] | false ↦ (apart p q ∷ []) ∷ [] ]) (upto q)) (upto (count t))
 
 -- 2. "For p < q < s ascending by p, then q, then s"
 unfoldable pub transitivity : Table → List (List ℕ)
@@ -51,7 +51,7 @@ moveClause rs p a p' q = elim (eqb q p) [ true ↦ [] | false ↦ matching (prem
 
 -- 3. "For each internal record (p, a, p') in file order and each q other than p ascending"; 4. "The same for calls."
 unfoldable pub moveClauses : List (List ℕ) → ℕ → List (List ℕ)
-moveClauses rs n = gather (λ r. gather (λ q. moveClause rs (getD r 0 0) (getD r 1 0) (getD r 2 0) q) (upto n)) rs
+moveClauses rs n = concatMap (λ r. concatMap (λ q. moveClause rs (getD r 0 0) (getD r 1 0) (getD r 2 0) q) (upto n)) rs
 
 -- the clause of a return (p, r, s, p'), a state q and a top u of q: "except q = p with u = s"
 unfoldable pub returnClause : List (List ℕ) → ℕ → ℕ → ℕ → ℕ → ℕ → ℕ → List (List ℕ)
@@ -59,12 +59,12 @@ returnClause rs p r s p' q u = elim (eqb q p && eqb u s) [ true ↦ [] | false �
 
 -- "each state u in tops(q) ascending"
 unfoldable pub topStates : List ℕ → ℕ → ℕ → List ℕ
-topStates f n q = keep (has f q) (upto n)
+topStates f n q = filter (has f q) (upto n)
 
 -- 5. "For each live return (p, r, s, p') in order, each q ascending, each state u in tops(q) ascending"
 unfoldable pub returnClauses : Table → List (List ℕ)
 returnClauses t =
-    gather (λ r. gather (λ q. gather (λ u.
+    concatMap (λ r. concatMap (λ q. concatMap (λ u.
     returnClause (t .returns) (getD r 0 0) (getD r 1 0) (getD r 2 0) (getD r 3 0) q u)
     (topStates (topWords t) (count t) q)) (upto (count t))) (liveReturns t)
 

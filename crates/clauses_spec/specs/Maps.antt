@@ -4,7 +4,7 @@ use mathlib.Core.List.{List, [], _∷_, _++_}
 use Prim.Native.Nat.{ℕ, zero, suc}
 use lib.ListN.{getD}
 use lib.Dec.{eqb}
-use Rattle.lists.specs.Lists.{keep, upto}
+use Rattle.lists.specs.Lists.{filter, upto}
 use Rattle.cnf.specs.Clauses.{valueOf}
 use Rattle.pairs.specs.Pairs.{variableOf}
 use Rattle.table_spec.specs.Maps.{classes}
@@ -21,4 +21,4 @@ nextClass m (p ∷ ps) = getD m p 0
 -- "gives joined states one class and numbers the classes by first member, from 0": the map of the first n states
 unfoldable pub mapOf : List ℕ → ℕ → List ℕ
 mapOf v zero = []
-mapOf v (suc q) = mapOf v q ++ (nextClass (mapOf v q) (keep (joinedBy v q) (upto q)) ∷ [])
+mapOf v (suc q) = mapOf v q ++ (nextClass (mapOf v q) (filter (joinedBy v q) (upto q)) ∷ [])

@@ -8,7 +8,7 @@ use lib.ListN.{length, getD}
 use lib.Dec.{eqb}
 use borrow.Author.Tests.{eq-eqb, ne-eqb}
 use Rattle.table_spec.specs.File.{ofStates}
-use Rattle.lists.specs.Lists.{any, mem, gather, upto}
+use Rattle.lists.specs.Lists.{any, mem, concatMap, upto}
 use Rattle.limits.specs.Limits.{stateMost}
 use Rattle.pairs.specs.declared.Pair.{Pair}
 use Rattle.pairs.specs.Pairs.{pairs, pairOf}
@@ -21,7 +21,7 @@ use Rattle.clauses_spec.specs.Clauses.{lookClauses}
 use Rattle.clauses_emit.specs.declared.literals.Literals.{Literals}
 use Rattle.clauses_emit.specs.Emit.{literalsOf, withLiteral, Holds, State, emit}
 use Rattle.clauses_states.specs.Alone.{lookClause}
-use Rattle.clauses_emit.proofs.Stepping.{gather-pairs}
+use Rattle.clauses_emit.proofs.Stepping.{concatMap-pairs}
 
 -- ---- group 1
 
@@ -58,12 +58,12 @@ module _ (s : List ℕ) {v low high : ℕ} (w : Placed (length s) v low high) wh
   pub look-other : (t : State) {next : State} {c : Literals} → (getD s low 0 / 2 ≡ getD s high 0 / 2 → ⊥) → Holds c ((2 * v + 1) ∷ []) → next ≡ emit (literalsOf c ∷ []) t → next ≡ emit (lookClause (ofStates s) (pairOf v .low) (pairOf v .high)) t
   look-other t d h e = e ∙ ap (λ ls. emit (ls ∷ []) t) (h .same) ∙ sym (ap (λ cs. emit cs t) (looks false (ne-eqb _ _ d)))
 
-look-clauses : (s : List ℕ) → lookClauses (ofStates s) ≡ gather (λ v. lookClause (ofStates s) (pairOf v .low) (pairOf v .high)) (upto (pairs (length s)))
+look-clauses : (s : List ℕ) → lookClauses (ofStates s) ≡ concatMap (λ v. lookClause (ofStates s) (pairOf v .low) (pairOf v .high)) (upto (pairs (length s)))
 unfolding lookClauses lookClause
-look-clauses s = sym (gather-pairs (lookClause (ofStates s)) (length s))
+look-clauses s = sym (concatMap-pairs (lookClause (ofStates s)) (length s))
 
-pub looked : (s : List ℕ) {end : ℕ} (start : State) {now : State} → end ≡ pairs (length s) → now ≡ emit (gather (λ v. lookClause (ofStates s) (pairOf v .low) (pairOf v .high)) (upto end)) start → now ≡ emit (lookClauses (ofStates s)) start
-looked s start e f = f ∙ ap (λ k. emit (gather (λ v. lookClause (ofStates s) (pairOf v .low) (pairOf v .high)) (upto k)) start) e ∙ ap (λ cs. emit cs start) (sym (look-clauses s))
+pub looked : (s : List ℕ) {end : ℕ} (start : State) {now : State} → end ≡ pairs (length s) → now ≡ emit (concatMap (λ v. lookClause (ofStates s) (pairOf v .low) (pairOf v .high)) (upto end)) start → now ≡ emit (lookClauses (ofStates s)) start
+looked s start e f = f ∙ ap (λ k. emit (concatMap (λ v. lookClause (ofStates s) (pairOf v .low) (pairOf v .high)) (upto k)) start) e ∙ ap (λ cs. emit cs start) (sym (look-clauses s))
 
 -- ---- group 2
 

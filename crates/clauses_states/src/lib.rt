@@ -4,7 +4,7 @@ ghost use mathlib.Core.List.{[], _∷_};
 ghost use Prim.Native.Nat.{_<_, _≤_};
 ghost use lib.ListN.{length};
 ghost use Rattle.table_spec.specs.File.{ofStates};
-ghost use Rattle.lists.specs.Lists.{gather};
+ghost use Rattle.lists.specs.Lists.{concatMap};
 ghost use Rattle.limits.specs.Limits.{stateMost};
 ghost use Rattle.pairs.specs.Pairs.{pairs, pairOf};
 ghost use Rattle.pairs.specs.Entries.{PairTable};
@@ -39,7 +39,7 @@ fn look_apart(states: &[u8], table: &[u16], v: u16, tally: Tally, list: &mut [u1
 }
 
 // 1. "By ascending variable".
-pub fn looks_apart(states: &[u8], tally: Tally, list: &mut [u16]) -> Tally
+pub fn labels_apart(states: &[u8], tally: Tally, list: &mut [u16]) -> Tally
     requires { ⌜ (length (now states) ≤ stateMost) × Ordered tally ⌝ }
     ensures { λ r. ⌜ state r (now (list .exit)) ≡ emit (lookClauses (ofStates (now (states .entry)))) (state tally (now (list .entry))) ⌝ }
 {
@@ -80,7 +80,7 @@ fn close(p: u8, q: u8, s: u8, tally: Tally, list: &mut [u16]) -> Tally
 // The states s past q.
 fn close_over(p: u8, q: u8, count: u8, tally: Tally, list: &mut [u16]) -> Tally
     requires { ⌜ (q < count) × Ordered tally ⌝ }
-    ensures { λ r. ⌜ state r (now (list .exit)) ≡ emit (gather (λ s. triangle p q s) (past count q)) (state tally (now (list .entry))) ⌝ }
+    ensures { λ r. ⌜ state r (now (list .exit)) ≡ emit (concatMap (λ s. triangle p q s) (past count q)) (state tally (now (list .entry))) ⌝ }
 {
     let mut at = tally;
     let mut s = q + 1;
@@ -94,7 +94,7 @@ fn close_over(p: u8, q: u8, count: u8, tally: Tally, list: &mut [u16]) -> Tally
 // The states q past p.
 fn close_from(p: u8, count: u8, tally: Tally, list: &mut [u16]) -> Tally
     requires { ⌜ (p < count) × Ordered tally ⌝ }
-    ensures { λ r. ⌜ state r (now (list .exit)) ≡ emit (gather (λ q. gather (λ s. triangle p q s) (past count q)) (past count p)) (state tally (now (list .entry))) ⌝ }
+    ensures { λ r. ⌜ state r (now (list .exit)) ≡ emit (concatMap (λ q. concatMap (λ s. triangle p q s) (past count q)) (past count p)) (state tally (now (list .entry))) ⌝ }
 {
     let mut at = tally;
     let mut q = p + 1;

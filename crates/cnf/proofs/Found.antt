@@ -10,8 +10,8 @@ use native.Mathlib.Omega.{arith}
 use lib.ListN.{length}
 use lib.Dec.{eqb}
 use borrow.Author.Tests.{eqb-true, eqb-false, eq-eqb, ne-eqb}
-use Rattle.lists.specs.Lists.{any, keep}
-use Rattle.lists.proofs.Members.{any-true, any-false, keep-mem, keep-of}
+use Rattle.lists.specs.Lists.{any, filter}
+use Rattle.lists.proofs.Members.{any-true, any-false, filter-mem, filter-of}
 use Rattle.cnf.specs.Clauses.{valueOf, Right}
 use Rattle.cnf.specs.Search.{isRight, isUnset, Seen, broken, forcing, quiet, byUnset, seen, both, scan, lowestUnset}
 use Rattle.cnf.specs.Closing.{Unset, Wrong, Broken, Forces, Settled, holds, waits, Found}
@@ -46,15 +46,15 @@ Means v c broken = Broken v c
 Means v c (forcing l) = Forces v c l
 Means v c quiet = Settled v c
 
-by-unset-means : (v c ks : List ℕ) → any (isRight v) c ≡ false → keep (isUnset v) c ≡ ks → Means v c (byUnset ks)
+by-unset-means : (v c ks : List ℕ) → any (isRight v) c ≡ false → filter (isUnset v) c ≡ ks → Means v c (byUnset ks)
 unfolding byUnset
-by-unset-means v c [] e k = λ l m. record { is-set = λ o. not-nil (rw k at (keep-of (isUnset v) c l m (unset-of v l o))); is-not = right-not v l (any-false (isRight v) c e l m) }
+by-unset-means v c [] e k = λ l m. record { is-set = λ o. not-nil (rw k at (filter-of (isUnset v) c l m (unset-of v l o))); is-not = right-not v l (any-false (isRight v) c e l m) }
 by-unset-means v c (l ∷ []) e k =
-    let here = keep-mem (isUnset v) c l (rw k (List·Memᴰ·head refl)) in
+    let here = filter-mem (isUnset v) c l (rw k (List·Memᴰ·head refl)) in
     record { has = here .0; free = unset-is v l (here .1); rest = λ m h. other m h (isUnset v m) refl; single = rw k refl }
   where
     other : (m : ℕ) → List·Memᴰ m c → (t : Bool) → isUnset v m ≡ t → (m ≡ l) ⊎ Wrong v m
-    other m h true p = inl (eq-of-singleton (rw k at (keep-of (isUnset v) c m h p)))
+    other m h true p = inl (eq-of-singleton (rw k at (filter-of (isUnset v) c m h p)))
     other m h false p = inr (record { is-set = λ o. true≢false (sym (unset-of v m o) ∙ p); is-not = right-not v m (any-false (isRight v) c e m h) })
 by-unset-means v c (l ∷ m ∷ ls) e k = waits l m ls k
 
@@ -62,9 +62,9 @@ pub seen-means : (v c : List ℕ) → Means v c (seen v c)
 unfolding seen
 seen-means v c = go (any (isRight v) c) refl
   where
-    go : (t : Bool) → any (isRight v) c ≡ t → Means v c (elim t [ true ↦ quiet | false ↦ byUnset (keep (isUnset v) c) ])
+    go : (t : Bool) → any (isRight v) c ≡ t → Means v c (elim t [ true ↦ quiet | false ↦ byUnset (filter (isUnset v) c) ])
     go true e = let r = any-true (isRight v) c e in holds (r .0) (r .1) (right-is v (r .0) (r .2))
-    go false e = by-unset-means v c (keep (isUnset v) c) e refl
+    go false e = by-unset-means v c (filter (isUnset v) c) e refl
 
 -- ---- the clauses
 

@@ -8,8 +8,8 @@ use Prim.Native.Nat.{ℕ, suc, _+_, _-_, _*_, _/_, _%_, _≤_, _<_, zero-le}
 use native.Mathlib.Omega.{arith}
 use lib.ListN.{length, set, replicate, length-replicate}
 use borrow.Author.Tests.{eqb-false}
-use Rattle.lists.specs.Lists.{keep}
-use Rattle.lists.proofs.Members.{keep-mem, keep-keep}
+use Rattle.lists.specs.Lists.{filter}
+use Rattle.lists.proofs.Members.{filter-mem, filter-filter}
 use Rattle.cnf.specs.Clauses.{valueOf, Right, isPositive, Horn}
 use Rattle.cnf.specs.Search.{broken, forcing, quiet, isUnset, State, Next, goes, Outcome, solved, none-exists, spent, unfinished, Guess, searchFrom, madeOf}
 use Rattle.cnf.specs.Closing.{Formed, Wrong, unsetCount, Found, Settled, holds, waits}
@@ -20,7 +20,7 @@ use Rattle.cnf.proofs.Sound.{SoundState, SoundOutcome, sound-kept, star
 
 -- right once every unset variable is false
 pub data RightSoon (v : List ℕ) (l : ℕ) : Type 0 where
-  is-right : Right v l → RightSoon v l
+  is-true : Right v l → RightSoon v l
   is-unset : valueOf v (l / 2) ≡ 2 → l % 2 ≡ 1 → RightSoon v l
 
 -- every clause holds once every unset variable is false
@@ -28,7 +28,7 @@ pub record Safe (cs : List (List ℕ)) (v : List ℕ) : Type 0 where
   pub each : (c : List ℕ) → List·Memᴰ c cs → (l : ℕ) × List·Memᴰ l c × RightSoon v l
 
 wrong-not : {v : List ℕ} {l : ℕ} → Wrong v l → RightSoon v l → ⊥
-wrong-not w (is-right e) = w .is-not e
+wrong-not w (is-true e) = w .is-not e
 wrong-not w (is-unset o e) = w .is-set o
 
 safe-unbroken : (cs : List (List ℕ)) (v : List ℕ) → Safe cs v → Found v cs broken → ⊥
@@ -38,16 +38,16 @@ safe-false : (cs : List (List ℕ)) (v : List ℕ) (x : ℕ) → valueOf v x ≡
 safe-false cs v x o s = record { each = λ c m. let r = s .each c m in (r .0, r .1, still (r .0) (r .2) (set-cases v x 0 (r .0 / 2))) }
   where
     still : (l : ℕ) → RightSoon v l → ((l / 2 ≡ x) × (valueOf (set v x 0) (l / 2) ≡ 0)) ⊎ (valueOf (set v x 0) (l / 2) ≡ valueOf v (l / 2)) → RightSoon (set v x 0) l
-    still l (is-right e) (inl p) = absurd (omega (arith, ap (valueOf v) (p .0)))
-    still l (is-right e) (inr p) = is-right (omega arith)
-    still l (is-unset z e) (inl p) = is-right (omega arith)
+    still l (is-true e) (inl p) = absurd (omega (arith, ap (valueOf v) (p .0)))
+    still l (is-true e) (inr p) = is-true (omega arith)
+    still l (is-unset z e) (inl p) = is-true (omega arith)
     still l (is-unset z e) (inr p) = is-unset (p ∙ z) e
 
 safe-forced : (cs : List (List ℕ)) (v : List ℕ) (l : ℕ) → Safe cs v → Found v cs (forcing l) → l % 2 ≡ 1
 safe-forced cs v l s f = let r = s .each (f .0) (f .1) in go (r .0) (r .2) (f .2 .rest (r .0) (r .1))
   where
     odd-sign : (m : ℕ) → RightSoon v m → valueOf v (m / 2) ≡ 2 → m % 2 ≡ 1
-    odd-sign m (is-right e) o = absurd (omega arith)
+    odd-sign m (is-true e) o = absurd (omega arith)
     odd-sign m (is-unset z e) o = e
 
     go : (m : ℕ) → RightSoon v m → (m ≡ l) ⊎ Wrong v m → l % 2 ≡ 1
@@ -58,21 +58,21 @@ not-positive : (k : ℕ) → isPositive k ≡ false → k % 2 ≡ 1
 unfolding isPositive
 not-positive k p = omega (arith, eqb-false (k % 2) 0 p)
 
-two-kept : (l m : ℕ) (ls : List ℕ) → isPositive l ≡ true → isPositive m ≡ true → 2 ≤ length (keep isPositive (l ∷ m ∷ ls))
-unfolding keep
-two-kept l m ls p q = rw (p, q, keep) (omega arith)
+two-kept : (l m : ℕ) (ls : List ℕ) → isPositive l ≡ true → isPositive m ≡ true → 2 ≤ length (filter isPositive (l ∷ m ∷ ls))
+unfolding filter
+two-kept l m ls p q = rw (p, q, filter) (omega arith)
 
 pub quiet-safe : (cs : List (List ℕ)) (v : List ℕ) → Horn cs → Found v cs quiet → Safe cs v
 quiet-safe cs v horn q = record { each = λ c m. each c m (q c m) }
   where
     each : (c : List ℕ) → List·Memᴰ c cs → Settled v c → (l : ℕ) × List·Memᴰ l c × RightSoon v l
-    each c mc (holds l m r) = (l, m, is-right r)
+    each c mc (holds l m r) = (l, m, is-true r)
     each c mc (waits l m ls e) = go (isPositive l) refl (isPositive m) refl
       where
         go : (s : Bool) → isPositive l ≡ s → (t : Bool) → isPositive m ≡ t → (k : ℕ) × List·Memᴰ k c × RightSoon v k
-        go false p t q = let o = keep-mem (isUnset v) c l (rw e (List·Memᴰ·head refl)) in (l, o .0, is-unset (unset-is v l (o .1)) (not-positive l p))
-        go true p false q = let o = keep-mem (isUnset v) c m (rw e (List·Memᴰ·tail (List·Memᴰ·head refl))) in (m, o .0, is-unset (unset-is v m (o .1)) (not-positive m q))
-        go true p true r = absurd (omega (arith, rw (← e) at (two-kept l m ls p r), keep-keep isPositive (isUnset v) c, horn .one c mc))
+        go false p t q = let o = filter-mem (isUnset v) c l (rw e (List·Memᴰ·head refl)) in (l, o .0, is-unset (unset-is v l (o .1)) (not-positive l p))
+        go true p false q = let o = filter-mem (isUnset v) c m (rw e (List·Memᴰ·tail (List·Memᴰ·head refl))) in (m, o .0, is-unset (unset-is v m (o .1)) (not-positive m q))
+        go true p true r = absurd (omega (arith, rw (← e) at (two-kept l m ls p r), filter-filter isPositive (isUnset v) c, horn .one c mc))
 
 -- the values before the latest guess are safe
 abbrev SafeBefore : List (List ℕ) → ℕ → List Guess → ℕ → Type 0

@@ -7,7 +7,7 @@ use mathlib.Core.List.{List, List·Memᴰ, List·Memᴰ·head}
 use Prim.Native.Nat.{ℕ, _-_, _/_, _%_}
 use native.Mathlib.Omega.{arith}
 use lib.ListN.{length, length-set}
-use Rattle.lists.proofs.Members.{keep-mem, keep-length}
+use Rattle.lists.proofs.Members.{filter-mem, filter-length}
 use Rattle.cnf.specs.Clauses.{valueOf, Right}
 use Rattle.cnf.specs.Search.{broken, forcing, isUnset}
 use Rattle.cnf.specs.Closing.{Values, Wrong, _⊑_, Found, Settled, holds, waits, UnitSteps, stay, more, AtRest}
@@ -50,7 +50,7 @@ forced-right cs v w l p f q = go (q (f .0) (f .1))
 
     go : Settled w c → Right w l
     go (holds k m r) = pick k r (f .2 .rest k m)
-    go (waits k m ls e) = absurd (omega (arith, ap length e, keep-length (isUnset w) (isUnset v) c unset-before, f .2 .single))
+    go (waits k m ls e) = absurd (omega (arith, ap length e, filter-length (isUnset w) (isUnset v) c unset-before, f .2 .single))
 
 pub units-below : (cs : List (List ℕ)) (v u w : List ℕ) → UnitSteps cs v u → v ⊑ w → AtRest cs w → u ⊑ w
 units-below cs v u w stay p q = p
@@ -64,4 +64,4 @@ rest-unbroken cs u w p q f = go (q (f .0) (f .1))
   where
     go : Settled w (f .0) → ⊥
     go (holds k m r) = wrong-more p (f .2 k m) .is-not r
-    go (waits k m ls e) = let o = keep-mem (isUnset w) (f .0) k (rw e (List·Memᴰ·head refl)) in wrong-more p (f .2 k (o .0)) .is-set (unset-is w k (o .1))
+    go (waits k m ls e) = let o = filter-mem (isUnset w) (f .0) k (rw e (List·Memᴰ·head refl)) in wrong-more p (f .2 k (o .0)) .is-set (unset-is w k (o .1))

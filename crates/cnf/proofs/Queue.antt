@@ -9,7 +9,7 @@ use native.Mathlib.Omega.{arith}
 use lib.ListN.{set}
 use lib.Dec.{eqb}
 use borrow.Author.Tests.{eqb-true, eqb-false}
-use Rattle.lists.specs.Lists.{any, keep}
+use Rattle.lists.specs.Lists.{any, filter}
 use Rattle.lists.proofs.Members.{any-true, any-false}
 use Rattle.cnf.specs.Clauses.{valueOf}
 use Rattle.cnf.specs.Search.{isUnset, broken, forcing}
@@ -18,12 +18,12 @@ use Rattle.cnf.proofs.Values.{set-cases}
 
 -- ---- a clause whose variables have the same values
 
-keep-same : {A : Type 0} (f g : A → Bool) (xs : List A) → ((x : A) → List·Memᴰ x xs → f x ≡ g x) → keep f xs ≡ keep g xs
-unfolding keep
-keep-same f g [] h = refl
-keep-same {A} f g (x ∷ xs) h = go (f x) (g x) (h x (List·Memᴰ·head refl)) (keep-same f g xs (λ y m. h y (List·Memᴰ·tail m)))
+filter-same : {A : Type 0} (f g : A → Bool) (xs : List A) → ((x : A) → List·Memᴰ x xs → f x ≡ g x) → filter f xs ≡ filter g xs
+unfolding filter
+filter-same f g [] h = refl
+filter-same {A} f g (x ∷ xs) h = go (f x) (g x) (h x (List·Memᴰ·head refl)) (filter-same f g xs (λ y m. h y (List·Memᴰ·tail m)))
   where
-    go : (s t : Bool) → s ≡ t → keep f xs ≡ keep g xs → _≡_ {A = List A} (elim s [ true ↦ x ∷ keep f xs | false ↦ keep f xs ]) (elim t [ true ↦ x ∷ keep g xs | false ↦ keep g xs ])
+    go : (s t : Bool) → s ≡ t → filter f xs ≡ filter g xs → _≡_ {A = List A} (elim s [ true ↦ x ∷ filter f xs | false ↦ filter f xs ]) (elim t [ true ↦ x ∷ filter g xs | false ↦ filter g xs ])
     go true true p q = ap (λ (l : List A). x ∷ l) q
     go true false p q = absurd (true≢false p)
     go false true p q = absurd (true≢false (sym p))
@@ -32,7 +32,7 @@ keep-same {A} f g (x ∷ xs) h = go (f x) (g x) (h x (List·Memᴰ·head refl)) 
 pub settled-same : (v w c : List ℕ) → ((m : ℕ) → List·Memᴰ m c → valueOf w (m / 2) ≡ valueOf v (m / 2)) → Settled v c → Settled w c
 unfolding isUnset
 settled-same v w c h (holds l m r) = holds l m (omega (arith, h l m))
-settled-same v w c h (waits l m ls e) = waits l m ls (keep-same (isUnset w) (isUnset v) c (λ x k. ap (λ (y : ℕ). eqb y 2) (h x k)) ∙ e)
+settled-same v w c h (waits l m ls e) = waits l m ls (filter-same (isUnset w) (isUnset v) c (λ x k. ap (λ (y : ℕ). eqb y 2) (h x k)) ∙ e)
 
 -- ---- the queue
 

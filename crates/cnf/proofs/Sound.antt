@@ -7,7 +7,7 @@ use Prim.Native.Nat.{ℕ, zero, suc, _-_, _*_, _/_, _%_, _<_}
 use native.Mathlib.Omega.{arith}
 use lib.ListN.{length, set, replicate}
 use lib.Seq.{getD-set-same, ext-getD}
-use Rattle.lists.proofs.Members.{keep-mem}
+use Rattle.lists.proofs.Members.{filter-mem}
 use Rattle.cnf.specs.Clauses.{valueOf, Right, Model, Maximal}
 use Rattle.cnf.specs.Search.{broken, forcing, quiet, isUnset, State, Next, goes, Outcome, solved, none-exists, spent, unfinished, Guess, searchFrom}
 use Rattle.cnf.specs.Closing.{Formed, Values, Wrong, _⊑_, Settled, holds, waits, Found}
@@ -90,7 +90,7 @@ module _ (cs : List (List ℕ)) (n b : ℕ) (formed : Formed cs n) where
       each : (c : List ℕ) → List·Memᴰ c cs → Settled v c → (l : ℕ) × List·Memᴰ l c × Right v l
       each c m (holds l k r) = (l, k, r)
       each c m (waits l k ls e) =
-          let o = keep-mem (isUnset v) c l (rw e (List·Memᴰ·head refl)) in
+          let o = filter-mem (isUnset v) c l (rw e (List·Memᴰ·head refl)) in
           absurd (is-set (l / 2) (formed .below c m l (o .0)) (unset-is v l (o .1)))
 
       only : (a : List ℕ) → Model cs n a → ((x : ℕ) → valueOf v x ≡ 1 → valueOf a x ≡ 1) → a ≡ v

@@ -13,8 +13,8 @@ use lib.ListN.{length, set, replicate, length-map, length-replicate}
 use lib.Seq.{ext-getD}
 use lib.Dec.{eqb, ltb}
 use borrow.Author.Tests.{eqb-true, eqb-false, eq-eqb, ne-eqb, ltb-false}
-use Rattle.lists.specs.Lists.{any, all, keep}
-use Rattle.lists.proofs.Members.{any-true, any-of, all-true, all-of, keep-mem}
+use Rattle.lists.specs.Lists.{any, all, filter}
+use Rattle.lists.proofs.Members.{any-true, any-of, all-true, all-of, filter-mem}
 use Rattle.cnf.specs.Clauses.{valueOf, Right, Assignment, Model, Horn}
 use Rattle.cnf.specs.Search.{isRight, isUnset, byUnset, seen, both, scan, act, step, lowestUnset, State, Next, goes, ends, Outcome, solved, none-exists, spent, unfinished, Guess, undo, decide, searchFrom}
 use Rattle.cnf.specs.Trials.{onlyTrue, satisfied, trueCount, notFalse, Trials, better, ceilingBy, ceilingOf, rested, tried, Tried, runTried, untried, searchTried}
@@ -22,7 +22,7 @@ use Rattle.cnf.specs.Closing.{Formed, Values, _⊑_, Settled, holds, wai
 use Rattle.cnf.proofs.Values.{⊑-trans, set-more, set-below, none-below}
 use Rattle.cnf.proofs.Found.{right-is, right-of, unset-is, LowestUnset, lowest-is}
 use Rattle.cnf.proofs.Steps.{stateOf, guessOf, StepsTo, fails, undoes, forces, solves, spends, adds-guess, After, run-keeps}
-use Rattle.cnf.proofs.Horn.{RightSoon, is-right, is-unset, quiet-safe}
+use Rattle.cnf.proofs.Horn.{RightSoon, is-true, is-unset, quiet-safe}
 use Rattle.cnf.proofs.Closure.{closes-alike, members-rest, turnTo, atStart}
 use Rattle.cnf.proofs.Trying.{TriesTo, there, turn, closedTrials, endOf, tried-outcome, tries-search, turns-tried}
 
@@ -105,32 +105,32 @@ horn-trial {cs} {n} {v} horn f z q =
     by-value l b e (no o) = omega (arith, only-zero v (l / 2) b o)
 
     soon : (l : ℕ) → l / 2 < length v → RightSoon v l → Right (onlyTrue v) l
-    soon l b (is-right e) = by-value l b e (ℕ-discrete (valueOf v (l / 2)) 1)
+    soon l b (is-true e) = by-value l b e (ℕ-discrete (valueOf v (l / 2)) 1)
     soon l b (is-unset o e) = omega (arith, only-zero v (l / 2) b (λ p. absurd (omega arith)))
 
 -- ---- counts
 
 -- of an assignment: what is not false is true
 pub true-count : (a : List ℕ) → ((i : ℕ) → i < length a → valueOf a i < 2) → trueCount a ≡ notFalse a
-unfolding trueCount notFalse keep
+unfolding trueCount notFalse filter
 true-count [] h = refl
 true-count (y ∷ a) h = go (eqb 1 y) (eqb y 0) refl refl (true-count a (λ i l. h (suc i) (omega arith)))
   where
-    go : (s t : Bool) → eqb 1 y ≡ s → eqb y 0 ≡ t → length (keep (eqb 1) a) ≡ length (keep (λ z. not (eqb z 0)) a)
-        → length {A = ℕ} (elim s [ true ↦ y ∷ keep (eqb 1) a | false ↦ keep (eqb 1) a ]) ≡ length {A = ℕ} (elim (not t) [ true ↦ y ∷ keep (λ z. not (eqb z 0)) a | false ↦ keep (λ z. not (eqb z 0)) a ])
+    go : (s t : Bool) → eqb 1 y ≡ s → eqb y 0 ≡ t → length (filter (eqb 1) a) ≡ length (filter (λ z. not (eqb z 0)) a)
+        → length {A = ℕ} (elim s [ true ↦ y ∷ filter (eqb 1) a | false ↦ filter (eqb 1) a ]) ≡ length {A = ℕ} (elim (not t) [ true ↦ y ∷ filter (λ z. not (eqb z 0)) a | false ↦ filter (λ z. not (eqb z 0)) a ])
     go true true p q e = absurd (omega (arith, eqb-true 1 y p, eqb-true y 0 q))
     go true false p q e = ap suc e
     go false true p q e = e
     go false false p q e = absurd (omega (arith, eqb-false 1 y p, eqb-false y 0 q, h 0 (omega arith)))
 
 pub nested-count : (h a : List ℕ) → length h ≡ length a → ((i : ℕ) → valueOf h i ≡ 1 → valueOf a i ≡ 1) → trueCount h ≤ trueCount a
-unfolding trueCount keep
+unfolding trueCount filter
 nested-count [] a e up = zero-le
 nested-count (x ∷ h) [] e up = absurd (omega arith)
 nested-count (x ∷ h) (y ∷ a) e up = go (eqb 1 x) (eqb 1 y) refl refl (nested-count h a (omega arith) (λ i. up (suc i)))
   where
-    go : (s t : Bool) → eqb 1 x ≡ s → eqb 1 y ≡ t → length (keep (eqb 1) h) ≤ length (keep (eqb 1) a)
-        → length {A = ℕ} (elim s [ true ↦ x ∷ keep (eqb 1) h | false ↦ keep (eqb 1) h ]) ≤ length {A = ℕ} (elim t [ true ↦ y ∷ keep (eqb 1) a | false ↦ keep (eqb 1) a ])
+    go : (s t : Bool) → eqb 1 x ≡ s → eqb 1 y ≡ t → length (filter (eqb 1) h) ≤ length (filter (eqb 1) a)
+        → length {A = ℕ} (elim s [ true ↦ x ∷ filter (eqb 1) h | false ↦ filter (eqb 1) h ]) ≤ length {A = ℕ} (elim t [ true ↦ y ∷ filter (eqb 1) a | false ↦ filter (eqb 1) a ])
     go true true p q r = suc-le-suc r
     go true false p q r = absurd (eqb-false 1 y q (sym (up 0 (sym (eqb-true 1 x p)))))
     go false true p q r = le-trans r (le-suc _)
@@ -138,7 +138,7 @@ nested-count (x ∷ h) (y ∷ a) e up = go (eqb 1 x) (eqb 1 y) refl refl (nested
 
 pub nested-same : (h a : List ℕ) → length h ≡ length a → ((i : ℕ) → i < length h → valueOf h i < 2) → ((i : ℕ) → i < length a → valueOf a i < 2)
     → ((i : ℕ) → valueOf h i ≡ 1 → valueOf a i ≡ 1) → trueCount a ≤ trueCount h → h ≡ a
-unfolding trueCount keep
+unfolding trueCount filter
 nested-same [] [] e b c up r = refl
 nested-same [] (y ∷ a) e b c up r = absurd (omega arith)
 nested-same (x ∷ h) [] e b c up r = absurd (omega arith)
@@ -148,8 +148,8 @@ nested-same (x ∷ h) (y ∷ a) e b c up r = go (eqb 1 x) (eqb 1 y) refl refl r 
     same-head p q = cc
 
     go : (s t : Bool) → eqb 1 x ≡ s → eqb 1 y ≡ t
-        → length {A = ℕ} (elim t [ true ↦ y ∷ keep (eqb 1) a | false ↦ keep (eqb 1) a ]) ≤ length {A = ℕ} (elim s [ true ↦ x ∷ keep (eqb 1) h | false ↦ keep (eqb 1) h ])
-        → length (keep (eqb 1) h) ≤ length (keep (eqb 1) a) → (length (keep (eqb 1) a) ≤ length (keep (eqb 1) h) → h ≡ a) → x ∷ h ≡ y ∷ a
+        → length {A = ℕ} (elim t [ true ↦ y ∷ filter (eqb 1) a | false ↦ filter (eqb 1) a ]) ≤ length {A = ℕ} (elim s [ true ↦ x ∷ filter (eqb 1) h | false ↦ filter (eqb 1) h ])
+        → length (filter (eqb 1) h) ≤ length (filter (eqb 1) a) → (length (filter (eqb 1) a) ≤ length (filter (eqb 1) h) → h ≡ a) → x ∷ h ≡ y ∷ a
     go true true p q r l ih = same-head (sym (eqb-true 1 x p) ∙ eqb-true 1 y q) (ih (omega arith))
     go true false p q r l ih = absurd (eqb-false 1 y q (sym (up 0 (sym (eqb-true 1 x p)))))
     go false true p q r l ih = absurd (omega arith)
@@ -157,14 +157,14 @@ nested-same (x ∷ h) (y ∷ a) e b c up r = go (eqb 1 x) (eqb 1 y) refl refl r 
 
 -- an assignment that extends the values has no more true variables than are not false
 pub few-true : (v a : List ℕ) → length v ≡ length a → v ⊑ a → trueCount a ≤ notFalse v
-unfolding trueCount notFalse keep
+unfolding trueCount notFalse filter
 few-true [] [] e p = zero-le
 few-true [] (y ∷ a) e p = absurd (omega arith)
 few-true (x ∷ v) [] e p = absurd (omega arith)
 few-true (x ∷ v) (y ∷ a) e p = go (eqb x 0) (eqb 1 y) refl refl (few-true v a (omega arith) (record { keeps = λ i. p .keeps (suc i) }))
   where
-    go : (s t : Bool) → eqb x 0 ≡ s → eqb 1 y ≡ t → length (keep (eqb 1) a) ≤ length (keep (λ z. not (eqb z 0)) v)
-        → length {A = ℕ} (elim t [ true ↦ y ∷ keep (eqb 1) a | false ↦ keep (eqb 1) a ]) ≤ length {A = ℕ} (elim (not s) [ true ↦ x ∷ keep (λ z. not (eqb z 0)) v | false ↦ keep (λ z. not (eqb z 0)) v ])
+    go : (s t : Bool) → eqb x 0 ≡ s → eqb 1 y ≡ t → length (filter (eqb 1) a) ≤ length (filter (λ z. not (eqb z 0)) v)
+        → length {A = ℕ} (elim t [ true ↦ y ∷ filter (eqb 1) a | false ↦ filter (eqb 1) a ]) ≤ length {A = ℕ} (elim (not s) [ true ↦ x ∷ filter (λ z. not (eqb z 0)) v | false ↦ filter (λ z. not (eqb z 0)) v ])
     go true true q r l = absurd (omega (arith, eqb-true x 0 q, eqb-true 1 y r, p .keeps 0 (omega (arith, eqb-true x 0 q))))
     go true false q r l = l
     go false true q r l = suc-le-suc l
@@ -361,7 +361,7 @@ full-model {cs} {n} {w} formed z q f = record { assigns = record { long = z .lon
     each : (c : List ℕ) → List·Memᴰ c cs → Settled w c → (l : ℕ) × List·Memᴰ l c × Right w l
     each c m (holds l k r) = (l, k, r)
     each c m (waits l k ls e) =
-        let o = keep-mem (isUnset w) c l (rw e (List·Memᴰ·head refl)) in
+        let o = filter-mem (isUnset w) c l (rw e (List·Memᴰ·head refl)) in
         absurd (f (l / 2) (omega (arith, formed .below c m l (o .0), z .long)) (unset-is w l (o .1)))
 
 module _ (cs ds : List (List ℕ)) (to : (u : List ℕ) → AtRest cs u → AtRest ds u) (n : ℕ) (formed : Formed ds n) where
@@ -483,5 +483,5 @@ module _ (cs : List (List ℕ)) (n b : ℕ) (formed : Formed cs n) where
 
 -- ---- three states without records, one guess: the trial of the rest at which the budget is found spent is held
 three-states : searchTried ((1 ∷ 5 ∷ 2 ∷ []) ∷ (1 ∷ 3 ∷ 4 ∷ []) ∷ (3 ∷ 5 ∷ 0 ∷ []) ∷ []) 3 1 ≡ record { outcome = spent 1; trials = record { held = 1 ∷ 0 ∷ 0 ∷ []; ceiling = some 3 } }
-unfolding searchTried runTried step act decide undo scan seen both byUnset isRight isUnset any all keep lowestUnset tried rested better ceilingBy satisfied onlyTrue trueCount notFalse
+unfolding searchTried runTried step act decide undo scan seen both byUnset isRight isUnset any all filter lowestUnset tried rested better ceilingBy satisfied onlyTrue trueCount notFalse
 three-states = refl

@@ -9,7 +9,7 @@ use lib.ListN.{length, take, drop, length-append, length-drop, take-append-drop}
 use lib.Seq.{take-append-seam, drop-append-seam, length-take-le}
 use lib.Dec.{ltb, leb}
 use borrow.Author.Tests.{ltb-true, leb-true, lt-ltb, le-leb}
-use Rattle.lists.specs.Lists.{all, gather}
+use Rattle.lists.specs.Lists.{all, concatMap}
 use Rattle.lists.proofs.Members.{and-true, and-of, all-true, all-of}
 use Rattle.cnf.specs.Clauses.{wordsOf, clausesWithin, clausesIn, wholeWithin, whole, distinct, clauseFits}
 use Rattle.cnf.specs.Closing.{Formed}
@@ -66,17 +66,17 @@ whole-cons k ws = ap (λ (t : Bool). leb k (length ws) && t) (whole-bound (lengt
 -- ---- words of clauses, and back
 
 pub clauses-words : (cs : List (List ℕ)) → clausesIn (wordsOf cs) ≡ cs
-unfolding wordsOf gather
+unfolding wordsOf concatMap
 clauses-words [] = clauses-nil
 clauses-words (c ∷ cs) =
-    clauses-cons (length c) (c ++ gather (λ c. length c ∷ c) cs)
-    ∙ λ i. take-append-seam c (gather (λ c. length c ∷ c) cs) i ∷ (ap clausesIn (drop-append-seam c (gather (λ c. length c ∷ c) cs)) ∙ clauses-words cs) i
+    clauses-cons (length c) (c ++ concatMap (λ c. length c ∷ c) cs)
+    ∙ λ i. take-append-seam c (concatMap (λ c. length c ∷ c) cs) i ∷ (ap clausesIn (drop-append-seam c (concatMap (λ c. length c ∷ c) cs)) ∙ clauses-words cs) i
 
 pub whole-words : (cs : List (List ℕ)) → whole (wordsOf cs) ≡ true
-unfolding wordsOf gather
+unfolding wordsOf concatMap
 whole-words [] = whole-nil
 whole-words (c ∷ cs) =
-    let rest = gather (λ c. length c ∷ c) cs in
+    let rest = concatMap (λ c. length c ∷ c) cs in
     whole-cons (length c) (c ++ rest)
     ∙ and-of (le-leb (length c) (length (c ++ rest)) (omega (arith, length-append c rest))) (ap whole (drop-append-seam c rest) ∙ whole-words cs)
 
@@ -84,10 +84,10 @@ pub words-clauses : (ws : List ℕ) → whole ws ≡ true → wordsOf (clausesIn
 words-clauses = by-clauses (λ (ws : List ℕ). whole ws ≡ true → wordsOf (clausesIn ws) ≡ ws) none one
   where
     none : whole [] ≡ true → wordsOf (clausesIn []) ≡ []
-    none e = rw clauses-nil (unfold wordsOf gather in refl)
+    none e = rw clauses-nil (unfold wordsOf concatMap in refl)
 
     step : (c : List ℕ) (cs : List (List ℕ)) → wordsOf (c ∷ cs) ≡ length c ∷ (c ++ wordsOf cs)
-    step c cs = unfold wordsOf gather in refl
+    step c cs = unfold wordsOf concatMap in refl
 
     one : (k : ℕ) (ws : List ℕ) → (whole (drop k ws) ≡ true → wordsOf (clausesIn (drop k ws)) ≡ drop k ws) → whole (k ∷ ws) ≡ true → wordsOf (clausesIn (k ∷ ws)) ≡ k ∷ ws
     one k ws ih e =

@@ -5,7 +5,7 @@ use mathlib.Core.List.{List, [], _∷_, List·Memᴰ}
 use Prim.Native.Nat.{ℕ, zero, suc, _+_, _*_, _/_, _%_, _≤_, _<_}
 use lib.ListN.{length, getD, take, drop}
 use lib.Dec.{eqb, ltb, leb}
-use Rattle.lists.specs.Lists.{all, keep, gather, mem}
+use Rattle.lists.specs.Lists.{all, filter, concatMap, mem}
 
 -- "Literal 2v says v is true, 2v+1 says v is false."
 abbrev pub positive : ℕ → ℕ
@@ -42,11 +42,11 @@ isPositive l = eqb (l % 2) 0
 
 -- no clause has more than one positive literal
 pub record Horn (cs : List (List ℕ)) : Type 0 where
-  pub one : (c : List ℕ) → List·Memᴰ c cs → length (keep isPositive c) ≤ 1
+  pub one : (c : List ℕ) → List·Memᴰ c cs → length (filter isPositive c) ≤ 1
 
 -- "A clause is 16-bit words: its literal count, then the literals."
 unfoldable pub wordsOf : List (List ℕ) → List ℕ
-wordsOf cs = gather (λ c. length c ∷ c) cs
+wordsOf cs = concatMap (λ c. length c ∷ c) cs
 
 -- the clauses that words hold, at most k of them; the last may be cut short by the end
 unfoldable pub clausesWithin : ℕ → List ℕ → List (List ℕ)

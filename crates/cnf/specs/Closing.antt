@@ -8,7 +8,7 @@ use mathlib.Core.List.{List, [], _∷_, List·Memᴰ}
 use Prim.Native.Nat.{ℕ, suc, _+_, _-_, _/_, _%_, _≤_, _<_}
 use lib.ListN.{length, set}
 use lib.Dec.{eqb}
-use Rattle.lists.specs.Lists.{keep}
+use Rattle.lists.specs.Lists.{filter}
 use Rattle.cnf.specs.Clauses.{valueOf, Right}
 use Rattle.cnf.specs.Search.{isUnset, Seen, broken, forcing, quiet}
 
@@ -51,12 +51,12 @@ pub record Forces (v : List ℕ) (c : List ℕ) (l : ℕ) : Type 0 where
   pub has : List·Memᴰ l c
   pub free : Unset v l
   pub rest : (m : ℕ) → List·Memᴰ m c → (m ≡ l) ⊎ Wrong v m
-  pub single : length (keep (isUnset v) c) ≡ 1
+  pub single : length (filter (isUnset v) c) ≡ 1
 
 -- a literal is right, or two are unset
 pub data Settled (v : List ℕ) (c : List ℕ) : Type 0 where
   holds : (l : ℕ) → List·Memᴰ l c → Right v l → Settled v c
-  waits : (l m : ℕ) (ls : List ℕ) → keep (isUnset v) c ≡ l ∷ m ∷ ls → Settled v c
+  waits : (l m : ℕ) (ls : List ℕ) → filter (isUnset v) c ≡ l ∷ m ∷ ls → Settled v c
 
 -- ---- the clauses
 

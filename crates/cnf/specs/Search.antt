@@ -5,7 +5,7 @@ use mathlib.Core.Option.{Option, none, some}
 use Prim.Native.Nat.{ℕ, zero, suc, _+_, _-_, _*_, _/_, _%_}
 use lib.ListN.{set, replicate}
 use lib.Dec.{eqb}
-use Rattle.lists.specs.Lists.{any, keep}
+use Rattle.lists.specs.Lists.{any, filter}
 use Rattle.cnf.specs.Clauses.{valueOf}
 
 -- the literal is right under the values
@@ -31,7 +31,7 @@ byUnset (l ∷ m ∷ ls) = quiet
 
 -- one clause
 unfoldable pub seen : List ℕ → List ℕ → Seen
-seen v c = elim (any (isRight v) c) [ true ↦ quiet | false ↦ byUnset (keep (isUnset v) c) ]
+seen v c = elim (any (isRight v) c) [ true ↦ quiet | false ↦ byUnset (filter (isUnset v) c) ]
 
 -- (a) goes before (b), and the first forcing clause before later ones
 unfoldable pub both : Seen → Seen → Seen

@@ -6,7 +6,7 @@ use mathlib.Core.Option.{Option, none, some}
 use Prim.Native.Nat.{ℕ, zero, suc, _*_}
 use lib.ListN.{length, replicate}
 use lib.Dec.{eqb, ltb}
-use Rattle.lists.specs.Lists.{any, all, keep}
+use Rattle.lists.specs.Lists.{any, all, filter}
 use Rattle.cnf.specs.Search.{isRight, Seen, broken, forcing, quiet, scan, Outcome, unfinished, Next, goes, ends, step}
 
 -- "the pairs true so far, with all others false"
@@ -19,11 +19,11 @@ satisfied cs a = all (λ c. any (isRight a) c) cs
 
 -- how many variables are true
 unfoldable pub trueCount : List ℕ → ℕ
-trueCount a = length (keep (eqb 1) a)
+trueCount a = length (filter (eqb 1) a)
 
 -- how many are not false
 unfoldable pub notFalse : List ℕ → ℕ
-notFalse v = length (keep (λ y. not (eqb y 0)) v)
+notFalse v = length (filter (λ y. not (eqb y 0)) v)
 
 -- the trial that is held, and the ceiling, once there is one
 pub record Trials : Type 0 where

@@ -10,8 +10,8 @@ use native.Mathlib.Decide.{ℕ-discrete}
 use lib.ListN.{length}
 use lib.Dec.{eqb, ltb}
 use borrow.Author.Tests.{eqb-true, eqb-false}
-use Rattle.lists.specs.Lists.{any, keep, gather, upto}
-use Rattle.lists.proofs.Members.{any-true, any-false, gather-mem, gather-of, upto-of}
+use Rattle.lists.specs.Lists.{any, filter, concatMap, upto}
+use Rattle.lists.proofs.Members.{any-true, any-false, concatMap-mem, concatMap-of, upto-of}
 use Rattle.cnf.specs.Clauses.{positive, negative, valueOf, clausesIn, isPositive, Horn}
 use Rattle.cnf.specs.Search.{isRight, isUnset, broken, forcing, byUnset, seen}
 use Rattle.cnf.specs.Closing.{Formed, Found, Settled, holds, waits, AtRest, Stirred, SettledOr}
@@ -54,20 +54,20 @@ module _ (w : List ℕ) (x : ℕ) {k : ℕ} (e : valueOf w x ≡ k) where
 
 module _ (w : List ℕ) (x y z : ℕ) where
   arrow-third : valueOf w x ≡ 1 → valueOf w y ≡ 1 → valueOf w z ≡ 2 → seen w (arrow x y z) ≡ forcing (positive z)
-  unfolding seen any keep byUnset
-  arrow-third a b c = rw (right-no w x a, right-no w y b, right-yes w z c, unset-no w x a, unset-no w y b, unset-yes w z c, keep, seen, any, byUnset)
+  unfolding seen any filter byUnset
+  arrow-third a b c = rw (right-no w x a, right-no w y b, right-yes w z c, unset-no w x a, unset-no w y b, unset-yes w z c, filter, seen, any, byUnset)
 
   arrow-first : valueOf w x ≡ 2 → valueOf w y ≡ 1 → valueOf w z ≡ 0 → seen w (arrow x y z) ≡ forcing (negative x)
-  unfolding seen any keep byUnset
-  arrow-first a b c = rw (right-no w x a, right-no w y b, right-yes w z c, unset-no w x a, unset-no w y b, unset-yes w z c, keep, seen, any, byUnset)
+  unfolding seen any filter byUnset
+  arrow-first a b c = rw (right-no w x a, right-no w y b, right-yes w z c, unset-no w x a, unset-no w y b, unset-yes w z c, filter, seen, any, byUnset)
 
   arrow-second : valueOf w x ≡ 1 → valueOf w y ≡ 2 → valueOf w z ≡ 0 → seen w (arrow x y z) ≡ forcing (negative y)
-  unfolding seen any keep byUnset
-  arrow-second a b c = rw (right-no w x a, right-no w y b, right-yes w z c, unset-no w x a, unset-no w y b, unset-yes w z c, keep, seen, any, byUnset)
+  unfolding seen any filter byUnset
+  arrow-second a b c = rw (right-no w x a, right-no w y b, right-yes w z c, unset-no w x a, unset-no w y b, unset-yes w z c, filter, seen, any, byUnset)
 
   arrow-broken : valueOf w x ≡ 1 → valueOf w y ≡ 1 → valueOf w z ≡ 0 → seen w (arrow x y z) ≡ broken
-  unfolding seen any keep byUnset
-  arrow-broken a b c = rw (right-no w x a, right-no w y b, right-yes w z c, unset-no w x a, unset-no w y b, unset-yes w z c, keep, seen, any, byUnset)
+  unfolding seen any filter byUnset
+  arrow-broken a b c = rw (right-no w x a, right-no w y b, right-yes w z c, unset-no w x a, unset-no w y b, unset-yes w z c, filter, seen, any, byUnset)
 
 pub found-by : {cs : List (List ℕ)} (w c : List ℕ) → List·Memᴰ c cs → (l : ℕ) → seen w c ≡ forcing l → Found w cs (forcing l)
 found-by w c m l e = (c, m, subst (Means w c) e (seen-means w c))
@@ -99,7 +99,7 @@ module _ (n : ℕ) where
   in-triangle : (p q s : ℕ) → p < q → q < s → s < n → (c : List ℕ) → List·Memᴰ c (triangle p q s) → List·Memᴰ c (triangles n)
   unfolding triangles
   in-triangle p q s l h k c m =
-      gather-of _ (upto n) p c (upto-of n p (omega arith)) (gather-of _ (past n p) q c (past-of n p q l (omega arith)) (gather-of (λ s. triangle p q s) (past n q) s c (past-of n q s h k) m))
+      concatMap-of _ (upto n) p c (upto-of n p (omega arith)) (concatMap-of _ (past n p) q c (past-of n p q l (omega arith)) (concatMap-of (λ s. triangle p q s) (past n q) s c (past-of n q s h k) m))
 
   in-order-either : (p q s : ℕ) → p < q → q < s → s < n
       → Either (triangles n) (variableOf p q) (variableOf q s) (variableOf p s) × Either (triangles n) (variableOf p q) (variableOf p s) (variableOf q s) × Either (triangles n) (variableOf p s) (variableOf q s) (variableOf p q)
@@ -174,7 +174,7 @@ swap : {w : List ℕ} {x y z : ℕ} → Triple w x y z → Triple w y x z
 swap h = record { third = λ a b. h .third b a; second = h .first; first = h .second }
 
 triple-settled : (w : List ℕ) (x y z : ℕ) → ((i : ℕ) → valueOf w i ≤ 2) → Triple w x y z → Settled w (arrow x y z)
-unfolding keep
+unfolding filter
 triple-settled w x y z small h = go (val (valueOf w x) (small x)) (val (valueOf w y) (small y)) (val (valueOf w z) (small z))
   where
     go : Val (valueOf w x) → Val (valueOf w y) → Val (valueOf w z) → Settled w (arrow x y z)
@@ -183,14 +183,14 @@ triple-settled w x y z small h = go (val (valueOf w x) (small x)) (val (valueOf 
     go (v1 e) (v1 f) g = holds (2 * z) (List·Memᴰ·tail (List·Memᴰ·tail (List·Memᴰ·head refl))) (omega (arith, at-yes w z, h .third e f))
     go (v1 e) (v2 f) (v0 g) = absurd (omega (arith, h .second e g))
     go (v1 e) (v2 f) (v1 g) = holds (2 * z) (List·Memᴰ·tail (List·Memᴰ·tail (List·Memᴰ·head refl))) (omega (arith, at-yes w z))
-    go (v1 e) (v2 f) (v2 g) = waits (2 * y + 1) (2 * z) [] (rw (unset-no w x e, unset-no w y f, unset-yes w z g, keep))
+    go (v1 e) (v2 f) (v2 g) = waits (2 * y + 1) (2 * z) [] (rw (unset-no w x e, unset-no w y f, unset-yes w z g, filter))
     go (v2 e) (v0 f) g = holds (2 * y + 1) (List·Memᴰ·tail (List·Memᴰ·head refl)) (omega (arith, at-no w y))
     go (v2 e) (v1 f) (v0 g) = absurd (omega (arith, h .first f g))
     go (v2 e) (v1 f) (v1 g) = holds (2 * z) (List·Memᴰ·tail (List·Memᴰ·tail (List·Memᴰ·head refl))) (omega (arith, at-yes w z))
-    go (v2 e) (v1 f) (v2 g) = waits (2 * x + 1) (2 * z) [] (rw (unset-no w x e, unset-no w y f, unset-yes w z g, keep))
-    go (v2 e) (v2 f) (v0 g) = waits (2 * x + 1) (2 * y + 1) [] (rw (unset-no w x e, unset-no w y f, unset-yes w z g, keep))
+    go (v2 e) (v1 f) (v2 g) = waits (2 * x + 1) (2 * z) [] (rw (unset-no w x e, unset-no w y f, unset-yes w z g, filter))
+    go (v2 e) (v2 f) (v0 g) = waits (2 * x + 1) (2 * y + 1) [] (rw (unset-no w x e, unset-no w y f, unset-yes w z g, filter))
     go (v2 e) (v2 f) (v1 g) = holds (2 * z) (List·Memᴰ·tail (List·Memᴰ·tail (List·Memᴰ·head refl))) (omega (arith, at-yes w z))
-    go (v2 e) (v2 f) (v2 g) = waits (2 * x + 1) (2 * y + 1) (2 * z ∷ []) (rw (unset-no w x e, unset-no w y f, unset-yes w z g, keep))
+    go (v2 e) (v2 f) (v2 g) = waits (2 * x + 1) (2 * y + 1) (2 * z ∷ []) (rw (unset-no w x e, unset-no w y f, unset-yes w z g, filter))
 
 -- x is set: where it is true y and z are alike, and where it is false they are not both true
 pub record Agree (w : List ℕ) (x y z : ℕ) : Type 0 where
@@ -292,9 +292,9 @@ record InTriangle (n : ℕ) (c : List ℕ) : Type 0 where
 in-some : (n : ℕ) (c : List ℕ) → List·Memᴰ c (triangles n) → InTriangle n c
 unfolding triangles
 in-some n c m =
-    let a = gather-mem _ (upto n) c m in
-    let b = gather-mem _ (past n (a .0)) c (a .2) in
-    let d = gather-mem (λ s. triangle (a .0) (b .0) s) (past n (b .0)) c (b .2) in
+    let a = concatMap-mem _ (upto n) c m in
+    let b = concatMap-mem _ (past n (a .0)) c (a .2) in
+    let d = concatMap-mem (λ s. triangle (a .0) (b .0) s) (past n (b .0)) c (b .2) in
     let e = past-mem n (a .0) (b .0) (b .1) in
     let f = past-mem n (b .0) (d .0) (d .1) in
     record { low = a .0; middle = b .0; high = d .0; low-middle = e .0; middle-high = f .0; high-in = f .1; here = d .2 }
@@ -308,15 +308,15 @@ unset-rest n v u c m =
     none : (x y z : ℕ) → Triple v x y z
     none x y z = record { third = λ a b. absurd (omega (arith, u x)); second = λ a b. absurd (omega (arith, u x)); first = λ a b. absurd (omega (arith, u y)) }
 
-arrow-one : (x y z : ℕ) → length (keep isPositive (arrow x y z)) ≡ 1
-unfolding keep isPositive
+arrow-one : (x y z : ℕ) → length (filter isPositive (arrow x y z)) ≡ 1
+unfolding filter isPositive
 arrow-one x y z =
     let first : negative x % 2 ≡ 1 = omega arith in
     let second : negative y % 2 ≡ 1 = omega arith in
     let third : positive z % 2 ≡ 0 = omega arith in
-    rw (first, second, third, keep)
+    rw (first, second, third, filter)
 
-triangle-one : (p q s : ℕ) (c : List ℕ) → List·Memᴰ c (triangle p q s) → length (keep isPositive c) ≤ 1
+triangle-one : (p q s : ℕ) (c : List ℕ) → List·Memᴰ c (triangle p q s) → length (filter isPositive c) ≤ 1
 unfolding triangle
 triangle-one p q s c (List·Memᴰ·head e) = rw e (omega (arith, arrow-one (variableOf p q) (variableOf q s) (variableOf p s)))
 triangle-one p q s c (List·Memᴰ·tail (List·Memᴰ·head e)) = rw e (omega (arith, arrow-one (variableOf p q) (variableOf p s) (variableOf q s)))
@@ -328,7 +328,7 @@ triangles-horn n = record { one = λ c m. let i = in-some n c m in triangle-one 
 
 -- no states have none
 pub no-triangles : triangles 0 ≡ []
-unfolding triangles gather upto
+unfolding triangles concatMap upto
 no-triangles = refl
 
 pub with-none : (ws : List ℕ) → withTriangles ws 0 ≡ clausesIn ws

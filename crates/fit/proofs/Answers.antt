@@ -15,7 +15,7 @@ use Rattle.table_view.specs.declared.Section.the-variants.{Symbols}
 use Rattle.table_view.proofs.Parts.{symbols-read}
 use Rattle.fit_spec.specs.Fit.{fits, noChoice, sameSymbols, fitNumber, fitOf}
 use Rattle.fit_spec.specs.declared.Fitting.the-variants.{Yes, No, Refused}
-use Rattle.fit_compare.specs.Told.{BothRead}
+use Rattle.fit_compare.specs.Compared.{BothRead}
 
 module _ (b c : List ℕ) where
   refused-by : {k : ℕ} → fitNumber b c ≡ k → (k ≡ 0 → ⊥) → Refused k ≡ fitOf b c

@@ -4,7 +4,7 @@ ghost use Rattle.limits.specs.Limits.{standard};
 ghost use Rattle.table_view.specs.Sections.{ReadAs};
 ghost use Rattle.fit_spec.specs.Fit.{fitOf, FitSays};
 ghost use Rattle.fit_spec.specs.Demands.{YesExactly, NoApart, FitsQuotient, FitsOn};
-ghost use Rattle.fit_compare.specs.Told.{BothRead};
+ghost use Rattle.fit_compare.specs.Compared.{BothRead};
 use fit_compare::fits;
 use fit_compare::no_choice;
 use fit_spec::Fitting;

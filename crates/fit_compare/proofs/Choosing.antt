@@ -8,7 +8,7 @@ use native.Mathlib.Omega.{arith}
 use lib.ListN.{length, getD, take, drop, drop-of-length-le}
 use lib.Seq.{take-take}
 use borrow.Author.Tests.{eq-eqb, ne-eqb}
-use Rattle.lists.specs.Lists.{all, keep, same}
+use Rattle.lists.specs.Lists.{all, filter, same}
 use Rattle.lists.proofs.Members.{and-true, and-of, gives, gives-of, not-so, all-true, all-of, same-true, same-of, one-on}
 use Rattle.table_spec.specs.File.{records}
 use Rattle.table_spec.specs.Reading.{isInitial, before, ascendFrom, ascend}
@@ -165,17 +165,17 @@ module _ {w : ℕ} {s : List ℕ} {at : ℕ} (p : 3 ≤ w) (a : ascend (records 
 pub record Counting (s : List ℕ) (count q : ℕ) : Type 0 where
   pub inside : q ≤ length s
   pub few : count ≤ q
-  pub meets : length (keep isInitial s) ≡ count + length (keep isInitial (drop q s))
+  pub meets : length (filter isInitial s) ≡ count + length (filter isInitial (drop q s))
 
 pub counting : (s : List ℕ) → Counting s 0 0
 counting s = record { inside = omega arith; few = omega arith; meets = omega arith }
 
 module _ {s : List ℕ} {count q : ℕ} (i : Counting s count q) where
   module _ (l : q < length s) where
-    kept : (b : Bool) → isInitial (getD s q 0) ≡ b → length (keep isInitial (drop q s)) ≡ bitOf b + length (keep isInitial (drop (q + 1) s))
-    unfolding keep bitOf
-    kept true e = ap (λ xs. length (keep isInitial xs)) (one-on s q l) ∙ rw (e, keep) (omega arith)
-    kept false e = ap (λ xs. length (keep isInitial xs)) (one-on s q l) ∙ rw (e, keep) (omega arith)
+    kept : (b : Bool) → isInitial (getD s q 0) ≡ b → length (filter isInitial (drop q s)) ≡ bitOf b + length (filter isInitial (drop (q + 1) s))
+    unfolding filter bitOf
+    kept true e = ap (λ xs. length (filter isInitial xs)) (one-on s q l) ∙ rw (e, filter) (omega arith)
+    kept false e = ap (λ xs. length (filter isInitial xs)) (one-on s q l) ∙ rw (e, filter) (omega arith)
 
     pub counted : getD s q 0 % 2 ≡ 1 → Counting s (count + 1) (q + 1)
     unfolding isInitial bitOf
@@ -185,6 +185,6 @@ module _ {s : List ℕ} {count q : ℕ} (i : Counting s count q) where
     unfolding isInitial bitOf
     passed-over n = record { inside = omega arith; few = omega (arith, i); meets = omega (arith, i .meets, kept false (ne-eqb _ _ n)) }
 
-  pub all-counted : length s ≤ q → count ≡ length (keep isInitial s)
-  unfolding keep
-  all-counted h = sym (i .meets ∙ ap (λ (xs : List ℕ). count + length (keep isInitial xs)) (drop-of-length-le s {i = q} h) ∙ omega arith)
+  pub all-counted : length s ≤ q → count ≡ length (filter isInitial s)
+  unfolding filter
+  all-counted h = sym (i .meets ∙ ap (λ (xs : List ℕ). count + length (filter isInitial xs)) (drop-of-length-le s {i = q} h) ∙ omega arith)

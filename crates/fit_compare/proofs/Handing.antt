@@ -16,8 +16,8 @@ use Rattle.table_view.proofs.Parts.{states-read, internals-read, calls-read, re
 use Rattle.tops_spec.specs.Tops.{rounds, startWords}
 use Rattle.fit_spec.specs.Fit.{pairCount, pairTable, pairTops, ends, fits}
 use Rattle.fit_rounds.specs.Rows.{Holds, Named, NextMoves, NextReturns}
-use Rattle.fit_compare.specs.Told.{Given, BothRead}
-use Rattle.fit_links.specs.Quick.{Partly, Counts, Inner, Pushing, Popping}
+use Rattle.fit_compare.specs.Compared.{Given, BothRead}
+use Rattle.fit_links.specs.Quick.{SomeTops, Counts, Inner, Pushing, Popping}
 use Rattle.fit_links.proofs.Quickly.{start-partly, partly-tops}
 use Rattle.fit_compare.proofs.Reading.{named-more, read-few, internals-named, calls-named, returns-named}
 
@@ -75,7 +75,7 @@ module _ {b c : List ℕ} {x y : Starts} (h : BothRead b x c y) {states others :
   -- the rows at the start, what the quick walk adds, and what the rounds make of them
   pub rows-tops : {f f₁ g : List ℕ}
       → ((s t : Table) → s .states ≡ states → t .states ≡ others → Holds f (startWords (pairCount s t) (pairTable s t)))
-      → (Partly (tableOf b) (tableOf c) f → Partly (tableOf b) (tableOf c) f₁)
+      → (SomeTops (tableOf b) (tableOf c) f → SomeTops (tableOf b) (tableOf c) f₁)
       → ((F : List ℕ) → Holds f₁ F → length F ≡ length states * suc (length others) → Holds g (rounds (suc (length states * suc (length others) * suc (length states * suc (length others)))) (pairTable (tableOf b) (tableOf c)) F))
       → Holds g (pairTops (tableOf b) (tableOf c))
   rows-tops {g = g} start quick turn =

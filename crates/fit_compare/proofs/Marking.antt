@@ -23,7 +23,7 @@ use Rattle.tops_spec.specs.Tops.{add, startWords}
 use Rattle.tops_spec.proofs.Walks.{length-add}
 use Rattle.fit_spec.specs.Fit.{pairByte, pairTable, pairCount, ends}
 use Rattle.fit_rounds.specs.Rows.{Holds}
-use Rattle.fit_compare.specs.Told.{startStep}
+use Rattle.fit_compare.specs.Compared.{startStep}
 use Rattle.fit_spec.proofs.Tables.{count-pairs, byte-pairs, byte-initial, byte-accepting}
 
 -- the byte of a pair, told
@@ -144,15 +144,15 @@ pub record Starting (first second f g : List ℕ) (u : ℕ) : Type 0 where
   pub inside : u ≤ length first * (length second + 1)
   pub so-far : (s t : Table) → s .states ≡ first → t .states ≡ second → Holds f (replicate (length first * (length second + 1)) 0) → SoFar (length first * (length second + 1)) (pairTable s t) g u
 
-pub starting : (first second f : List ℕ) → Starting first second f f 0
-starting first second f = record { inside = omega arith; so-far = λ s t es et h. record { words = replicate (length first * (length second + 1)) 0; holds = h; long = length-replicate (length first * (length second + 1)) 0; done = λ v l. absurd (omega arith); bare = λ v l. zeros (length first * (length second + 1)) v } }
+pub equal-range : (first second f : List ℕ) → Starting first second f f 0
+equal-range first second f = record { inside = omega arith; so-far = λ s t es et h. record { words = replicate (length first * (length second + 1)) 0; holds = h; long = length-replicate (length first * (length second + 1)) 0; done = λ v l. absurd (omega arith); bare = λ v l. zeros (length first * (length second + 1)) v } }
   where
     zeros : (n v : ℕ) → _≡_ {A = ℕ} (getD (replicate n 0) v 0) 0
     zeros n v = getD-padded [] n v
 
 module _ {first second f g : List ℕ} {u : ℕ} (w : Starting first second f g u) (l : u < length first * (length second + 1)) where
-  pub starting-on : {x y : ℕ} {h : List ℕ} → x ≡ getD first (u / (length second + 1)) 0 → y ≡ getD second (u % (length second + 1)) 0 → ((F : List ℕ) → Holds g F → u < length F → Holds h (startStep (pairByte x y) u (length first * (length second + 1)) F)) → Starting first second f h (u + 1)
-  starting-on {x} {y} {h} ex ey k = record { inside = omega arith; so-far = λ s t es et z. go s t es et (w .so-far s t es et z) }
+  pub equal-range-on : {x y : ℕ} {h : List ℕ} → x ≡ getD first (u / (length second + 1)) 0 → y ≡ getD second (u % (length second + 1)) 0 → ((F : List ℕ) → Holds g F → u < length F → Holds h (startStep (pairByte x y) u (length first * (length second + 1)) F)) → Starting first second f h (u + 1)
+  equal-range-on {x} {y} {h} ex ey k = record { inside = omega arith; so-far = λ s t es et z. go s t es et (w .so-far s t es et z) }
     where
       go : (s t : Table) → s .states ≡ first → t .states ≡ second → SoFar (length first * (length second + 1)) (pairTable s t) g u → SoFar (length first * (length second + 1)) (pairTable s t) h (u + 1)
       go s t es et o =

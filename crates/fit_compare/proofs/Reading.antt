@@ -6,7 +6,7 @@ use Prim.Native.Nat.{ℕ, _≤_}
 use native.Mathlib.Omega.{arith}
 use lib.ListN.{length}
 use borrow.Author.Tests.{eq-eqb, ne-eqb}
-use Rattle.lists.specs.Lists.{keep}
+use Rattle.lists.specs.Lists.{filter}
 use Rattle.limits.specs.Limits.{standard}
 use Rattle.table_spec.specs.File.{Table, tableOf, records}
 use Rattle.table_spec.specs.Reading.{isInitial, WellFormed}
@@ -49,13 +49,13 @@ module _ {b : List ℕ} {x : Starts} (h : ReadAs standard b x) where
     returns-named e = named (returns-read h e) (returns-fit formed)
 
     -- the sections of a table, for 38
-    pub one-initial : s ≡ partOf b x States → length (keep isInitial s) ≡ 1 → oneInitial (tableOf b) ≡ true
+    pub one-initial : s ≡ partOf b x States → length (filter isInitial s) ≡ 1 → oneInitial (tableOf b) ≡ true
     unfolding oneInitial
-    one-initial e l = eq-eqb _ _ (sym (ap (λ (qs : List ℕ). length (keep isInitial qs)) (states-read h e)) ∙ l)
+    one-initial e l = eq-eqb _ _ (sym (ap (λ (qs : List ℕ). length (filter isInitial qs)) (states-read h e)) ∙ l)
 
-    pub other-initials : s ≡ partOf b x States → (length (keep isInitial s) ≡ 1 → ⊥) → oneInitial (tableOf b) ≡ false
+    pub other-initials : s ≡ partOf b x States → (length (filter isInitial s) ≡ 1 → ⊥) → oneInitial (tableOf b) ≡ false
     unfolding oneInitial
-    other-initials e n = ne-eqb _ _ (λ l. n (ap (λ (qs : List ℕ). length (keep isInitial qs)) (states-read h e) ∙ l))
+    other-initials e n = ne-eqb _ _ (λ l. n (ap (λ (qs : List ℕ). length (filter isInitial qs)) (states-read h e) ∙ l))
 
     module _ {r : Bool} where
       pub internals-one : s ≡ partOf b x Internals → r ≡ oneTarget 2 (records 3 s) → oneTarget 2 (tableOf b .internals) ≡ r

@@ -17,7 +17,7 @@ use Rattle.table_spec.specs.File.{Table, records}
 use Rattle.tops_spec.specs.Tops.{byInternals, byCalls, byReturns, round, rounds}
 use Rattle.fit_spec.specs.Fit.{pairMoves, pairReturns, pairTable}
 use Rattle.fit_rounds.specs.Rows.{Holds, byKind, Turns}
-use Rattle.fit_compare.specs.Told.{Given}
+use Rattle.fit_compare.specs.Compared.{Given}
 use Rattle.fit_rounds.specs.declared.pairs.Kind.the-variants.{Internal, Call}
 use Rattle.fit_rounds.proofs.Holding.{same-held}
 use Rattle.fit_rounds.proofs.Passing.{turns-then, turns-as}

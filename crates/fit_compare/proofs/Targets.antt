@@ -6,8 +6,8 @@ use native.Mathlib.Omega.{arith}
 use native.Mathlib.Decide.{ℕ-discrete, decLt}
 use lib.ListN.{length, getD, set, take, replicate, length-set, length-replicate, List·getD-eq-default}
 use lib.Seq.{getD-take, getD-set-same, getD-set-other}
-use Rattle.lists.specs.Lists.{keep, same}
-use Rattle.lists.proofs.Members.{keep-mem}
+use Rattle.lists.specs.Lists.{filter, same}
+use Rattle.lists.proofs.Members.{filter-mem}
 use Rattle.table_spec.specs.File.{records}
 use Rattle.table_spec.specs.Language.{targets}
 use Rattle.table_find.specs.Spans.{startsWith}
@@ -17,7 +17,7 @@ use Rattle.fit_rounds.specs.Rows.{Ascends, Nexts, NextMoves, NextReturns}
 
 -- ---- the records that start with the key, as the part of the section that they are
 
-module _ {w : ℕ} (section key found : List ℕ) (l : length key + 1 ≡ w) (e : records w found ≡ keep (startsWith key) (records w section)) where
+module _ {w : ℕ} (section key found : List ℕ) (l : length key + 1 ≡ w) (e : records w found ≡ filter (startsWith key) (records w section)) where
   targets-of : targets (records w section) key ≡ map (λ r. getD r (length key) 0) (records w found)
   unfolding targets startsWith
   targets-of = ap (map (λ r. getD r (length key) 0)) (sym e)
@@ -36,7 +36,7 @@ module _ {w : ℕ} (section key found : List ℕ) (l : length key + 1 ≡ w) (e 
 -- a target is below n, the sink is n
 pub after-most : (ss : List (List ℕ)) (n : ℕ) (key : List ℕ) → ((r : List ℕ) → List·Memᴰ r ss → getD r (length key) 0 < n) → after ss n key ≤ n
 unfolding after targets
-after-most ss n key h = go (keep (λ r. same key (take (length key) r)) ss) (λ r m. h r (keep-mem _ ss r m .0))
+after-most ss n key h = go (filter (λ r. same key (take (length key) r)) ss) (λ r m. h r (filter-mem _ ss r m .0))
   where
     go : (rs : List (List ℕ)) → ((r : List ℕ) → List·Memᴰ r rs → getD r (length key) 0 < n) → getD (map (λ r. getD r (length key) 0) rs) 0 n ≤ n
     go [] k = omega arith

@@ -3,7 +3,7 @@ ghost use mathlib.Core.Path.{_≡_};
 ghost use mathlib.Core.Bool.{true};
 ghost use Prim.Native.Nat.{_-_, _≤_};
 ghost use lib.ListN.{length};
-ghost use Rattle.lists.specs.Lists.{keep};
+ghost use Rattle.lists.specs.Lists.{filter};
 ghost use Rattle.limits.specs.Limits.{standard};
 ghost use Rattle.table_spec.specs.File.{tableOf, records};
 ghost use Rattle.table_spec.specs.Reading.{isInitial, ascend};
@@ -14,7 +14,7 @@ use table_view::Section;
 
 // How many states are initial.
 fn initials(states: &[u8]) -> usize
-    ensures { λ r. ⌜ r ≡ length (keep isInitial (now (states .entry))) ⌝ }
+    ensures { λ r. ⌜ r ≡ length (filter isInitial (now (states .entry))) ⌝ }
 {
     let mut count: usize = 0;
     let mut q: usize = 0;

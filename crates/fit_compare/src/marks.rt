@@ -4,7 +4,7 @@ ghost use Prim.Native.Nat.{_<_, _≤_};
 ghost use lib.ListN.{length, getD};
 ghost use Rattle.table_spec.specs.Reading.{isInitial, isAccepting};
 ghost use Rattle.fit_spec.specs.Fit.{pairByte};
-ghost use Rattle.fit_compare.specs.Told.{EndsAt, StartAt, EndsTold, StartsTold};
+ghost use Rattle.fit_compare.specs.Compared.{EndsAt, StartAt, EndsTold, StartsTold};
 use fit_rounds::held;
 use fit_rounds::put;
 

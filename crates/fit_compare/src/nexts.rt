@@ -20,7 +20,7 @@ fn target_of(section: &[u8], width: usize, wanted: u32, sink: u8) -> u8
     requires { ⌜ (3 ≤ width) × (ascend (records width (now section)) ≡ true) ⌝ }
     ensures { λ r. ⌜ ByKey width wanted r (after (records width (now (section .entry))) sink) ⌝ }
 {
-    let found = table_find::starting(section, width, wanted);
+    let found = table_find::equal_range(section, width, wanted);
     if found.len() < width {
         return sink;
     }

@@ -6,7 +6,7 @@ ghost use Rattle.table_spec.specs.File.{tableOf};
 ghost use Rattle.tops_spec.specs.Tops.{rounds};
 ghost use Rattle.fit_spec.specs.Fit.{pairTops, fits};
 ghost use Rattle.fit_rounds.specs.Rows.{Holds, Named, Nexts};
-ghost use Rattle.fit_compare.specs.Told.{Rests, BothRead};
+ghost use Rattle.fit_compare.specs.Compared.{Rests, BothRead};
 use super::marks::any_ends;
 use super::marks::start_rows;
 use super::nexts::narrow;

@@ -39,7 +39,7 @@ use Rattle.fit_spec.proofs.Numbers.{pair-below}
 use Rattle.fit_spec.proofs.Tables.{count-pairs, pairs-bounded, moves-of, returns-of, internals-sides, calls-sides, returns-sides}
 use Rattle.fit_rounds.specs.Rows.{Holds, Named}
 use Rattle.fit_rounds.proofs.Passing.{few-pairs}
-use Rattle.fit_links.specs.Quick.{coveredIn, PairTop, Follows, Partly, Links, Linked, Counts, Inner, Pushing, Popping, Place, PushesOn, PopsOver, PopsOn, LooksOn, LinksOn, AllLinks, AnyMarked}
+use Rattle.fit_links.specs.Quick.{coveredIn, PairTop, Follows, SomeTops, Links, Linked, Counts, Inner, Pushing, Popping, Place, PushesOn, PopsOver, PopsOn, LooksOn, LinksOn, AllLinks, AnyMarked}
 
 -- ---- rows that gain tops
 
@@ -48,7 +48,7 @@ unfolding topNamed
 named-pair m x h = rw (ne-eqb x m (λ e. omega arith), topNamed)
 
 module _ {s t : Table} where
-  partly-add : {f g : List ℕ} (p : Partly s t f) (q w : ℕ) → Holds g (add (p .words) q w) → ((x : ℕ) → Bit w x → PairTop s t q (topNamed (pairCount s t) x)) → Partly s t g
+  partly-add : {f g : List ℕ} (p : SomeTops s t f) (q w : ℕ) → Holds g (add (p .words) q w) → ((x : ℕ) → Bit w x → PairTop s t q (topNamed (pairCount s t) x)) → SomeTops s t g
   partly-add p q w h k = record {
     words = add (p .words) q w;
     holds = h;
@@ -62,12 +62,12 @@ module _ {s t : Table} where
       go u x (inr (e, b)) = subst (λ v. PairTop s t v (topNamed (pairCount s t) x)) (sym e) (k x b)
 
   pub flowed : {f g : List ℕ} {u v : ℕ} → ((F : List ℕ) → Holds f F → u < length F → v < length F → Holds g (add F v (getD F u 0)))
-      → u < pairCount s t → v < pairCount s t → Follows s t u v → Partly s t f → Partly s t g
+      → u < pairCount s t → v < pairCount s t → Follows s t u v → SomeTops s t f → SomeTops s t g
   flowed {u = u} {v = v} j lu lv h p =
       partly-add p v (getD (p .words) u 0) (j (p .words) (p .holds) (omega (arith, p .long)) (omega (arith, p .long))) (λ x b. h .each (p .tops u x b))
 
   pub gained : {f g : List ℕ} {v x : ℕ} → ((F : List ℕ) → Holds f F → v < length F → Holds g (add F v (2 ^ x)))
-      → v < pairCount s t → x < pairCount s t → PairTop s t v (some x) → Partly s t f → Partly s t g
+      → v < pairCount s t → x < pairCount s t → PairTop s t v (some x) → SomeTops s t f → SomeTops s t g
   gained {v = v} {x = x} j lv lx h p =
       partly-add p v (2 ^ x) (j (p .words) (p .holds) (omega (arith, p .long)))
       (λ y b. subst (λ z. PairTop s t v (topNamed (pairCount s t) z)) (sym (bit-pow x y b)) (subst (PairTop s t v) (sym (named-pair _ x lx)) h))
@@ -85,7 +85,7 @@ module _ {s t : Table} where
       go u x (inr (e, b)) = subst (λ w. Follows s t w x) (sym e) (subst (Follows s t y) (sym (bit-pow v x b)) h)
 
   -- a bit that is held is a top, a link is one
-  pub held-top : {f : List ℕ} {u x : ℕ} → ((F : List ℕ) → Holds f F → true ≡ has F u x) → x < pairCount s t → Partly s t f → PairTop s t u (some x)
+  pub held-top : {f : List ℕ} {u x : ℕ} → ((F : List ℕ) → Holds f F → true ≡ has F u x) → x < pairCount s t → SomeTops s t f → PairTop s t u (some x)
   held-top {u = u} {x = x} h l p = subst (PairTop s t u) (named-pair _ x l) (p .tops u x (has-true (p .words) u x (sym (h (p .words) (p .holds)))))
 
   pub held-link : {e : List ℕ} {u v : ℕ} → ((F : List ℕ) → Holds e F → true ≡ has F u v) → Links s t e → Follows s t u v
@@ -250,13 +250,13 @@ pushing-first e = record { place = e; kept = λ s t k h o x y. y }
 module _ {p b n : ℕ} {calls pushes f g : List ℕ} {at : ℕ} (w : PushingOn p b n calls pushes f g at) (l : 3 ≤ length calls - at)
     {a q to u v : ℕ} (ep : p ≡ getD calls at 0) (ea : a ≡ getD calls (at + 1) 0) (eq : q ≡ getD calls (at + 2) 0) (et : to ≡ getD pushes (b * 32 + a) 0)
     (eu : u ≡ p * (n + 1) + b) (ev : v ≡ q * (n + 1) + to) (lb : b ≤ n) (la : a < 32) (lt : to ≤ n) where
-  pub push-on : {h : List ℕ} → ((s t : Table) → v < pairCount s t → u < pairCount s t → PairTop s t v (some u) → Partly s t g → Partly s t h) → PushingOn p b n calls pushes f h (at + 3)
+  pub push-on : {h : List ℕ} → ((s t : Table) → v < pairCount s t → u < pairCount s t → PairTop s t v (some u) → SomeTops s t g → SomeTops s t h) → PushingOn p b n calls pushes f h (at + 3)
   push-on {h} j = record { place = place-on 3 calls (omega arith) (w .place) l; kept = λ s t k d o x y. go s t k d o x (w .kept s t k d o x y) }
     where
       m : List·Memᴰ (p ∷ a ∷ q ∷ []) (records 3 calls)
       m = move-there (w .place) l ep ea eq
 
-      go : (s t : Table) (k : ℕ) → Pushing s t k n calls pushes → (o : Option ℕ) → PairTop s t (p * (n + 1) + b) o → Partly s t g → Partly s t h
+      go : (s t : Table) (k : ℕ) → Pushing s t k n calls pushes → (o : Option ℕ) → PairTop s t (p * (n + 1) + b) o → SomeTops s t g → SomeTops s t h
       go s t k d o x y =
           let z = call-top d m lb la et x in
           j s t
@@ -325,13 +325,13 @@ module _ {p b k n : ℕ} {returns pops f e g h : List ℕ} {y : ℕ} (w : Poppin
           o s t k d ly (subst (λ v. PairTop s t v (some y)) eu (held-top a ly (x .rows))) x
 
 pub record Spreading (u pairs : ℕ) (links f g : List ℕ) : Type 0 where
-  pub kept : (s t : Table) → pairs ≡ pairCount s t → u < pairs → Links s t links → Partly s t f → Partly s t g
+  pub kept : (s t : Table) → pairs ≡ pairCount s t → u < pairs → Links s t links → SomeTops s t f → SomeTops s t g
 
 pub spreading : (u pairs : ℕ) (links f : List ℕ) → Spreading u pairs links f f
 spreading u pairs links f = record { kept = λ s t e l h x. x }
 
 module _ {u pairs : ℕ} {links f g : List ℕ} {v : ℕ} (w : Spreading u pairs links f g) (l : v < pairs) where
-  pub spread-on : {h : List ℕ} → ((F : List ℕ) → Holds links F → true ≡ has F u v) → ((s t : Table) → u < pairCount s t → v < pairCount s t → Follows s t u v → Partly s t g → Partly s t h) → Spreading u pairs links f h
+  pub spread-on : {h : List ℕ} → ((F : List ℕ) → Holds links F → true ≡ has F u v) → ((s t : Table) → u < pairCount s t → v < pairCount s t → Follows s t u v → SomeTops s t g → SomeTops s t h) → Spreading u pairs links f h
   spread-on a j = record { kept = λ s t e lu k x. j s t (subst (λ (m : ℕ). u < m) e lu) (subst (λ (m : ℕ). v < m) e l) (held-link a k) (w .kept s t e lu k x) }
 
 -- ---- internals
@@ -371,14 +371,14 @@ module _ {n : ℕ} {internals moves e g : List ℕ} {at : ℕ} (w : AllLinking n
 -- ---- looks at pairs
 
 -- a row with a bit has a top
-pub any-top : {s t : Table} {f : List ℕ} {u : ℕ} → ((F : List ℕ) → Holds f F → true ≡ not (eqb (getD F u 0) 0)) → Partly s t f → (o : Option ℕ) × PairTop s t u o
+pub any-top : {s t : Table} {f : List ℕ} {u : ℕ} → ((F : List ℕ) → Holds f F → true ≡ not (eqb (getD F u 0) 0)) → SomeTops s t f → (o : Option ℕ) × PairTop s t u o
 any-top {s} {t} {u = u} h p =
     let b = some-bit (getD (p .words) u 0) (getD (p .words) u 0) (le-refl _) (eqb-false _ _ (not-true _ (sym (h (p .words) (p .holds))))) in
     (_, p .tops u (b .0) (b .1))
 
 pub look-told : {calls returns pushes pops : List ℕ} {k n p b u : ℕ} {f e f₁ g h g₁ : List ℕ} → u ≡ p * (n + 1) + b → ((F : List ℕ) → Holds f F → true ≡ not (eqb (getD F u 0) 0)) → p < k → b ≤ n
     → PushesOn p b n calls pushes f f₁ → PopsOn p b k n returns pops f₁ e g h
-    → ((s t : Table) → k * (n + 1) ≡ pairCount s t → u < k * (n + 1) → Links s t h → Partly s t g → Partly s t g₁) → LooksOn calls returns pushes pops k n f e g₁ h
+    → ((s t : Table) → k * (n + 1) ≡ pairCount s t → u < k * (n + 1) → Links s t h → SomeTops s t g → SomeTops s t g₁) → LooksOn calls returns pushes pops k n f e g₁ h
 look-told {k = k} {u = u} eu a lp lb push pop spread s t d d' x =
     let o = any-top a (x .rows) in
     let y = pop s t d' record { rows = push s t k d (o .0) (subst (λ v. PairTop s t v (o .0)) eu (o .1)) (x .rows); links = x .links } in
@@ -471,7 +471,7 @@ module _ {s t : Table} (ws : WellFormed standard s) (wt : WellFormed standard t)
   pairs-fit : Bounded (pairCount s t) (pairTable s t)
   pairs-fit = pairs-bounded s t (bounded ws) (bounded wt)
 
-  pub start-partly : {f : List ℕ} → Holds f (startWords (pairCount s t) (pairTable s t)) → Partly s t f
+  pub start-partly : {f : List ℕ} → Holds f (startWords (pairCount s t) (pairTable s t)) → SomeTops s t f
   start-partly h = record {
     words = startWords (pairCount s t) (pairTable s t);
     holds = h;
@@ -481,7 +481,7 @@ module _ {s t : Table} (ws : WellFormed standard s) (wt : WellFormed standard t)
   }
 
   -- the rounds end with all tops
-  pub partly-tops : {f g : List ℕ} → Partly s t f → ((F : List ℕ) → Holds f F → length F ≡ pairCount s t → Holds g (rounds (suc (pairCount s t * suc (pairCount s t))) (pairTable s t) F)) → Holds g (pairTops s t)
+  pub partly-tops : {f g : List ℕ} → SomeTops s t f → ((F : List ℕ) → Holds f F → length F ≡ pairCount s t → Holds g (rounds (suc (pairCount s t * suc (pairCount s t))) (pairTable s t) F)) → Holds g (pairTops s t)
   partly-tops {g = g} p turn =
       let e = count-pairs s t in
       let a = rounds-alike pairs-fit (p .words) record { top = p .tops; wide = p .long ∙ sym e } record { keeps = p .starts } in

@@ -33,7 +33,7 @@ module _ (s t : Table) where
     pub each : {o : Option ℕ} → PairTop u o → PairTop v o
 
   -- rows that hold tops only, and those at the start; bottom has the number of pairs
-  pub record Partly (f : List ℕ) : Type 0 where
+  pub record SomeTops (f : List ℕ) : Type 0 where
     pub words : List ℕ
     pub holds : Holds f words
     pub long : length words ≡ pairCount s t
@@ -49,7 +49,7 @@ module _ (s t : Table) where
 
   -- both
   pub record Linked (f e : List ℕ) : Type 0 where
-    pub rows : Partly f
+    pub rows : SomeTops f
     pub links : Links e
 
   -- the tables, their counts, and of each section the first's bytes and where the second goes
@@ -76,15 +76,15 @@ module _ (s t : Table) where
 
 -- rows that hold tops only still do, when v gains the tops of u, which it has too
 abbrev pub FlowOn : ℕ → ℕ → List ℕ → List ℕ → Type 0
-FlowOn u v f g = (s t : Table) → u < pairCount s t → v < pairCount s t → Follows s t u v → Partly s t f → Partly s t g
+FlowOn u v f g = (s t : Table) → u < pairCount s t → v < pairCount s t → Follows s t u v → SomeTops s t f → SomeTops s t g
 
 -- .. when v gains its top x
 abbrev pub GainOn : ℕ → ℕ → List ℕ → List ℕ → Type 0
-GainOn v x f g = (s t : Table) → v < pairCount s t → x < pairCount s t → PairTop s t v (some x) → Partly s t f → Partly s t g
+GainOn v x f g = (s t : Table) → v < pairCount s t → x < pairCount s t → PairTop s t v (some x) → SomeTops s t f → SomeTops s t g
 
 -- .. along the links of u
 abbrev pub SpreadOn : ℕ → ℕ → List ℕ → List ℕ → List ℕ → Type 0
-SpreadOn u pairs e f g = (s t : Table) → pairs ≡ pairCount s t → u < pairs → Links s t e → Partly s t f → Partly s t g
+SpreadOn u pairs e f g = (s t : Table) → pairs ≡ pairCount s t → u < pairs → Links s t e → SomeTops s t f → SomeTops s t g
 
 -- rows that hold tops and links only still do, by a link from y to v
 abbrev pub LinkOn : ℕ → ℕ → List ℕ → List ℕ → List ℕ → List ℕ → Type 0
@@ -99,7 +99,7 @@ pub record Place (w : ℕ) (section : List ℕ) (at : ℕ) : Type 0 where
 -- rows that hold tops only still do, by what the calls of the pair of p and b push
 abbrev pub PushesOn : ℕ → ℕ → ℕ → List ℕ → List ℕ → List ℕ → List ℕ → Type 0
 PushesOn p b n calls pushes f g =
-    (s t : Table) (k : ℕ) → Pushing s t k n calls pushes → (o : Option ℕ) → PairTop s t (p * (n + 1) + b) o → Partly s t f → Partly s t g
+    (s t : Table) (k : ℕ) → Pushing s t k n calls pushes → (o : Option ℕ) → PairTop s t (p * (n + 1) + b) o → SomeTops s t f → SomeTops s t g
 
 -- .. by the returns of the pair of p and b that pop its top y
 abbrev pub PopsOver : ℕ → ℕ → ℕ → ℕ → List ℕ → List ℕ → List ℕ → List ℕ → List ℕ → List ℕ → Type 0
@@ -115,7 +115,7 @@ pub record Places (w : ℕ) (section places : List ℕ) : Type 0 where
   pub each : (p : ℕ) → Place w section (getD places p 0)
 
 -- the first's records name states and symbols, and where the second goes is a state or the number past them
-pub record Fed (calls returns pushes pops : List ℕ) (k n : ℕ) : Type 0 where
+pub record WorklistInput (calls returns pushes pops : List ℕ) (k n : ℕ) : Type 0 where
   pub calls-named : Named 3 24 calls
   pub returns-named : Named 4 24 returns
   pub pushes-go : Nexts n pushes
@@ -130,7 +130,7 @@ LooksOn calls returns pushes pops k n f e g h =
 -- rows that hold tops only still do, by the whole walk
 abbrev pub AddsTops : List ℕ → List ℕ → List ℕ → List ℕ → List ℕ → List ℕ → ℕ → ℕ → List ℕ → List ℕ → Type 0
 AddsTops internals calls returns moves pushes pops k n f g =
-    (s t : Table) → Inner s t k n internals moves → Pushing s t k n calls pushes → Popping s t k n returns pops → Partly s t f → Partly s t g
+    (s t : Table) → Inner s t k n internals moves → Pushing s t k n calls pushes → Popping s t k n returns pops → SomeTops s t f → SomeTops s t g
 
 -- links stay links, by what an internal (p, a, q) adds, and by all of them
 abbrev pub LinksOn : ℕ → ℕ → ℕ → ℕ → List ℕ → List ℕ → List ℕ → Type 0

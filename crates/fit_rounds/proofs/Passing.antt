@@ -10,9 +10,9 @@ use native.Mathlib.Numerals.{add-one}
 use lib.ListN.{length, getD, take, drop, length-drop}
 use lib.Seq.{length-take-le}
 use lib.Dec.{eqb}
-use Rattle.lists.specs.Lists.{upto, gather}
+use Rattle.lists.specs.Lists.{upto, concatMap}
 use Rattle.lists.specs.Bits.{has}
-use Rattle.lists.proofs.Counts.{gather-append}
+use Rattle.lists.proofs.Counts.{concatMap-append}
 use Rattle.table_spec.specs.File.{records}
 use Rattle.table_spec.proofs.Facts.{three-bytes, four-bytes}
 use Rattle.table_find.proofs.Walks.{records-cons, records-end}
@@ -187,7 +187,7 @@ module _ {kind : Kind} {s next : List ℕ} {n : ℕ} {f g : List ℕ} {at : ℕ}
     )
 
     pub moving-on : {h : List ℕ} → ((ss : List (List ℕ)) → NextMoves n ss next → (k : ℕ) → p < k → q < k → Turns k n g h (byKind kind (map (pairMove n ss (p ∷ a ∷ q ∷ [])) (upto (suc n))))) → Moving kind s next n f h (at + 3)
-    unfolding pairMoves gather
+    unfolding pairMoves concatMap
     moving-on {h} t = record {
       inside = omega arith;
       turned = λ ss m k d. let b = bytes-named d in rest-on (w .turned ss m k d) (t ss m k (b .0) (b .2)) (λ F.
@@ -196,7 +196,7 @@ module _ {kind : Kind} {s next : List ℕ} {n : ℕ} {f g : List ℕ} {at : ℕ}
     }
 
 pub moving-done : {kind : Kind} {s next : List ℕ} {n : ℕ} {f g : List ℕ} {at : ℕ} → Moving kind s next n f g at → length s - at < 3 → (ss : List (List ℕ)) → NextMoves n ss next → (k : ℕ) → Named 3 k s → Turns k n f g (byKind kind (pairMoves n (records 3 s) ss))
-unfolding pairMoves gather
+unfolding pairMoves concatMap
 moving-done {kind} {s} {next} {n} {f} {g} {at} w l ss m k h = rest-done (w .turned ss m k h) (λ F. ap (λ (rs : List (List ℕ)). byKind kind (pairMoves n rs ss) F) (records-end 3 s at l) ∙ kind-nil kind F)
 
 -- ---- one return
@@ -280,29 +280,29 @@ unders-done {p} {a} {b} {s} {q} {n} {next} {f} {g} {c} w l ss m k lp ls lq =
 
 pub record Overs (p a s q n : ℕ) (next f g : List ℕ) (b : ℕ) : Type 0 where
   pub inside : b ≤ n + 1
-  pub turned : (ss : List (List ℕ)) → NextReturns n ss next → (k : ℕ) → p < k → s < k → q < k → Turns k n f g (byReturns (gather (λ b. map (pairReturn n ss (p ∷ a ∷ s ∷ q ∷ []) b) (upto (suc n))) (upto b)))
+  pub turned : (ss : List (List ℕ)) → NextReturns n ss next → (k : ℕ) → p < k → s < k → q < k → Turns k n f g (byReturns (concatMap (λ b. map (pairReturn n ss (p ∷ a ∷ s ∷ q ∷ []) b) (upto (suc n))) (upto b)))
 
 pub overs : (p a s q n : ℕ) (next f : List ℕ) → Overs p a s q n next f f 0
-unfolding upto gather
+unfolding upto concatMap
 overs p a s q n next f = record { inside = omega arith; turned = λ ss m k lp ls lq. turns-as (turns-none f) (λ F. sym (return-nil F)) }
 
-gather-upto : (g : ℕ → List (List ℕ)) (b : ℕ) → gather g (upto (b + 1)) ≡ gather g (upto b) ++ g b
-unfolding upto gather
-gather-upto g b = ap (λ m. gather g (upto m)) (add-one b) ∙ gather-append g (upto b) (b ∷ []) ∙ ap (λ (x : List (List ℕ)). gather g (upto b) ++ x) (append-nil (g b))
+concatMap-upto : (g : ℕ → List (List ℕ)) (b : ℕ) → concatMap g (upto (b + 1)) ≡ concatMap g (upto b) ++ g b
+unfolding upto concatMap
+concatMap-upto g b = ap (λ m. concatMap g (upto m)) (add-one b) ∙ concatMap-append g (upto b) (b ∷ []) ∙ ap (λ (x : List (List ℕ)). concatMap g (upto b) ++ x) (append-nil (g b))
 
 module _ {p a s q n : ℕ} {next f g : List ℕ} {b : ℕ} (w : Overs p a s q n next f g b) where
   pub overs-on : {h : List ℕ} → b ≤ n → ((ss : List (List ℕ)) → NextReturns n ss next → (k : ℕ) → p < k → s < k → q < k → Turns k n g h (byReturns (map (pairReturn n ss (p ∷ a ∷ s ∷ q ∷ []) b) (upto (suc n))))) → Overs p a s q n next f h (b + 1)
   overs-on {h} l t = record { inside = omega arith; turned = λ ss m k lp ls lq. go ss (w .turned ss m k lp ls lq) (t ss m k lp ls lq) }
     where
-      go : (ss : List (List ℕ)) {k : ℕ} → Turns k n f g (byReturns (gather (λ b. map (pairReturn n ss (p ∷ a ∷ s ∷ q ∷ []) b) (upto (suc n))) (upto b))) → Turns k n g h (byReturns (map (pairReturn n ss (p ∷ a ∷ s ∷ q ∷ []) b) (upto (suc n)))) → Turns k n f h (byReturns (gather (λ b. map (pairReturn n ss (p ∷ a ∷ s ∷ q ∷ []) b) (upto (suc n))) (upto (b + 1))))
+      go : (ss : List (List ℕ)) {k : ℕ} → Turns k n f g (byReturns (concatMap (λ b. map (pairReturn n ss (p ∷ a ∷ s ∷ q ∷ []) b) (upto (suc n))) (upto b))) → Turns k n g h (byReturns (map (pairReturn n ss (p ∷ a ∷ s ∷ q ∷ []) b) (upto (suc n)))) → Turns k n f h (byReturns (concatMap (λ b. map (pairReturn n ss (p ∷ a ∷ s ∷ q ∷ []) b) (upto (suc n))) (upto (b + 1))))
       go ss x y =
           let r : ℕ → List (List ℕ) = λ b. map (pairReturn n ss (p ∷ a ∷ s ∷ q ∷ []) b) (upto (suc n)) in
-          turns-as (turns-then x y) (λ F. sym (return-append (gather r (upto b)) (r b) F) ∙ ap (λ rs. byReturns rs F) (sym (gather-upto r b)))
+          turns-as (turns-then x y) (λ F. sym (return-append (concatMap r (upto b)) (r b) F) ∙ ap (λ rs. byReturns rs F) (sym (concatMap-upto r b)))
 
-  pub overs-done : n < b → (ss : List (List ℕ)) → NextReturns n ss next → (k : ℕ) → p < k → s < k → q < k → Turns k n f g (byReturns (gather (λ b. map (pairReturn n ss (p ∷ a ∷ s ∷ q ∷ []) b) (upto (suc n))) (upto (suc n))))
+  pub overs-done : n < b → (ss : List (List ℕ)) → NextReturns n ss next → (k : ℕ) → p < k → s < k → q < k → Turns k n f g (byReturns (concatMap (λ b. map (pairReturn n ss (p ∷ a ∷ s ∷ q ∷ []) b) (upto (suc n))) (upto (suc n))))
   overs-done l ss m k lp ls lq =
       let e : b ≡ suc n = omega (arith, w .inside, add-one n) in
-      subst (λ (i : ℕ). Turns k n f g (byReturns (gather (λ b. map (pairReturn n ss (p ∷ a ∷ s ∷ q ∷ []) b) (upto (suc n))) (upto i)))) e (w .turned ss m k lp ls lq)
+      subst (λ (i : ℕ). Turns k n f g (byReturns (concatMap (λ b. map (pairReturn n ss (p ∷ a ∷ s ∷ q ∷ []) b) (upto (suc n))) (upto i)))) e (w .turned ss m k lp ls lq)
 
 -- ---- the returns of a section
 
@@ -345,15 +345,15 @@ module _ {s next : List ℕ} {n : ℕ} {f g : List ℕ} {at : ℕ} (w : Returnin
       subst (λ (x : ℕ). x < k) f3 (h .states _ first4 3 (λ z. absurd (omega arith)) (omega arith)),
     )
 
-    pub returning-on : {h : List ℕ} → ((ss : List (List ℕ)) → NextReturns n ss next → (k : ℕ) → p < k → o < k → q < k → Turns k n g h (byReturns (gather (λ b. map (pairReturn n ss (p ∷ a ∷ o ∷ q ∷ []) b) (upto (suc n))) (upto (suc n))))) → Returning s next n f h (at + 4)
-    unfolding pairReturns gather
+    pub returning-on : {h : List ℕ} → ((ss : List (List ℕ)) → NextReturns n ss next → (k : ℕ) → p < k → o < k → q < k → Turns k n g h (byReturns (concatMap (λ b. map (pairReturn n ss (p ∷ a ∷ o ∷ q ∷ []) b) (upto (suc n))) (upto (suc n))))) → Returning s next n f h (at + 4)
+    unfolding pairReturns concatMap
     returning-on {h} t = record {
       inside = omega arith;
       turned = λ ss m k d. let b = returns-named d in rest-on (w .turned ss m k d) (t ss m k (b .0) (b .2) (b .3)) (λ F.
-          ap (λ (rs : List (List ℕ)). byReturns (pairReturns n rs ss) F) (here4 ∙ ap (λ (r : List ℕ). r ∷ records 4 (drop (at + 4) s)) is4) ∙ return-append (gather (λ b. map (pairReturn n ss (p ∷ a ∷ o ∷ q ∷ []) b) (upto (suc n))) (upto (suc n))) (pairReturns n (records 4 (drop (at + 4) s)) ss) F);
+          ap (λ (rs : List (List ℕ)). byReturns (pairReturns n rs ss) F) (here4 ∙ ap (λ (r : List ℕ). r ∷ records 4 (drop (at + 4) s)) is4) ∙ return-append (concatMap (λ b. map (pairReturn n ss (p ∷ a ∷ o ∷ q ∷ []) b) (upto (suc n))) (upto (suc n))) (pairReturns n (records 4 (drop (at + 4) s)) ss) F);
       left = λ r m. w .left r (subst (λ (rs : List (List ℕ)). List·Memᴰ r rs) (sym here4) (List·Memᴰ·tail m));
     }
 
 pub returning-done : {s next : List ℕ} {n : ℕ} {f g : List ℕ} {at : ℕ} → Returning s next n f g at → length s - at < 4 → (ss : List (List ℕ)) → NextReturns n ss next → (k : ℕ) → Named 4 k s → Turns k n f g (byReturns (pairReturns n (records 4 s) ss))
-unfolding pairReturns gather
+unfolding pairReturns concatMap
 returning-done {s} {next} {n} {f} {g} {at} w l ss m k h = rest-done (w .turned ss m k h) (λ F. ap (λ (rs : List (List ℕ)). byReturns (pairReturns n rs ss) F) (records-end 4 s at l) ∙ return-nil F)

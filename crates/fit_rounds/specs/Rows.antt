@@ -7,7 +7,7 @@ use Prim.Native.Nat.{ℕ, zero, suc, _+_, _*_, _/_, _%_, _^_, _<_, _≤_}
 use lib.ListN.{length, getD, set}
 use lib.Bits.{bitOr}
 use lib.Dec.{eqb}
-use Rattle.lists.specs.Lists.{gather, upto}
+use Rattle.lists.specs.Lists.{concatMap, upto}
 use Rattle.lists.specs.Bits.{Bit, has}
 use Rattle.table_spec.specs.File.{records}
 use Rattle.table_spec.specs.Reading.{ascend}
@@ -116,7 +116,7 @@ MovesTurn kind n section next f g = (ss : List (List ℕ)) → NextMoves n ss ne
 
 -- a return of the first with every state of the second and every popped one
 abbrev pub overEach : ℕ → List (List ℕ) → List ℕ → List (List ℕ)
-overEach n ss r = gather (λ b. map (pairReturn n ss r b) (upto (suc n))) (upto (suc n))
+overEach n ss r = concatMap (λ b. map (pairReturn n ss r b) (upto (suc n))) (upto (suc n))
 
 abbrev pub ReturnTurns : ℕ → ℕ → ℕ → ℕ → ℕ → List ℕ → (List (List ℕ) → List (List ℕ)) → List ℕ → List ℕ → Type 0
 ReturnTurns p a s q n next made f g = (ss : List (List ℕ)) → NextReturns n ss next → (k : ℕ) → p < k → s < k → q < k → Turns k n f g (byReturns (made ss))

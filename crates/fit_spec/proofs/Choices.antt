@@ -8,7 +8,7 @@ use native.Mathlib.Omega.{arith}
 use lib.ListN.{length, getD, take, length-append}
 use lib.Seq.{take-suc, take-all, take-append-seam, getD-append-seam}
 use borrow.Author.Tests.{eqb-true, eq-eqb}
-use Rattle.lists.specs.Lists.{all, keep, same}
+use Rattle.lists.specs.Lists.{all, filter, same}
 use Rattle.lists.proofs.Members.{and-true, and-of, gives, gives-of, not-so, all-true, all-of, same-true, same-of}
 use Rattle.limits.specs.declared.Limits.{Limits}
 use Rattle.table_spec.specs.File.{Table}
@@ -61,34 +61,34 @@ record Only (f : ℕ → Bool) (xs : List ℕ) : Type 0 where
 
 -- what stands past the end does not pass
 module _ (f : ℕ → Bool) (off : f 0 ≡ false) where
-  kept : (x : ℕ) (xs : List ℕ) → f x ≡ true → length (keep f (x ∷ xs)) ≡ suc (length (keep f xs))
-  unfolding keep
-  kept x xs e = rw (e, keep)
+  kept : (x : ℕ) (xs : List ℕ) → f x ≡ true → length (filter f (x ∷ xs)) ≡ suc (length (filter f xs))
+  unfolding filter
+  kept x xs e = rw (e, filter)
 
-  left : (x : ℕ) (xs : List ℕ) → f x ≡ false → length (keep f (x ∷ xs)) ≡ length (keep f xs)
-  unfolding keep
-  left x xs e = rw (e, keep)
+  left : (x : ℕ) (xs : List ℕ) → f x ≡ false → length (filter f (x ∷ xs)) ≡ length (filter f xs)
+  unfolding filter
+  left x xs e = rw (e, filter)
 
-  none-passes : (xs : List ℕ) → length (keep f xs) ≡ 0 → (q : ℕ) → f (getD xs q 0) ≡ true → ⊥
+  none-passes : (xs : List ℕ) → length (filter f xs) ≡ 0 → (q : ℕ) → f (getD xs q 0) ≡ true → ⊥
   none-passes [] e q t = true≢false (sym t ∙ off)
   none-passes (x ∷ xs) e zero t = absurd (omega (arith, kept x xs t))
   none-passes (x ∷ xs) e (suc q) t = go (f x) refl (none-passes xs)
     where
-      go : (b : Bool) → f x ≡ b → (length (keep f xs) ≡ 0 → (q : ℕ) → f (getD xs q 0) ≡ true → ⊥) → ⊥
+      go : (b : Bool) → f x ≡ b → (length (filter f xs) ≡ 0 → (q : ℕ) → f (getD xs q 0) ≡ true → ⊥) → ⊥
       go true h r = absurd (omega (arith, kept x xs h))
       go false h r = r (sym (left x xs h) ∙ e) q t
 
-  none-kept : (xs : List ℕ) → ((q : ℕ) → f (getD xs q 0) ≡ true → ⊥) → length (keep f xs) ≡ 0
-  unfolding keep
+  none-kept : (xs : List ℕ) → ((q : ℕ) → f (getD xs q 0) ≡ true → ⊥) → length (filter f xs) ≡ 0
+  unfolding filter
   none-kept [] h = refl
   none-kept (x ∷ xs) h = left x xs (not-so (f x) (h 0)) ∙ none-kept xs (λ q. h (suc q))
 
-  one-passes : (xs : List ℕ) → length (keep f xs) ≡ 1 → Only f xs
-  unfolding keep
+  one-passes : (xs : List ℕ) → length (filter f xs) ≡ 1 → Only f xs
+  unfolding filter
   one-passes [] e = absurd (omega arith)
   one-passes (x ∷ xs) e = go (f x) refl (one-passes xs)
     where
-      here : f x ≡ true → length (keep f xs) ≡ 0 → (q : ℕ) → f (getD (x ∷ xs) q 0) ≡ true → q ≡ 0
+      here : f x ≡ true → length (filter f xs) ≡ 0 → (q : ℕ) → f (getD (x ∷ xs) q 0) ≡ true → q ≡ 0
       here h z zero t = refl
       here h z (suc q) t = absurd (none-passes xs z q t)
 
@@ -96,11 +96,11 @@ module _ (f : ℕ → Bool) (off : f 0 ≡ false) where
       later h o zero t = absurd (true≢false (sym t ∙ h))
       later h o (suc q) t = ap suc (o .only q t)
 
-      go : (b : Bool) → f x ≡ b → (length (keep f xs) ≡ 1 → Only f xs) → Only f (x ∷ xs)
+      go : (b : Bool) → f x ≡ b → (length (filter f xs) ≡ 1 → Only f xs) → Only f (x ∷ xs)
       go true h r = record { place = 0; passes = h; only = here h (omega (arith, e, kept x xs h)) }
       go false h r = let o = r (sym (left x xs h) ∙ e) in record { place = suc (o .place); passes = o .passes; only = later h o }
 
-  one-kept : (xs : List ℕ) (p : ℕ) → f (getD xs p 0) ≡ true → ((q : ℕ) → f (getD xs q 0) ≡ true → q ≡ p) → length (keep f xs) ≡ 1
+  one-kept : (xs : List ℕ) (p : ℕ) → f (getD xs p 0) ≡ true → ((q : ℕ) → f (getD xs q 0) ≡ true → q ≡ p) → length (filter f xs) ≡ 1
   one-kept [] p t h = absurd (true≢false (sym t ∙ off))
   one-kept (x ∷ xs) zero t h = kept x xs t ∙ ap suc (none-kept xs (λ q u. absurd (omega (arith, h (suc q) u))))
   one-kept (x ∷ xs) (suc p) t h = left x xs (not-so (f x) (λ u. absurd (omega (arith, h 0 u)))) ∙ one-kept xs p t (λ q u. omega (arith, h (suc q) u))

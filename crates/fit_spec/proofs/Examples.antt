@@ -2,7 +2,7 @@
 use mathlib.Core.Path.{_≡_, refl}
 use mathlib.Core.List.{List, [], _∷_, map}
 use Prim.Native.Nat.{ℕ}
-use Rattle.lists.specs.Lists.{any, all, keep, parts, gather, upto, same, firstFailed}
+use Rattle.lists.specs.Lists.{any, all, filter, parts, concatMap, upto, same, firstFailed}
 use Rattle.lists.specs.Bits.{hasBit, has}
 use Rattle.limits.specs.Limits.{limitsFit}
 use Rattle.table_spec.specs.Limits.{longest}
@@ -64,9 +64,9 @@ answers =
     ∷ []
 
 values : map fittingValues answers ≡ (1 ∷ []) ∷ (1 ∷ []) ∷ (1 ∷ []) ∷ (1 ∷ []) ∷ (0 ∷ []) ∷ (0 ∷ []) ∷ (1 ∷ []) ∷ [] ∷ [] ∷ [] ∷ [] ∷ [] ∷ (0 ∷ []) ∷ (1 ∷ []) ∷ []
-unfolding any all keep parts gather upto same firstFailed hasBit has longest word16 trailer distance version start records tableOf limitsFit lengthFits versionFits distancesFit countsFit stateByteMost bytesFit isInitial isAccepting startFits recordFits recordsFit before ascendFrom ascend orderFits tableTests readNumber targets add byInternals byCalls live byReturns round rounds startWords topWordsAt bitOf after pairMove pairMoves pairReturn pairReturns pairByte pairTable ends fits oneTarget oneInitial noChoice sameSymbols fitNumber fitOf fittingValues
+unfolding any all filter parts concatMap upto same firstFailed hasBit has longest word16 trailer distance version start records tableOf limitsFit lengthFits versionFits distancesFit countsFit stateByteMost bytesFit isInitial isAccepting startFits recordFits recordsFit before ascendFrom ascend orderFits tableTests readNumber targets add byInternals byCalls live byReturns round rounds startWords topWordsAt bitOf after pairMove pairMoves pairReturn pairReturns pairByte pairTable ends fits oneTarget oneInitial noChoice sameSymbols fitNumber fitOf fittingValues
 values = refl
 
 numbers : map fittingNumber answers ≡ 0 ∷ 0 ∷ 0 ∷ 0 ∷ 0 ∷ 0 ∷ 0 ∷ 1 ∷ 1 ∷ 37 ∷ 38 ∷ 38 ∷ 0 ∷ 0 ∷ []
-unfolding any all keep parts gather upto same firstFailed hasBit has longest word16 trailer distance version start records tableOf limitsFit lengthFits versionFits distancesFit countsFit stateByteMost bytesFit isInitial isAccepting startFits recordFits recordsFit before ascendFrom ascend orderFits tableTests readNumber targets add byInternals byCalls live byReturns round rounds startWords topWordsAt bitOf after pairMove pairMoves pairReturn pairReturns pairByte pairTable ends fits oneTarget oneInitial noChoice sameSymbols fitNumber fitOf fittingNumber
+unfolding any all filter parts concatMap upto same firstFailed hasBit has longest word16 trailer distance version start records tableOf limitsFit lengthFits versionFits distancesFit countsFit stateByteMost bytesFit isInitial isAccepting startFits recordFits recordsFit before ascendFrom ascend orderFits tableTests readNumber targets add byInternals byCalls live byReturns round rounds startWords topWordsAt bitOf after pairMove pairMoves pairReturn pairReturns pairByte pairTable ends fits oneTarget oneInitial noChoice sameSymbols fitNumber fitOf fittingNumber
 numbers = refl

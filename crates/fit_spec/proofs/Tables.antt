@@ -8,8 +8,8 @@ use native.Mathlib.Omega.{arith}
 use native.Mathlib.Decide.{decLt}
 use lib.ListN.{length, getD, length-map, List·getD-eq-default}
 use borrow.Author.Tests.{eqb-true, eqb-false, eq-eqb, ne-eqb}
-use Rattle.lists.specs.Lists.{gather, upto}
-use Rattle.lists.proofs.Members.{getD-map, getD-upto, length-upto, upto-of, upto-mem, gather-mem, gather-of, and-true, and-of}
+use Rattle.lists.specs.Lists.{concatMap, upto}
+use Rattle.lists.proofs.Members.{getD-map, getD-upto, length-upto, upto-of, upto-mem, concatMap-mem, concatMap-of, and-true, and-of}
 use Rattle.table_spec.specs.File.{Table}
 use Rattle.table_spec.specs.Reading.{isInitial, isAccepting}
 use Rattle.table_spec.specs.Language.{count, byteOf, targets, automaton}
@@ -60,7 +60,7 @@ module _ {n : ℕ} {rs ss : List (List ℕ)} (sides : Sides 3 n rs ss) where
   pub moves-mem : (u a v : ℕ) → List·Memᴰ (u ∷ a ∷ v ∷ []) (pairMoves n rs ss) → MoveOf u a v
   unfolding pairMoves pairMove
   moves-mem u a v m =
-      let g = gather-mem (λ r. map (pairMove n ss r) (upto (suc n))) rs _ m in
+      let g = concatMap-mem (λ r. map (pairMove n ss r) (upto (suc n))) rs _ m in
       let k = Memᴰ·of-map (pairMove n ss (g .0)) (upto (suc n)) (g .2) in
       go (g .0) (k .0) (g .1) (upto-mem (suc n) (k .0) (k .1)) (k .2)
     where
@@ -87,18 +87,18 @@ module _ {n : ℕ} {rs ss : List (List ℕ)} (sides : Sides 3 n rs ss) where
       let b = secondOf n u in
       let v = pairOf n q (next b a) in
       let k : List·Memᴰ (pairOf n (firstOf n u) b ∷ a ∷ v ∷ []) (map (pairMove n ss (firstOf n u ∷ a ∷ q ∷ [])) (upto (suc n))) = Memᴰ·map (pairMove n ss (firstOf n u ∷ a ∷ q ∷ [])) (upto-of (suc n) b (second-below n u)) in
-      let g = gather-of (λ r. map (pairMove n ss r) (upto (suc n))) rs _ _ m k in
+      let g = concatMap-of (λ r. map (pairMove n ss r) (upto (suc n))) rs _ _ m k in
       (v, Memᴰ·cast (λ i. sym (pair-whole n u) i ∷ a ∷ v ∷ []) g, pair-first n q (next-below b a))
 
   pub moves-of : (r : List ℕ) (b : ℕ) → List·Memᴰ r rs → b < suc n → List·Memᴰ (pairMove n ss r b) (pairMoves n rs ss)
   unfolding pairMoves
-  moves-of r b m l = gather-of (λ r. map (pairMove n ss r) (upto (suc n))) rs r _ m (Memᴰ·map (pairMove n ss r) (upto-of (suc n) b l))
+  moves-of r b m l = concatMap-of (λ r. map (pairMove n ss r) (upto (suc n))) rs r _ m (Memᴰ·map (pairMove n ss r) (upto-of (suc n) b l))
 
   -- widths and bounds
   pub moves-bounded : {k : ℕ} → ((r : List ℕ) → List·Memᴰ r rs → Moves k r) → (r : List ℕ) → List·Memᴰ r (pairMoves n rs ss) → Moves (k * suc n) r
   unfolding pairMoves pairMove
   moves-bounded {k} h r m =
-      let g = gather-mem (λ r. map (pairMove n ss r) (upto (suc n))) rs _ m in
+      let g = concatMap-mem (λ r. map (pairMove n ss r) (upto (suc n))) rs _ m in
       let j = Memᴰ·of-map (pairMove n ss (g .0)) (upto (suc n)) (g .2) in
       subst (Moves (k * suc n)) (j .2) record {
         wide = refl;
@@ -135,8 +135,8 @@ module _ {n : ℕ} {rs ss : List (List ℕ)} (sides : Sides 4 n rs ss) where
   from : (r : List ℕ) → List·Memᴰ r (pairReturns n rs ss) → From r
   unfolding pairReturns
   from r m =
-      let g = gather-mem (λ r. gather (λ b. map (pairReturn n ss r b) (upto (suc n))) (upto (suc n))) rs _ m in
-      let h = gather-mem (λ b. map (pairReturn n ss (g .0) b) (upto (suc n))) (upto (suc n)) _ (g .2) in
+      let g = concatMap-mem (λ r. concatMap (λ b. map (pairReturn n ss r b) (upto (suc n))) (upto (suc n))) rs _ m in
+      let h = concatMap-mem (λ b. map (pairReturn n ss (g .0) b) (upto (suc n))) (upto (suc n)) _ (g .2) in
       let k = Memᴰ·of-map (pairReturn n ss (g .0) (h .0)) (upto (suc n)) (h .2) in
       record { source = g .0; state = h .0; popped = k .0; there = g .1; state-below = upto-mem (suc n) (h .0) (h .1); popped-below = upto-mem (suc n) (k .0) (k .1); is = k .2 }
 
@@ -173,15 +173,15 @@ module _ {n : ℕ} {rs ss : List (List ℕ)} (sides : Sides 4 n rs ss) where
       let v = pairOf n q (back b a c) in
       let r = firstOf n u ∷ a ∷ firstOf n s ∷ q ∷ [] in
       let k : List·Memᴰ (pairOf n (firstOf n u) b ∷ a ∷ pairOf n (firstOf n s) c ∷ v ∷ []) (map (pairReturn n ss r b) (upto (suc n))) = Memᴰ·map (pairReturn n ss r b) (upto-of (suc n) c (second-below n s)) in
-      let h = gather-of (λ b. map (pairReturn n ss r b) (upto (suc n))) (upto (suc n)) b _ (upto-of (suc n) b (second-below n u)) k in
-      let g = gather-of (λ r. gather (λ b. map (pairReturn n ss r b) (upto (suc n))) (upto (suc n))) rs r _ m h in
+      let h = concatMap-of (λ b. map (pairReturn n ss r b) (upto (suc n))) (upto (suc n)) b _ (upto-of (suc n) b (second-below n u)) k in
+      let g = concatMap-of (λ r. concatMap (λ b. map (pairReturn n ss r b) (upto (suc n))) (upto (suc n))) rs r _ m h in
       (v, Memᴰ·cast (λ i. sym (pair-whole n u) i ∷ a ∷ sym (pair-whole n s) i ∷ v ∷ []) g, pair-first n q (back-below b a c))
 
   pub returns-of : (r : List ℕ) (b c : ℕ) → List·Memᴰ r rs → b < suc n → c < suc n → List·Memᴰ (pairReturn n ss r b c) (pairReturns n rs ss)
   unfolding pairReturns
   returns-of r b c m l k =
-      gather-of (λ r. gather (λ b. map (pairReturn n ss r b) (upto (suc n))) (upto (suc n))) rs r _ m
-      (gather-of (λ b. map (pairReturn n ss r b) (upto (suc n))) (upto (suc n)) b _ (upto-of (suc n) b l) (Memᴰ·map (pairReturn n ss r b) (upto-of (suc n) c k)))
+      concatMap-of (λ r. concatMap (λ b. map (pairReturn n ss r b) (upto (suc n))) (upto (suc n))) rs r _ m
+      (concatMap-of (λ b. map (pairReturn n ss r b) (upto (suc n))) (upto (suc n)) b _ (upto-of (suc n) b l) (Memᴰ·map (pairReturn n ss r b) (upto-of (suc n) c k)))
 
   pub returns-bounded : {k : ℕ} → ((r : List ℕ) → List·Memᴰ r rs → Pops k r) → (r : List ℕ) → List·Memᴰ r (pairReturns n rs ss) → Pops (k * suc n) r
   unfolding pairReturn

@@ -4,7 +4,7 @@ use mathlib.Core.List.{List, [], _∷_, map}
 use Prim.Native.Nat.{ℕ, suc, _+_, _*_, _/_, _%_}
 use lib.ListN.{length, getD, take}
 use lib.Dec.{eqb}
-use Rattle.lists.specs.Lists.{any, all, keep, gather, upto, same, firstFailed, stage, Says}
+use Rattle.lists.specs.Lists.{any, all, filter, concatMap, upto, same, firstFailed, stage, Says}
 use Rattle.lists.specs.Bits.{has}
 use Rattle.limits.specs.Limits.{standard}
 use Rattle.table_spec.specs.File.{Table, tableOf}
@@ -40,14 +40,14 @@ unfoldable pub pairMove : ℕ → List (List ℕ) → List ℕ → ℕ → List 
 pairMove n ss r b = pairOf n (getD r 0 0) b ∷ getD r 1 0 ∷ pairOf n (getD r 2 0) (after ss n (b ∷ getD r 1 0 ∷ [])) ∷ []
 
 unfoldable pub pairMoves : ℕ → List (List ℕ) → List (List ℕ) → List (List ℕ)
-pairMoves n rs ss = gather (λ r. map (pairMove n ss r) (upto (suc n))) rs
+pairMoves n rs ss = concatMap (λ r. map (pairMove n ss r) (upto (suc n))) rs
 
 -- the same for returns, which pop a pair
 unfoldable pub pairReturn : ℕ → List (List ℕ) → List ℕ → ℕ → ℕ → List ℕ
 pairReturn n ss r b c = pairOf n (getD r 0 0) b ∷ getD r 1 0 ∷ pairOf n (getD r 2 0) c ∷ pairOf n (getD r 3 0) (after ss n (b ∷ getD r 1 0 ∷ c ∷ [])) ∷ []
 
 unfoldable pub pairReturns : ℕ → List (List ℕ) → List (List ℕ) → List (List ℕ)
-pairReturns n rs ss = gather (λ r. gather (λ b. map (pairReturn n ss r b) (upto (suc n))) (upto (suc n))) rs
+pairReturns n rs ss = concatMap (λ r. concatMap (λ b. map (pairReturn n ss r b) (upto (suc n))) (upto (suc n))) rs
 
 -- a pair is initial where both are, and accepting where the first is and the second is not; "Marks are ignored."
 unfoldable pub pairByte : ℕ → ℕ → ℕ
@@ -86,7 +86,7 @@ oneTarget w rs = all (λ r. all (λ s. not (same (take w r) (take w s)) || same 
 
 -- "one initial state"
 unfoldable pub oneInitial : Table → Bool
-oneInitial t = eqb (length (keep isInitial (t .states))) 1
+oneInitial t = eqb (length (filter isInitial (t .states))) 1
 
 -- 38: "a second table with a choice"; by the file, dead returns too
 unfoldable pub noChoice : Table → Bool

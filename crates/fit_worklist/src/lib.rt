@@ -2,7 +2,7 @@
 // confirm, so nothing is asked of the marks, of the tops noted as done and of the places.
 ghost use Prim.Native.Nat.{_<_, _≤_};
 ghost use Rattle.fit_rounds.specs.Rows.{Named, Nexts};
-ghost use Rattle.fit_links.specs.Quick.{AddsTops, Place, Places, Fed, PushesOn, PopsOn, SpreadOn, LooksOn, LinksOn, AllLinks, AnyMarked};
+ghost use Rattle.fit_links.specs.Quick.{AddsTops, Place, Places, WorklistInput, PushesOn, PopsOn, SpreadOn, LooksOn, LinksOn, AllLinks, AnyMarked};
 use bits::wide;
 use fit_links::after_move;
 use fit_links::flow;
@@ -147,7 +147,7 @@ fn look(
     popped: &mut [u64; 6000],
     marks: &mut [u8; 600],
 )
-    requires { ⌜ Fed (now calls) (now returns) (now pushes) (now pops) k n × Place 3 (now calls) pushing × Place 4 (now returns) popping × (p < k) × (b ≤ n) ⌝ }
+    requires { ⌜ WorklistInput (now calls) (now returns) (now pushes) (now pops) k n × Place 3 (now calls) pushing × Place 4 (now returns) popping × (p < k) × (b ≤ n) ⌝ }
     ensures { λ _. ⌜
         LooksOn (now (calls .entry)) (now (returns .entry)) (now (pushes .entry)) (now (pops .entry)) k n
         (now (rows .entry)) (now (links .entry)) (now (rows .exit)) (now (links .exit)) ⌝ }
@@ -188,7 +188,7 @@ fn pass(
     popped: &mut [u64; 6000],
     marks: &mut [u8; 600],
 )
-    requires { ⌜ Fed (now calls) (now returns) (now pushes) (now pops) k n × Places 3 (now calls) (now pushing) × Places 4 (now returns) (now popping) ⌝ }
+    requires { ⌜ WorklistInput (now calls) (now returns) (now pushes) (now pops) k n × Places 3 (now calls) (now pushing) × Places 4 (now returns) (now popping) ⌝ }
     ensures { λ _. ⌜
         LooksOn (now (calls .entry)) (now (returns .entry)) (now (pushes .entry)) (now (pops .entry)) k n
         (now (rows .entry)) (now (links .entry)) (now (rows .exit)) (now (links .exit)) ⌝ }
@@ -280,7 +280,7 @@ fn looks(
     rows: &mut [u64; 6000],
     links: &mut [u64; 6000],
 )
-    requires { ⌜ Fed (now calls) (now returns) (now pushes) (now pops) k n ⌝ }
+    requires { ⌜ WorklistInput (now calls) (now returns) (now pushes) (now pops) k n ⌝ }
     ensures { λ _. ⌜
         LooksOn (now (calls .entry)) (now (returns .entry)) (now (pushes .entry)) (now (pops .entry)) k n
         (now (rows .entry)) (now (links .entry)) (now (rows .exit)) (now (links .exit)) ⌝ }
@@ -325,7 +325,7 @@ pub fn quick(
     n: usize,
     rows: &mut [u64; 6000],
 )
-    requires { ⌜ Fed (now calls) (now returns) (now pushes) (now pops) k n × Named 3 24 (now internals) × Nexts n (now moves) ⌝ }
+    requires { ⌜ WorklistInput (now calls) (now returns) (now pushes) (now pops) k n × Named 3 24 (now internals) × Nexts n (now moves) ⌝ }
     ensures { λ _. ⌜
         AddsTops (now (internals .entry)) (now (calls .entry)) (now (returns .entry)) (now (moves .entry)) (now (pushes .entry)) (now (pops .entry)) k n
         (now (rows .entry)) (now (rows .exit)) ⌝ }

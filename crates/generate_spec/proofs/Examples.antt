@@ -3,7 +3,7 @@ use mathlib.Core.Path.{_≡_, refl}
 use mathlib.Core.List.{List, [], _∷_, map}
 use Prim.Native.Nat.{ℕ}
 use lib.ListN.{replicate}
-use Rattle.lists.specs.Lists.{gather, upto, flat, firstFailed}
+use Rattle.lists.specs.Lists.{concatMap, upto, concat, firstFailed}
 use Rattle.limits.specs.declared.Limits.{Limits}
 use Rattle.limits.specs.Limits.{standard, limitsFit}
 use Rattle.table_spec.specs.File.{bytes16, fromReturns, fromCalls, fromInternals, fromStates, fromSymbols, trailerOf, bytesOf}
@@ -12,7 +12,7 @@ use Rattle.generate_spec.specs.Loads.{Load, loadOf, draw, kindOf, symbol
 
 -- two states and a symbol of each kind, drawn from seed 0: the first draw is 1,013,904,223, above 15,470 times 65,536
 pub drawn : describedBytes (loadOf 0 2 1 1 1 20000) ≡ 0 ∷ 1 ∷ 2 ∷ 1 ∷ 2 ∷ 0 ∷ 0 ∷ 0 ∷ 0 ∷ 0 ∷ 1 ∷ 1 ∷ 2 ∷ 1 ∷ 0 ∷ 15 ∷ 0 ∷ 12 ∷ 0 ∷ 10 ∷ 0 ∷ 4 ∷ 0 ∷ 4 ∷ 0 ∷ 1 ∷ 0 ∷ []
-unfolding gather upto flat bytes16 fromReturns fromCalls fromInternals fromStates fromSymbols trailerOf bytesOf bitOf draw kindOf symbolBytes stateByte stateBytes tuples span possible present after possibleInternals possibleCalls possibleReturns seedCalls seedReturns described describedBytes
+unfolding concatMap upto concat bytes16 fromReturns fromCalls fromInternals fromStates fromSymbols trailerOf bytesOf bitOf draw kindOf symbolBytes stateByte stateBytes tuples span possible present after possibleInternals possibleCalls possibleReturns seedCalls seedReturns described describedBytes
 drawn = refl
 
 -- the limits, the load, and room for so many bytes
@@ -40,5 +40,5 @@ loads =
     ∷ []
 
 pub numbers : map numberFor loads ≡ 0 ∷ 21 ∷ 35 ∷ 35 ∷ 35 ∷ 35 ∷ 36 ∷ 0 ∷ 39 ∷ []
-unfolding gather upto flat bytes16 fromReturns fromCalls fromInternals fromStates fromSymbols trailerOf bytesOf bitOf draw kindOf symbolBytes stateByte stateBytes tuples span possible present after possibleInternals possibleCalls possibleReturns seedCalls seedReturns described describedBytes firstFailed limitsFit sizesFit recordsFew generateNumber
+unfolding concatMap upto concat bytes16 fromReturns fromCalls fromInternals fromStates fromSymbols trailerOf bytesOf bitOf draw kindOf symbolBytes stateByte stateBytes tuples span possible present after possibleInternals possibleCalls possibleReturns seedCalls seedReturns described describedBytes firstFailed limitsFit sizesFit recordsFew generateNumber
 numbers = refl

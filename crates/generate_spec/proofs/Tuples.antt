@@ -10,8 +10,8 @@ use lib.ListN.{length, getD, replicate, length-append, length-map, List·getD-ap
 use lib.Seq.{getD-append-add}
 use borrow.Author.Tests.{lt-ltb}
 use lib.Dec.{ltb}
-use Rattle.lists.specs.Lists.{all, gather, upto, Rising}
-use Rattle.lists.proofs.Members.{getD-map, gather-mem, upto-mem, length-upto, getD-upto, and-of}
+use Rattle.lists.specs.Lists.{all, concatMap, upto, Rising}
+use Rattle.lists.proofs.Members.{getD-map, concatMap-mem, upto-mem, length-upto, getD-upto, and-of}
 use Rattle.table_spec.specs.Reading.{before, ascendFrom, ascend}
 use Rattle.table_spec.proofs.Order.{by-first, by-others, ascend-behind, ascend-rest, ascend-cons}
 use Rattle.quotient_spec.proofs.Table.{mem-index}
@@ -24,13 +24,13 @@ module _ (xss : List (List ℕ)) where
   rest = length (tuples xss)
 
   pub length-tuples : (xs : List ℕ) → length (tuples (xs ∷ xss)) ≡ length xs * rest
-  unfolding tuples gather
+  unfolding tuples concatMap
   length-tuples [] = sym (zero-mul rest)
   length-tuples (x ∷ xs) =
       omega (arith, length-append (map (λ r. x ∷ r) (tuples xss)) (tuples (xs ∷ xss)), length-map (tuples xss) (λ r. x ∷ r), length-tuples xs, suc-mul (length xs) rest)
 
   at-place : (xs : List ℕ) (j i : ℕ) → j < length xs → i < rest → getD (tuples (xs ∷ xss)) (j * rest + i) [] ≡ getD xs j 0 ∷ getD (tuples xss) i []
-  unfolding tuples gather
+  unfolding tuples concatMap
   at-place [] j i h k = absurd (omega arith)
   at-place (x ∷ xs) zero i h k =
       let e : zero * rest + i ≡ i = omega (arith, zero-mul rest) in
@@ -69,7 +69,7 @@ pub record Tuple (xs : List ℕ) (xss : List (List ℕ)) (r : List ℕ) : Type 0
 
 pub tuple-of : (xs : List ℕ) (xss : List (List ℕ)) (r : List ℕ) → List·Memᴰ r (tuples (xs ∷ xss)) → Tuple xs xss r
 unfolding tuples
-tuple-of xs xss r d = go (gather-mem (λ x. map (λ s. x ∷ s) (tuples xss)) xs r d)
+tuple-of xs xss r d = go (concatMap-mem (λ x. map (λ s. x ∷ s) (tuples xss)) xs r d)
   where
     found : (x : ℕ) → List·Memᴰ x xs → (s : List ℕ) × List·Memᴰ s (tuples xss) × (x ∷ s ≡ r) → Tuple xs xss r
     found x i (s, j, e) = record { first = x; others = s; first-in = i; others-in = j; same = e }
@@ -104,7 +104,7 @@ rising-first : {x : ℕ} {xs : List ℕ} → Rising (x ∷ xs) → (y : ℕ) →
 rising-first {x} {xs} h y d = let (i, l, e) = mem-index y xs d in subst (λ (z : ℕ). x < z) e (h .rises 0 (suc i) (omega arith) (omega arith))
 
 pub tuples-ascend : (xss : List (List ℕ)) → ((xs : List ℕ) → List·Memᴰ xs xss → Rising xs) → ascend (tuples xss) ≡ true
-unfolding tuples gather ascend ascendFrom
+unfolding tuples concatMap ascend ascendFrom
 tuples-ascend [] h = refl
 tuples-ascend (xs ∷ xss) h = go xs (h xs (List·Memᴰ·head refl)) (tuples-ascend xss (λ ys d. h ys (List·Memᴰ·tail d)))
   where

@@ -4,7 +4,7 @@ use mathlib.Core.List.{List, [], _∷_, map}
 use Prim.Native.Nat.{ℕ, _+_, _-_, _*_, _/_, _%_, _^_}
 use lib.ListN.{length, replicate}
 use lib.Dec.{eqb, ltb, leb}
-use Rattle.lists.specs.Lists.{gather, upto, over, firstFailed, Says}
+use Rattle.lists.specs.Lists.{concatMap, upto, over, firstFailed, Says}
 use Rattle.limits.specs.declared.Limits.{Limits}
 use Rattle.limits.specs.Limits.{limitsFit}
 use Rattle.table_spec.specs.Limits.{moveLimit, returnLimit}
@@ -47,7 +47,7 @@ stateBytes n = map (stateByte n) (upto n)
 -- every list with one element of each of the lists, the first element the slowest
 unfoldable pub tuples : List (List ℕ) → List (List ℕ)
 tuples [] = [] ∷ []
-tuples (xs ∷ xss) = gather (λ x. map (λ r. x ∷ r) (tuples xss)) xs
+tuples (xs ∷ xss) = concatMap (λ x. map (λ r. x ∷ r) (tuples xss)) xs
 
 -- k numbers from `from` on
 unfoldable pub span : ℕ → ℕ → List ℕ

@@ -6,42 +6,42 @@ use Prim.Native.Nat.{ℕ, suc, _+_, _*_, _≤_, _<_, zero-le, suc-le-suc}
 use native.Mathlib.Nat.{le-trans, le-suc, suc-mul, zero-mul}
 use native.Mathlib.Omega.{arith}
 use lib.ListN.{length, length-append, length-map}
-use Rattle.lists.specs.Lists.{keep, gather}
-use Rattle.lists.proofs.Members.{keep-length, gather-of}
+use Rattle.lists.specs.Lists.{filter, concatMap}
+use Rattle.lists.proofs.Members.{filter-length, concatMap-of}
 
 module _ {A : Type 0} where
-  pub keep-append : (f : A → Bool) (xs ys : List A) → keep f (xs ++ ys) ≡ keep f xs ++ keep f ys
-  unfolding keep
-  keep-append f [] ys = refl
-  keep-append f (x ∷ xs) ys = go (f x) (keep-append f xs ys)
+  pub filter-append : (f : A → Bool) (xs ys : List A) → filter f (xs ++ ys) ≡ filter f xs ++ filter f ys
+  unfolding filter
+  filter-append f [] ys = refl
+  filter-append f (x ∷ xs) ys = go (f x) (filter-append f xs ys)
     where
-      go : (t : Bool) → keep f (xs ++ ys) ≡ keep f xs ++ keep f ys → _≡_ {A = List A} (elim t [ true ↦ x ∷ keep f (xs ++ ys) | false ↦ keep f (xs ++ ys) ]) ((elim t as (λ _. List A) [ true ↦ x ∷ keep f xs | false ↦ keep f xs ]) ++ keep f ys)
+      go : (t : Bool) → filter f (xs ++ ys) ≡ filter f xs ++ filter f ys → _≡_ {A = List A} (elim t [ true ↦ x ∷ filter f (xs ++ ys) | false ↦ filter f (xs ++ ys) ]) ((elim t as (λ _. List A) [ true ↦ x ∷ filter f xs | false ↦ filter f xs ]) ++ filter f ys)
       go true e = ap (λ zs. x ∷ zs) e
       go false e = e
 
-  pub keep-le : (f : A → Bool) (xs : List A) → length (keep f xs) ≤ length xs
-  unfolding keep
-  keep-le f [] = zero-le
-  keep-le f (x ∷ xs) = go (f x) (keep-le f xs)
+  pub filter-le : (f : A → Bool) (xs : List A) → length (filter f xs) ≤ length xs
+  unfolding filter
+  filter-le f [] = zero-le
+  filter-le f (x ∷ xs) = go (f x) (filter-le f xs)
     where
-      go : (t : Bool) → length (keep f xs) ≤ length xs → length {A = A} (elim t [ true ↦ x ∷ keep f xs | false ↦ keep f xs ]) ≤ length (x ∷ xs)
+      go : (t : Bool) → length (filter f xs) ≤ length xs → length {A = A} (elim t [ true ↦ x ∷ filter f xs | false ↦ filter f xs ]) ≤ length (x ∷ xs)
       go true h = suc-le-suc h
       go false h = le-trans h (le-suc _)
 
   -- a test that all pass
-  pub keep-every : (xs : List A) → keep (λ x. true) xs ≡ xs
-  unfolding keep
-  keep-every [] = refl
-  keep-every (x ∷ xs) = ap (λ (l : List A). x ∷ l) (keep-every xs)
+  pub filter-every : (xs : List A) → filter (λ x. true) xs ≡ xs
+  unfolding filter
+  filter-every [] = refl
+  filter-every (x ∷ xs) = ap (λ (l : List A). x ∷ l) (filter-every xs)
 
   -- a test that passes more often, and once more at y, keeps more
-  pub keep-less : (f g : A → Bool) (xs : List A) → ((x : A) → List·Memᴰ x xs → f x ≡ true → g x ≡ true) → (y : A) → List·Memᴰ y xs → f y ≡ false → g y ≡ true → length (keep f xs) < length (keep g xs)
-  unfolding keep
-  keep-less f g [] h y m p q = elim m [ ]
-  keep-less f g (x ∷ xs) h y m p q = go (f x) (g x) refl refl m (keep-length f g xs (λ z k. h z (List·Memᴰ·tail k))) (λ k. keep-less f g xs (λ z l. h z (List·Memᴰ·tail l)) y k p q)
+  pub filter-less : (f g : A → Bool) (xs : List A) → ((x : A) → List·Memᴰ x xs → f x ≡ true → g x ≡ true) → (y : A) → List·Memᴰ y xs → f y ≡ false → g y ≡ true → length (filter f xs) < length (filter g xs)
+  unfolding filter
+  filter-less f g [] h y m p q = elim m [ ]
+  filter-less f g (x ∷ xs) h y m p q = go (f x) (g x) refl refl m (filter-length f g xs (λ z k. h z (List·Memᴰ·tail k))) (λ k. filter-less f g xs (λ z l. h z (List·Memᴰ·tail l)) y k p q)
     where
-      go : (s t : Bool) → f x ≡ s → g x ≡ t → List·Memᴰ y (x ∷ xs) → length (keep f xs) ≤ length (keep g xs) → (List·Memᴰ y xs → length (keep f xs) < length (keep g xs))
-          → length {A = A} (elim s [ true ↦ x ∷ keep f xs | false ↦ keep f xs ]) < length {A = A} (elim t [ true ↦ x ∷ keep g xs | false ↦ keep g xs ])
+      go : (s t : Bool) → f x ≡ s → g x ≡ t → List·Memᴰ y (x ∷ xs) → length (filter f xs) ≤ length (filter g xs) → (List·Memᴰ y xs → length (filter f xs) < length (filter g xs))
+          → length {A = A} (elim s [ true ↦ x ∷ filter f xs | false ↦ filter f xs ]) < length {A = A} (elim t [ true ↦ x ∷ filter g xs | false ↦ filter g xs ])
       go true false e k m l r = absurd (true≢false (sym (h x (List·Memᴰ·head refl) e) ∙ k))
       go true true e k (List·Memᴰ·head u) l r = absurd (true≢false (sym e ∙ ap f (sym u) ∙ p))
       go true true e k (List·Memᴰ·tail u) l r = suc-le-suc (r u)
@@ -49,19 +49,19 @@ module _ {A : Type 0} where
       go false false e k (List·Memᴰ·head u) l r = absurd (true≢false (sym q ∙ ap g u ∙ k))
       go false false e k (List·Memᴰ·tail u) l r = r u
 
-pub keep-map : {A B : Type 0} (f : B → Bool) (g : A → B) (xs : List A) → length (keep f (map g xs)) ≡ length (keep (λ x. f (g x)) xs)
-unfolding keep
-keep-map f g [] = refl
-keep-map {A} {B} f g (x ∷ xs) = go (f (g x)) (keep-map f g xs)
+pub filter-map : {A B : Type 0} (f : B → Bool) (g : A → B) (xs : List A) → length (filter f (map g xs)) ≡ length (filter (λ x. f (g x)) xs)
+unfolding filter
+filter-map f g [] = refl
+filter-map {A} {B} f g (x ∷ xs) = go (f (g x)) (filter-map f g xs)
   where
-    go : (t : Bool) → length (keep f (map g xs)) ≡ length (keep (λ x. f (g x)) xs) → length {A = B} (elim t [ true ↦ g x ∷ keep f (map g xs) | false ↦ keep f (map g xs) ]) ≡ length {A = A} (elim t [ true ↦ x ∷ keep (λ x. f (g x)) xs | false ↦ keep (λ x. f (g x)) xs ])
+    go : (t : Bool) → length (filter f (map g xs)) ≡ length (filter (λ x. f (g x)) xs) → length {A = B} (elim t [ true ↦ g x ∷ filter f (map g xs) | false ↦ filter f (map g xs) ]) ≡ length {A = A} (elim t [ true ↦ x ∷ filter (λ x. f (g x)) xs | false ↦ filter (λ x. f (g x)) xs ])
     go true e = ap suc e
     go false e = e
 
-pub gather-append : {A B : Type 0} (f : A → List B) (xs ys : List A) → gather f (xs ++ ys) ≡ gather f xs ++ gather f ys
-unfolding gather
-gather-append f [] ys = refl
-gather-append f (x ∷ xs) ys = ap (λ zs. f x ++ zs) (gather-append f xs ys) ∙ sym (append-assoc (f x) (gather f xs) (gather f ys))
+pub concatMap-append : {A B : Type 0} (f : A → List B) (xs ys : List A) → concatMap f (xs ++ ys) ≡ concatMap f xs ++ concatMap f ys
+unfolding concatMap
+concatMap-append f [] ys = refl
+concatMap-append f (x ∷ xs) ys = ap (λ zs. f x ++ zs) (concatMap-append f xs ys) ∙ sym (append-assoc (f x) (concatMap f xs) (concatMap f ys))
 
 pub map-of : {A B : Type 0} (f : A → B) {xs : List A} {x : A} → List·Memᴰ x xs → List·Memᴰ (f x) (map f xs)
 map-of f (List·Memᴰ·head e) = List·Memᴰ·head (ap f e)
@@ -70,10 +70,10 @@ map-of f (List·Memᴰ·tail m) = List·Memᴰ·tail (map-of f m)
 -- ---- the cells of a grid: each row with each column
 
 unfoldable pub grid : List ℕ → List ℕ → List (ℕ × ℕ)
-grid rows columns = gather (λ q. map (λ x. (q, x)) columns) rows
+grid rows columns = concatMap (λ q. map (λ x. (q, x)) columns) rows
 
 pub length-grid : (rows columns : List ℕ) → length (grid rows columns) ≡ length rows * length columns
-unfolding grid gather
+unfolding grid concatMap
 length-grid [] columns = sym (zero-mul (length columns))
 length-grid (q ∷ rows) columns =
     let e = length-append (map (λ x. (q, x)) columns) (grid rows columns) in
@@ -82,4 +82,4 @@ length-grid (q ∷ rows) columns =
 
 pub grid-of : (rows columns : List ℕ) (q x : ℕ) → List·Memᴰ q rows → List·Memᴰ x columns → List·Memᴰ (q, x) (grid rows columns)
 unfolding grid
-grid-of rows columns q x m k = gather-of (λ p. map (λ y. (p, y)) columns) rows q (q, x) m (map-of (λ y. (q, y)) k)
+grid-of rows columns q x m k = concatMap-of (λ p. map (λ y. (p, y)) columns) rows q (q, x) m (map-of (λ y. (q, y)) k)

@@ -11,10 +11,10 @@ use lib.Pow.{pow-pos}
 use lib.Count.{trailingZeros, under}
 use lib.Dec.{eqb}
 use borrow.Author.Tests.{eq-eqb, ne-eqb}
-use Rattle.lists.specs.Lists.{keep, upto}
+use Rattle.lists.specs.Lists.{filter, upto}
 use Rattle.lists.specs.Bits.{Bit, hasBit}
 use Rattle.lists.proofs.Bits.{no-bit}
-use Rattle.lists.proofs.Counts.{keep-append}
+use Rattle.lists.proofs.Counts.{filter-append}
 use Rattle.lists.proofs.Words.{bit-zero, bit-suc}
 
 -- x is the lowest bit of w
@@ -66,32 +66,32 @@ clear-other w (suc x) (suc y) b n =
 -- ---- the bits in ascending order
 
 -- what a last element adds
-lasts : (w k : ℕ) → keep (hasBit w) (upto (suc k)) ≡ keep (hasBit w) (upto k) ++ keep (hasBit w) (k ∷ [])
+lasts : (w k : ℕ) → filter (hasBit w) (upto (suc k)) ≡ filter (hasBit w) (upto k) ++ filter (hasBit w) (k ∷ [])
 unfolding upto
-lasts w k = keep-append (hasBit w) (upto k) (k ∷ [])
+lasts w k = filter-append (hasBit w) (upto k) (k ∷ [])
 
-without : (w k : ℕ) → ¬ Bit w k → keep (hasBit w) (k ∷ []) ≡ []
-unfolding keep hasBit
-without w k n = rw (ne-eqb (w / 2 ^ k % 2) 1 n, keep)
+without : (w k : ℕ) → ¬ Bit w k → filter (hasBit w) (k ∷ []) ≡ []
+unfolding filter hasBit
+without w k n = rw (ne-eqb (w / 2 ^ k % 2) 1 n, filter)
 
-with-it : (w k : ℕ) → Bit w k → keep (hasBit w) (k ∷ []) ≡ k ∷ []
-unfolding keep hasBit
-with-it w k b = rw (eq-eqb (w / 2 ^ k % 2) 1 b, keep)
+with-it : (w k : ℕ) → Bit w k → filter (hasBit w) (k ∷ []) ≡ k ∷ []
+unfolding filter hasBit
+with-it w k b = rw (eq-eqb (w / 2 ^ k % 2) 1 b, filter)
 
-alike : (w v k : ℕ) → w / 2 ^ k % 2 ≡ v / 2 ^ k % 2 → keep (hasBit w) (k ∷ []) ≡ keep (hasBit v) (k ∷ [])
-unfolding keep hasBit
+alike : (w v k : ℕ) → w / 2 ^ k % 2 ≡ v / 2 ^ k % 2 → filter (hasBit w) (k ∷ []) ≡ filter (hasBit v) (k ∷ [])
+unfolding filter hasBit
 alike w v k e = ap {B = List ℕ} (λ d. elim (eqb d 1) [ true ↦ k ∷ [] | false ↦ [] ]) e
 
 -- none
-pub keep-none : (n w : ℕ) → ((x : ℕ) → x < n → ¬ Bit w x) → keep (hasBit w) (upto n) ≡ []
-unfolding keep upto
-keep-none zero w h = refl
-keep-none (suc n) w h = lasts w n ∙ (λ i. keep-none n w (λ x l. h x (omega arith)) i ++ without w n (h n (omega arith)) i)
+pub filter-none : (n w : ℕ) → ((x : ℕ) → x < n → ¬ Bit w x) → filter (hasBit w) (upto n) ≡ []
+unfolding filter upto
+filter-none zero w h = refl
+filter-none (suc n) w h = lasts w n ∙ (λ i. filter-none n w (λ x l. h x (omega arith)) i ++ without w n (h n (omega arith)) i)
 
 -- the lowest first, then those of the word without it
-pub keep-lowest : (n w x : ℕ) → LowestBit w x → x < n → keep (hasBit w) (upto n) ≡ x ∷ keep (hasBit (w - 2 ^ x)) (upto n)
-keep-lowest zero w x s l = absurd (omega arith)
-keep-lowest (suc n) w x s l = go (ℕ-discrete x n) (keep-lowest n w x s)
+pub filter-lowest : (n w x : ℕ) → LowestBit w x → x < n → filter (hasBit w) (upto n) ≡ x ∷ filter (hasBit (w - 2 ^ x)) (upto n)
+filter-lowest zero w x s l = absurd (omega arith)
+filter-lowest (suc n) w x s l = go (ℕ-discrete x n) (filter-lowest n w x s)
   where
     low : (y : ℕ) → y < x → ¬ Bit w y
     low y k b = let g = s .least y b in omega arith
@@ -99,17 +99,17 @@ keep-lowest (suc n) w x s l = go (ℕ-discrete x n) (keep-lowest n w x s)
     lower : (y : ℕ) → y < x → ¬ Bit (w - 2 ^ x) y
     lower y k b = low y k (sym (clear-other w x y (s .own) (λ e. omega arith)) ∙ b)
 
-    ended : x ≡ n → keep (hasBit (w - 2 ^ x)) (upto (suc n)) ≡ []
-    ended e = keep-none (suc n) (w - 2 ^ x) (λ y k. own y (ℕ-discrete y x) k)
+    ended : x ≡ n → filter (hasBit (w - 2 ^ x)) (upto (suc n)) ≡ []
+    ended e = filter-none (suc n) (w - 2 ^ x) (λ y k. own y (ℕ-discrete y x) k)
       where
         own : (y : ℕ) → Dec (y ≡ x) → y < suc n → ¬ Bit (w - 2 ^ x) y
         own y (yes f) k b = clear-own w x (s .own) (rw f at b)
         own y (no f) k b = lower y (omega arith) b
 
-    go : Dec (x ≡ n) → (x < n → keep (hasBit w) (upto n) ≡ x ∷ keep (hasBit (w - 2 ^ x)) (upto n)) → keep (hasBit w) (upto (suc n)) ≡ x ∷ keep (hasBit (w - 2 ^ x)) (upto (suc n))
+    go : Dec (x ≡ n) → (x < n → filter (hasBit w) (upto n) ≡ x ∷ filter (hasBit (w - 2 ^ x)) (upto n)) → filter (hasBit w) (upto (suc n)) ≡ x ∷ filter (hasBit (w - 2 ^ x)) (upto (suc n))
     go (yes e) ih =
         let b : Bit w n = rw e at (s .own) in
-        lasts w n ∙ (λ i. keep-none n w (λ y k. low y (omega arith)) i ++ with-it w n b i) ∙ (λ i. sym e i ∷ sym (ended e) i)
+        lasts w n ∙ (λ i. filter-none n w (λ y k. low y (omega arith)) i ++ with-it w n b i) ∙ (λ i. sym e i ∷ sym (ended e) i)
     go (no d) ih =
         let k : x < n = omega arith in
         lasts w n ∙ (λ i. ih k i ++ alike w (w - 2 ^ x) n (sym (clear-other w x n (s .own) (λ e. d (sym e)))) i) ∙ ap (λ ys. x ∷ ys) (sym (lasts (w - 2 ^ x) n))
@@ -117,12 +117,12 @@ keep-lowest (suc n) w x s l = go (ℕ-discrete x n) (keep-lowest n w x s)
 -- ---- the walk by trailing zeros
 
 -- the next bit below n, if the trailing zeros of a word of k bits stand below n
-pub keep-next : (k n w : ℕ) → w < 2 ^ k → w ≢ 0 → trailingZeros k w < n → keep (hasBit w) (upto n) ≡ trailingZeros k w ∷ keep (hasBit (w - 2 ^ trailingZeros k w)) (upto n)
-keep-next k n w l z h = keep-lowest n w (trailingZeros k w) (trailing-lowest k w l z .1) h
+pub filter-next : (k n w : ℕ) → w < 2 ^ k → w ≢ 0 → trailingZeros k w < n → filter (hasBit w) (upto n) ≡ trailingZeros k w ∷ filter (hasBit (w - 2 ^ trailingZeros k w)) (upto n)
+filter-next k n w l z h = filter-lowest n w (trailingZeros k w) (trailing-lowest k w l z .1) h
 
 -- and none, if they do not
-pub keep-ended : (k n w : ℕ) → w < 2 ^ k → n ≤ trailingZeros k w → keep (hasBit w) (upto n) ≡ []
-keep-ended k n w l h = keep-none n w (λ x m b. go (ℕ-discrete w 0) x m b)
+pub filter-ended : (k n w : ℕ) → w < 2 ^ k → n ≤ trailingZeros k w → filter (hasBit w) (upto n) ≡ []
+filter-ended k n w l h = filter-none n w (λ x m b. go (ℕ-discrete w 0) x m b)
   where
     go : Dec (w ≡ 0) → (x : ℕ) → x < n → ¬ Bit w x
     go (yes e) x m b = no-bit x (rw e at b)

@@ -11,7 +11,7 @@ use lib.ListN.{length, getD, drop, length-append, List·getD-append, replicate}
 use lib.Seq.{drop-cons, getD-append-add}
 use lib.Dec.{eqb}
 use borrow.Author.Tests.{eqb-true, eqb-false, eq-eqb}
-use Rattle.lists.specs.Lists.{any, all, keep, gather, upto, mem, same}
+use Rattle.lists.specs.Lists.{any, all, filter, concatMap, upto, mem, same}
 
 -- ---- tests joined
 
@@ -121,74 +121,74 @@ module _ {A : Type 0} (f : A → Bool) where
   all-of [] h = refl
   all-of (x ∷ xs) h = and-of (h x (List·Memᴰ·head refl)) (all-of xs (λ y m. h y (List·Memᴰ·tail m)))
 
-  pub keep-mem : (xs : List A) (y : A) → List·Memᴰ y (keep f xs) → List·Memᴰ y xs × (f y ≡ true)
-  unfolding keep
-  keep-mem [] y m = elim m [ ]
-  keep-mem (x ∷ xs) y m = go (f x) refl m (keep-mem xs y)
+  pub filter-mem : (xs : List A) (y : A) → List·Memᴰ y (filter f xs) → List·Memᴰ y xs × (f y ≡ true)
+  unfolding filter
+  filter-mem [] y m = elim m [ ]
+  filter-mem (x ∷ xs) y m = go (f x) refl m (filter-mem xs y)
     where
-      go : (t : Bool) → f x ≡ t → List·Memᴰ y (elim t [ true ↦ x ∷ keep f xs | false ↦ keep f xs ]) → (List·Memᴰ y (keep f xs) → List·Memᴰ y xs × (f y ≡ true)) → List·Memᴰ y (x ∷ xs) × (f y ≡ true)
+      go : (t : Bool) → f x ≡ t → List·Memᴰ y (elim t [ true ↦ x ∷ filter f xs | false ↦ filter f xs ]) → (List·Memᴰ y (filter f xs) → List·Memᴰ y xs × (f y ≡ true)) → List·Memᴰ y (x ∷ xs) × (f y ≡ true)
       go true p (List·Memᴰ·head h) rest = (List·Memᴰ·head h, ap f h ∙ p)
       go true p (List·Memᴰ·tail m) rest = let r = rest m in (List·Memᴰ·tail (r .0), r .1)
       go false p m rest = let r = rest m in (List·Memᴰ·tail (r .0), r .1)
 
-  pub keep-of : (xs : List A) (y : A) → List·Memᴰ y xs → f y ≡ true → List·Memᴰ y (keep f xs)
-  unfolding keep
-  keep-of [] y m e = elim m [ ]
-  keep-of (x ∷ xs) y m e = go (f x) refl m (λ k. keep-of xs y k e)
+  pub filter-of : (xs : List A) (y : A) → List·Memᴰ y xs → f y ≡ true → List·Memᴰ y (filter f xs)
+  unfolding filter
+  filter-of [] y m e = elim m [ ]
+  filter-of (x ∷ xs) y m e = go (f x) refl m (λ k. filter-of xs y k e)
     where
-      go : (t : Bool) → f x ≡ t → List·Memᴰ y (x ∷ xs) → (List·Memᴰ y xs → List·Memᴰ y (keep f xs)) → List·Memᴰ y (elim t [ true ↦ x ∷ keep f xs | false ↦ keep f xs ])
+      go : (t : Bool) → f x ≡ t → List·Memᴰ y (x ∷ xs) → (List·Memᴰ y xs → List·Memᴰ y (filter f xs)) → List·Memᴰ y (elim t [ true ↦ x ∷ filter f xs | false ↦ filter f xs ])
       go true p (List·Memᴰ·head h) rest = List·Memᴰ·head h
       go true p (List·Memᴰ·tail m) rest = List·Memᴰ·tail (rest m)
       go false p (List·Memᴰ·head h) rest = absurd (true≢false (sym e ∙ ap f h ∙ p))
       go false p (List·Memᴰ·tail m) rest = rest m
 
 -- a test that passes less often keeps no more
-pub keep-length : {A : Type 0} (f g : A → Bool) (xs : List A) → ((x : A) → List·Memᴰ x xs → f x ≡ true → g x ≡ true) → length (keep f xs) ≤ length (keep g xs)
-unfolding keep
-keep-length f g [] h = zero-le
-keep-length {A} f g (x ∷ xs) h = go (f x) (g x) refl refl (keep-length f g xs (λ y m. h y (List·Memᴰ·tail m)))
+pub filter-length : {A : Type 0} (f g : A → Bool) (xs : List A) → ((x : A) → List·Memᴰ x xs → f x ≡ true → g x ≡ true) → length (filter f xs) ≤ length (filter g xs)
+unfolding filter
+filter-length f g [] h = zero-le
+filter-length {A} f g (x ∷ xs) h = go (f x) (g x) refl refl (filter-length f g xs (λ y m. h y (List·Memᴰ·tail m)))
   where
-    go : (s t : Bool) → f x ≡ s → g x ≡ t → length (keep f xs) ≤ length (keep g xs) → length {A = A} (elim s [ true ↦ x ∷ keep f xs | false ↦ keep f xs ]) ≤ length {A = A} (elim t [ true ↦ x ∷ keep g xs | false ↦ keep g xs ])
+    go : (s t : Bool) → f x ≡ s → g x ≡ t → length (filter f xs) ≤ length (filter g xs) → length {A = A} (elim s [ true ↦ x ∷ filter f xs | false ↦ filter f xs ]) ≤ length {A = A} (elim t [ true ↦ x ∷ filter g xs | false ↦ filter g xs ])
     go true true p q r = suc-le-suc r
     go true false p q r = absurd (true≢false (sym (h x (List·Memᴰ·head refl) p) ∙ q))
     go false true p q r = le-trans r (le-suc _)
     go false false p q r = r
 
 -- a keep of a keep keeps no more
-pub keep-keep : {A : Type 0} (f g : A → Bool) (xs : List A) → length (keep f (keep g xs)) ≤ length (keep f xs)
-unfolding keep
-keep-keep f g [] = zero-le
-keep-keep {A} f g (x ∷ xs) = go (f x) (g x) refl refl (keep-keep f g xs)
+pub filter-filter : {A : Type 0} (f g : A → Bool) (xs : List A) → length (filter f (filter g xs)) ≤ length (filter f xs)
+unfolding filter
+filter-filter f g [] = zero-le
+filter-filter {A} f g (x ∷ xs) = go (f x) (g x) refl refl (filter-filter f g xs)
   where
-    go : (s t : Bool) → f x ≡ s → g x ≡ t → length (keep f (keep g xs)) ≤ length (keep f xs)
-        → length (keep f (elim t as (λ _. List A) [ true ↦ x ∷ keep g xs | false ↦ keep g xs ])) ≤ length {A = A} (elim s [ true ↦ x ∷ keep f xs | false ↦ keep f xs ])
-    go true true p q r = rw (p, keep) (suc-le-suc r)
+    go : (s t : Bool) → f x ≡ s → g x ≡ t → length (filter f (filter g xs)) ≤ length (filter f xs)
+        → length (filter f (elim t as (λ _. List A) [ true ↦ x ∷ filter g xs | false ↦ filter g xs ])) ≤ length {A = A} (elim s [ true ↦ x ∷ filter f xs | false ↦ filter f xs ])
+    go true true p q r = rw (p, filter) (suc-le-suc r)
     go true false p q r = le-trans r (le-suc _)
-    go false true p q r = rw (p, keep) r
+    go false true p q r = rw (p, filter) r
     go false false p q r = r
 
 -- ---- gather
 
-pub gather-mem : {A B : Type 0} (f : A → List B) (xs : List A) (y : B) → List·Memᴰ y (gather f xs) → (x : A) × List·Memᴰ x xs × List·Memᴰ y (f x)
-unfolding gather
-gather-mem f [] y m = absurd (not-nil m)
-gather-mem {A} f (x ∷ xs) y m = go (append-cases (f x) m) (gather-mem f xs y)
+pub concatMap-mem : {A B : Type 0} (f : A → List B) (xs : List A) (y : B) → List·Memᴰ y (concatMap f xs) → (x : A) × List·Memᴰ x xs × List·Memᴰ y (f x)
+unfolding concatMap
+concatMap-mem f [] y m = absurd (not-nil m)
+concatMap-mem {A} f (x ∷ xs) y m = go (append-cases (f x) m) (concatMap-mem f xs y)
   where
-    go : List·Memᴰ y (f x) ⊎ List·Memᴰ y (gather f xs) → (List·Memᴰ y (gather f xs) → (z : A) × List·Memᴰ z xs × List·Memᴰ y (f z)) → (z : A) × List·Memᴰ z (x ∷ xs) × List·Memᴰ y (f z)
+    go : List·Memᴰ y (f x) ⊎ List·Memᴰ y (concatMap f xs) → (List·Memᴰ y (concatMap f xs) → (z : A) × List·Memᴰ z xs × List·Memᴰ y (f z)) → (z : A) × List·Memᴰ z (x ∷ xs) × List·Memᴰ y (f z)
     go (inl h) ih = (x, List·Memᴰ·head refl, h)
     go (inr h) ih = let r = ih h in (r .0, List·Memᴰ·tail (r .1), r .2)
 
 -- what holds of each member, part by part
-pub gather-all : {A B : Type 0} (f : A → List B) (xs : List A) (P : B → Type 0) → ((x : A) → List·Memᴰ x xs → (y : B) → List·Memᴰ y (f x) → P y) → (y : B) → List·Memᴰ y (gather f xs) → P y
-gather-all f xs P h y m = let r = gather-mem f xs y m in h (r .0) (r .1) y (r .2)
+pub concatMap-all : {A B : Type 0} (f : A → List B) (xs : List A) (P : B → Type 0) → ((x : A) → List·Memᴰ x xs → (y : B) → List·Memᴰ y (f x) → P y) → (y : B) → List·Memᴰ y (concatMap f xs) → P y
+concatMap-all f xs P h y m = let r = concatMap-mem f xs y m in h (r .0) (r .1) y (r .2)
 
-pub gather-of : {A B : Type 0} (f : A → List B) (xs : List A) (x : A) (y : B) → List·Memᴰ x xs → List·Memᴰ y (f x) → List·Memᴰ y (gather f xs)
-unfolding gather
-gather-of f [] x y m h = absurd (not-nil m)
-gather-of {A} f (z ∷ xs) x y m h = go (cases-cons m) (λ k. gather-of f xs x y k h)
+pub concatMap-of : {A B : Type 0} (f : A → List B) (xs : List A) (x : A) (y : B) → List·Memᴰ x xs → List·Memᴰ y (f x) → List·Memᴰ y (concatMap f xs)
+unfolding concatMap
+concatMap-of f [] x y m h = absurd (not-nil m)
+concatMap-of {A} f (z ∷ xs) x y m h = go (cases-cons m) (λ k. concatMap-of f xs x y k h)
   where
-    go : (x ≡ z) ⊎ List·Memᴰ x xs → (List·Memᴰ x xs → List·Memᴰ y (gather f xs)) → List·Memᴰ y (f z ++ gather f xs)
-    go (inl e) ih = Memᴰ·append-left (gather f xs) (subst (λ (u : A). List·Memᴰ y (f u)) e h)
+    go : (x ≡ z) ⊎ List·Memᴰ x xs → (List·Memᴰ x xs → List·Memᴰ y (concatMap f xs)) → List·Memᴰ y (f z ++ concatMap f xs)
+    go (inl e) ih = Memᴰ·append-left (concatMap f xs) (subst (λ (u : A). List·Memᴰ y (f u)) e h)
     go (inr k) ih = Memᴰ·append-right (f z) (ih k)
 
 -- ---- upto

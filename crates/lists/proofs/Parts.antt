@@ -6,7 +6,7 @@ use native.Mathlib.Nat.{suc-mul, zero-mul, add-comm}
 use native.Mathlib.Omega.{arith}
 use lib.ListN.{length, getD, take, drop, length-append, length-drop, take-append-drop}
 use lib.Seq.{take-at, drop-at, drop-drop, length-take-le}
-use Rattle.lists.specs.Lists.{parts, flat}
+use Rattle.lists.specs.Lists.{parts, concat}
 
 pub length-parts : (k w : ℕ) (xs : List ℕ) → length (parts k w xs) ≡ k
 unfolding parts
@@ -30,21 +30,21 @@ parts-wide (suc k) w xs h r (List·Memᴰ·head e) = ap length e ∙ length-take
 parts-wide (suc k) w xs h r (List·Memᴰ·tail m) = parts-wide k w (drop w xs) (omega (arith, suc-mul k w, length-drop w xs)) r m
 
 -- cut and put together
-pub flat-parts : (k w : ℕ) (xs : List ℕ) → length xs ≡ k * w → flat (parts k w xs) ≡ xs
-unfolding parts flat
-flat-parts zero w [] h = refl
-flat-parts zero w (x ∷ xs) h = absurd (omega (arith, zero-mul w))
-flat-parts (suc k) w xs h = ap (λ ys. take w xs ++ ys) (flat-parts k w (drop w xs) (omega (arith, suc-mul k w, length-drop w xs))) ∙ take-append-drop w xs
+pub concat-parts : (k w : ℕ) (xs : List ℕ) → length xs ≡ k * w → concat (parts k w xs) ≡ xs
+unfolding parts concat
+concat-parts zero w [] h = refl
+concat-parts zero w (x ∷ xs) h = absurd (omega (arith, zero-mul w))
+concat-parts (suc k) w xs h = ap (λ ys. take w xs ++ ys) (concat-parts k w (drop w xs) (omega (arith, suc-mul k w, length-drop w xs))) ∙ take-append-drop w xs
 
-pub length-flat : (w : ℕ) (rs : List (List ℕ)) → ((r : List ℕ) → List·Memᴰ r rs → length r ≡ w) → length (flat rs) ≡ length rs * w
-unfolding flat
-length-flat w [] h = sym (zero-mul w)
-length-flat w (r ∷ rs) h = omega (arith, length-append r (flat rs), h r (List·Memᴰ·head refl), length-flat w rs (λ s m. h s (List·Memᴰ·tail m)), suc-mul (length rs) w)
+pub length-concat : (w : ℕ) (rs : List (List ℕ)) → ((r : List ℕ) → List·Memᴰ r rs → length r ≡ w) → length (concat rs) ≡ length rs * w
+unfolding concat
+length-concat w [] h = sym (zero-mul w)
+length-concat w (r ∷ rs) h = omega (arith, length-append r (concat rs), h r (List·Memᴰ·head refl), length-concat w rs (λ s m. h s (List·Memᴰ·tail m)), suc-mul (length rs) w)
 
 -- put together and cut
-pub parts-flat : (w : ℕ) (rs : List (List ℕ)) → ((r : List ℕ) → List·Memᴰ r rs → length r ≡ w) → parts (length rs) w (flat rs) ≡ rs
-unfolding parts flat
-parts-flat w [] h = refl
-parts-flat w (r ∷ rs) h =
+pub parts-concat : (w : ℕ) (rs : List (List ℕ)) → ((r : List ℕ) → List·Memᴰ r rs → length r ≡ w) → parts (length rs) w (concat rs) ≡ rs
+unfolding parts concat
+parts-concat w [] h = refl
+parts-concat w (r ∷ rs) h =
     let e = h r (List·Memᴰ·head refl) in
-    λ i. take-at r (flat rs) w e i ∷ (ap (parts (length rs) w) (drop-at r (flat rs) w e) ∙ parts-flat w rs (λ s m. h s (List·Memᴰ·tail m))) i
+    λ i. take-at r (concat rs) w e i ∷ (ap (parts (length rs) w) (drop-at r (concat rs) w e) ∙ parts-concat w rs (λ s m. h s (List·Memᴰ·tail m))) i

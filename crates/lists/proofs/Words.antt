@@ -13,10 +13,10 @@ use lib.ListN.{length, getD, take, replicate, length-append}
 use lib.Seq.{take-suc, take-length}
 use lib.Dec.{eqb}
 use borrow.Author.Tests.{eqb-true, eqb-false, ne-eqb}
-use Rattle.lists.specs.Lists.{keep, gather, upto, same}
+use Rattle.lists.specs.Lists.{filter, concatMap, upto, same}
 use Rattle.lists.specs.Bits.{Bit, hasBit, has, onesOver}
 use Rattle.lists.proofs.Bits.{some-bit, no-bit}
-use Rattle.lists.proofs.Counts.{keep-append, keep-map, gather-append, grid}
+use Rattle.lists.proofs.Counts.{filter-append, filter-map, concatMap-append, grid}
 
 -- ---- bit by bit
 
@@ -104,8 +104,8 @@ unfolding onesIn ones
 ones-first zero w h = let z : w ≡ 0 = omega arith in rw z
 ones-first (suc k) w h = omega (arith, ones-step w, ones-first k (w / 2) (omega (arith, pow-succ' 2 k)))
 
-one-bit : (w k : ℕ) → length (keep (hasBit w) (k ∷ [])) ≡ w / 2 ^ k % 2
-unfolding keep hasBit
+one-bit : (w k : ℕ) → length (filter (hasBit w) (k ∷ [])) ≡ w / 2 ^ k % 2
+unfolding filter hasBit
 one-bit w k = go (eqb (w / 2 ^ k % 2) 1) refl
   where
     go : (t : Bool) → eqb (w / 2 ^ k % 2) 1 ≡ t → length {A = ℕ} (elim t [ true ↦ k ∷ [] | false ↦ [] ]) ≡ w / 2 ^ k % 2
@@ -118,12 +118,12 @@ unfolding onesIn
 ones-le zero w = omega arith
 ones-le (suc k) w = omega (arith, ones-le k (w / 2))
 
-pub ones-keep : (k w : ℕ) → onesIn k w ≡ length (keep (hasBit w) (upto k))
-unfolding onesIn upto keep
-ones-keep zero w = refl
-ones-keep (suc k) w =
-    let e = ap length (keep-append (hasBit w) (upto k) (k ∷ [])) in
-    omega (arith, ones-last k w, ones-keep k w, e, length-append (keep (hasBit w) (upto k)) (keep (hasBit w) (k ∷ [])), one-bit w k)
+pub ones-filter : (k w : ℕ) → onesIn k w ≡ length (filter (hasBit w) (upto k))
+unfolding onesIn upto filter
+ones-filter zero w = refl
+ones-filter (suc k) w =
+    let e = ap length (filter-append (hasBit w) (upto k) (k ∷ [])) in
+    omega (arith, ones-last k w, ones-filter k w, e, length-append (filter (hasBit w) (upto k)) (filter (hasBit w) (k ∷ [])), one-bit w k)
 
 pub over-append : (k : ℕ) (xs ys : List ℕ) → onesOver k (xs ++ ys) ≡ onesOver k xs + onesOver k ys
 unfolding onesOver
@@ -154,18 +154,18 @@ module _ (k : ℕ) (ws : List ℕ) where
   abbrev set-cell : ℕ × ℕ → Bool
   set-cell c = has ws (c .0) (c .1)
 
-  row : (q : ℕ) → onesOver k (getD ws q 0 ∷ []) ≡ length (keep set-cell (grid (q ∷ []) (upto k)))
-  unfolding onesOver grid gather has
-  row q = rw append-nil (omega (arith, ones-keep k (getD ws q 0), keep-map set-cell (λ x. (q, x)) (upto k)))
+  row : (q : ℕ) → onesOver k (getD ws q 0 ∷ []) ≡ length (filter set-cell (grid (q ∷ []) (upto k)))
+  unfolding onesOver grid concatMap has
+  row q = rw append-nil (omega (arith, ones-filter k (getD ws q 0), filter-map set-cell (λ x. (q, x)) (upto k)))
 
-  rows : (n : ℕ) → n ≤ length ws → onesOver k (take n ws) ≡ length (keep set-cell (grid (upto n) (upto k)))
-  unfolding upto onesOver keep grid gather
+  rows : (n : ℕ) → n ≤ length ws → onesOver k (take n ws) ≡ length (filter set-cell (grid (upto n) (upto k)))
+  unfolding upto onesOver filter grid concatMap
   rows zero h = refl
   rows (suc n) h =
       let e = ap (onesOver k) (take-suc ws n 0 h) ∙ over-append k (take n ws) (getD ws n 0 ∷ []) in
-      let f = ap (λ cs. length (keep set-cell cs)) (gather-append (λ q. map (λ x. (q, x)) (upto k)) (upto n) (n ∷ [])) in
-      let g = ap length (keep-append set-cell (grid (upto n) (upto k)) (grid (n ∷ []) (upto k))) in
-      omega (arith, e, f, g, length-append (keep set-cell (grid (upto n) (upto k))) (keep set-cell (grid (n ∷ []) (upto k))), rows n (omega arith), row n)
+      let f = ap (λ cs. length (filter set-cell cs)) (concatMap-append (λ q. map (λ x. (q, x)) (upto k)) (upto n) (n ∷ [])) in
+      let g = ap length (filter-append set-cell (grid (upto n) (upto k)) (grid (n ∷ []) (upto k))) in
+      omega (arith, e, f, g, length-append (filter set-cell (grid (upto n) (upto k))) (filter set-cell (grid (n ∷ []) (upto k))), rows n (omega arith), row n)
 
-  pub over-keep : onesOver k ws ≡ length (keep (λ c. has ws (c .0) (c .1)) (grid (upto (length ws)) (upto k)))
-  over-keep = ap (onesOver k) (sym (take-length ws)) ∙ rows (length ws) (le-refl _)
+  pub over-filter : onesOver k ws ≡ length (filter (λ c. has ws (c .0) (c .1)) (grid (upto (length ws)) (upto k)))
+  over-filter = ap (onesOver k) (sym (take-length ws)) ∙ rows (length ws) (le-refl _)

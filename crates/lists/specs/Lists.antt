@@ -18,14 +18,14 @@ module _ {A : Type 0} where
   all f (x ∷ xs) = f x && all f xs
 
   -- the elements that pass, in their order
-  unfoldable pub keep : (A → Bool) → List A → List A
-  keep f [] = []
-  keep f (x ∷ xs) = elim (f x) [ true ↦ x ∷ keep f xs | false ↦ keep f xs ]
+  unfoldable pub filter : (A → Bool) → List A → List A
+  filter f [] = []
+  filter f (x ∷ xs) = elim (f x) [ true ↦ x ∷ filter f xs | false ↦ filter f xs ]
 
 -- the lists that the elements give, one behind the other
-unfoldable pub gather : {A B : Type 0} → (A → List B) → List A → List B
-gather f [] = []
-gather f (x ∷ xs) = f x ++ gather f xs
+unfoldable pub concatMap : {A B : Type 0} → (A → List B) → List A → List B
+concatMap f [] = []
+concatMap f (x ∷ xs) = f x ++ concatMap f xs
 
 -- the numbers below n, ascending
 unfoldable pub upto : ℕ → List ℕ
@@ -53,9 +53,9 @@ parts zero w xs = []
 parts (suc k) w xs = take w xs ∷ parts k w (drop w xs)
 
 -- the lists, one behind the other
-unfoldable pub flat : List (List ℕ) → List ℕ
-flat [] = []
-flat (x ∷ xs) = x ++ flat xs
+unfoldable pub concat : List (List ℕ) → List ℕ
+concat [] = []
+concat (x ∷ xs) = x ++ concat xs
 
 -- numbers added up
 unfoldable pub sum : List ℕ → ℕ

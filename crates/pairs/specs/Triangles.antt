@@ -2,7 +2,7 @@
 use mathlib.Core.List.{List, [], _∷_}
 use Prim.Native.Nat.{ℕ}
 use lib.Dec.{ltb}
-use Rattle.lists.specs.Lists.{keep, gather, upto}
+use Rattle.lists.specs.Lists.{filter, concatMap, upto}
 use Rattle.cnf.specs.Clauses.{positive, negative}
 use Rattle.pairs.specs.Pairs.{variableOf}
 
@@ -15,7 +15,7 @@ apart p q = negative (variableOf p q)
 
 -- the states past p
 unfoldable pub past : ℕ → ℕ → List ℕ
-past n p = keep (ltb p) (upto n)
+past n p = filter (ltb p) (upto n)
 
 -- "pq and qs give ps; pq and ps give qs; ps and qs give pq; literals in that order, premises false"
 unfoldable pub triangle : ℕ → ℕ → ℕ → List (List ℕ)
@@ -27,4 +27,4 @@ triangle p q s =
 
 -- "For p < q < s ascending by p, then q, then s", of n states
 unfoldable pub triangles : ℕ → List (List ℕ)
-triangles n = gather (λ p. gather (λ q. gather (λ s. triangle p q s) (past n q)) (past n p)) (upto n)
+triangles n = concatMap (λ p. concatMap (λ q. concatMap (λ s. triangle p q s) (past n q)) (past n p)) (upto n)

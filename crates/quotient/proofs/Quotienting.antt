@@ -9,9 +9,9 @@ use lib.ListN.{length, take, drop, length-map}
 use lib.Seq.{getD-drop, take-at}
 use lib.Dec.{leb}
 use borrow.Author.Tests.{le-leb, lt-leb}
-use Rattle.lists.specs.Lists.{keep, upto, parts, over}
-use Rattle.lists.proofs.Members.{keep-mem}
-use Rattle.lists.proofs.Counts.{keep-le, keep-every}
+use Rattle.lists.specs.Lists.{filter, upto, parts, over}
+use Rattle.lists.proofs.Members.{filter-mem}
+use Rattle.lists.proofs.Counts.{filter-le, filter-every}
 use Rattle.lists.proofs.Refusals.{passes, fails, no-test, stage-passes, stage-fails, refuses, not-refused}
 use Rattle.limits.specs.declared.Limits.{Limits}
 use Rattle.limits.specs.Limits.{symbolMost}
@@ -53,7 +53,7 @@ classes-small (c ∷ m) b = let h : c < 256 = b 0 in omega (arith, classes-small
 
 image-keys-few : (w : ℕ) (s f m : List ℕ) → length (imageKeys w s f m) ≤ length (records w s)
 image-keys-few w s f m =
-    omega (arith, length-map (images m (keep (kept f) (records w s))) key, images-length m (keep (kept f) (records w s)), keep-le (kept f) (records w s))
+    omega (arith, length-map (images m (filter (kept f) (records w s))) key, images-length m (filter (kept f) (records w s)), filter-le (kept f) (records w s))
 
 -- the state bytes, put to the front of a buffer
 pub states-put : (t : Table) (m : List ℕ) (k : ℕ) (old : List ℕ) {now : List ℕ} → now ≡ over (classBytes t m k) old → Holds now k (classBytes t m k)
@@ -116,42 +116,42 @@ parts-bytes (suc k) w xs b r d = go (cases-cons d) (parts-bytes k w (drop w xs) 
     go (inr q) ih = ih q
 
 module _ (w : ℕ) (l : w ≤ 4) (s f m : List ℕ) (bs : Bytes s) (bm : Bytes m) where
-  images-same : (r : List ℕ) → List·Memᴰ r (images m (keep (kept f) (records w s))) → Same w r
+  images-same : (r : List ℕ) → List·Memᴰ r (images m (filter (kept f) (records w s))) → Same w r
   unfolding records
-  images-same r d = go (images-mem m (keep (kept f) (records w s)) r .0 d)
+  images-same r d = go (images-mem m (filter (kept f) (records w s)) r .0 d)
     where
-      go : (x : List ℕ) × List·Memᴰ x (keep (kept f) (records w s)) × (image m x ≡ r) → Same w r
+      go : (x : List ℕ) × List·Memᴰ x (filter (kept f) (records w s)) × (image m x ≡ r) → Same w r
       go (x, q, e) =
-          let k = keep-mem (kept f) (records w s) x q .0 in
+          let k = filter-mem (kept f) (records w s) x q .0 in
           subst (Same w) e (image-length m x ∙ records-wide w s x k, image-bytes m x bm (parts-bytes (length s / w) w s bs x k))
 
-  pub images-back : map (recordOf w) (imageKeys w s f m) ≡ images m (keep (kept f) (records w s))
-  images-back = keys-back w l (images m (keep (kept f) (records w s))) images-same
+  pub images-back : map (recordOf w) (imageKeys w s f m) ≡ images m (filter (kept f) (records w s))
+  images-back = keys-back w l (images m (filter (kept f) (records w s))) images-same
 
 -- moves are kept, and returns where they are live
-keep-yes : (g : List ℕ → Bool) (r : List ℕ) (rs : List (List ℕ)) → g r ≡ true → keep g (r ∷ rs) ≡ r ∷ keep g rs
-unfolding keep
-keep-yes g r rs e = rw (e, keep)
+filter-yes : (g : List ℕ → Bool) (r : List ℕ) (rs : List (List ℕ)) → g r ≡ true → filter g (r ∷ rs) ≡ r ∷ filter g rs
+unfolding filter
+filter-yes g r rs e = rw (e, filter)
 
-keep-no : (g : List ℕ → Bool) (r : List ℕ) (rs : List (List ℕ)) → g r ≡ false → keep g (r ∷ rs) ≡ keep g rs
-unfolding keep
-keep-no g r rs e = rw (e, keep)
+filter-no : (g : List ℕ → Bool) (r : List ℕ) (rs : List (List ℕ)) → g r ≡ false → filter g (r ∷ rs) ≡ filter g rs
+unfolding filter
+filter-no g r rs e = rw (e, filter)
 
-keep-same : (g h : List ℕ → Bool) (rs : List (List ℕ)) → ((r : List ℕ) → List·Memᴰ r rs → g r ≡ h r) → keep g rs ≡ keep h rs
-unfolding keep
-keep-same g h [] e = refl
-keep-same g h (r ∷ rs) e = go (h r) (e r (List·Memᴰ·head refl)) refl (keep-same g h rs (λ s q. e s (List·Memᴰ·tail q)))
+filter-same : (g h : List ℕ → Bool) (rs : List (List ℕ)) → ((r : List ℕ) → List·Memᴰ r rs → g r ≡ h r) → filter g rs ≡ filter h rs
+unfolding filter
+filter-same g h [] e = refl
+filter-same g h (r ∷ rs) e = go (h r) (e r (List·Memᴰ·head refl)) refl (filter-same g h rs (λ s q. e s (List·Memᴰ·tail q)))
   where
-    go : (t : Bool) → g r ≡ h r → h r ≡ t → keep g rs ≡ keep h rs → keep g (r ∷ rs) ≡ keep h (r ∷ rs)
-    go true p q ih = keep-yes g r rs (p ∙ q) ∙ ap (λ xs. r ∷ xs) ih ∙ sym (keep-yes h r rs q)
-    go false p q ih = keep-no g r rs (p ∙ q) ∙ ih ∙ sym (keep-no h r rs q)
+    go : (t : Bool) → g r ≡ h r → h r ≡ t → filter g rs ≡ filter h rs → filter g (r ∷ rs) ≡ filter h (r ∷ rs)
+    go true p q ih = filter-yes g r rs (p ∙ q) ∙ ap (λ xs. r ∷ xs) ih ∙ sym (filter-yes h r rs q)
+    go false p q ih = filter-no g r rs (p ∙ q) ∙ ih ∙ sym (filter-no h r rs q)
 
-moves-kept : (s f : List ℕ) → keep (kept f) (records 3 s) ≡ records 3 s
-moves-kept s f = keep-same (kept f) (λ r. true) (records 3 s) (λ r d. sym (move-kept f r (omega (arith, records-wide 3 s r d)))) ∙ keep-every (records 3 s)
+moves-kept : (s f : List ℕ) → filter (kept f) (records 3 s) ≡ records 3 s
+moves-kept s f = filter-same (kept f) (λ r. true) (records 3 s) (λ r d. sym (move-kept f r (omega (arith, records-wide 3 s r d)))) ∙ filter-every (records 3 s)
 
-returns-kept : (s f : List ℕ) → keep (kept f) (records 4 s) ≡ keep (live f) (records 4 s)
+returns-kept : (s f : List ℕ) → filter (kept f) (records 4 s) ≡ filter (live f) (records 4 s)
 unfolding live
-returns-kept s f = keep-same (kept f) (live f) (records 4 s) (λ r d. sym (return-kept f r (omega (arith, records-wide 4 s r d)) refl refl))
+returns-kept s f = filter-same (kept f) (live f) (records 4 s) (λ r d. sym (return-kept f r (omega (arith, records-wide 4 s r d)) refl refl))
 
 -- ---- over a table that was read
 
@@ -190,7 +190,7 @@ module _ {b f : List ℕ} {s : Starts} (k : Known b s f) {symbols states interna
     unfolding liveReturns
     returns-again =
         images-back 4 (omega arith) returns f m (bytes Returns e4) bm
-        ∙ ap (images m) (returns-kept returns f ∙ λ j. keep (live (k .words j)) (returns-read (k .read) e4 j))
+        ∙ ap (images m) (returns-kept returns f ∙ λ j. filter (live (k .words j)) (returns-read (k .read) e4 j))
 
     states-again : classBytes (ofStates states) m (classes m) ≡ map (classByte (tableOf b) m) (upto (classes m))
     unfolding classByte memberHas classMark

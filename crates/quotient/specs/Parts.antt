@@ -2,7 +2,7 @@
 use mathlib.Core.List.{List}
 use Prim.Native.Nat.{ℕ, _≤_}
 use lib.ListN.{length}
-use Rattle.lists.specs.Lists.{keep}
+use Rattle.lists.specs.Lists.{filter}
 use Rattle.limits.specs.Limits.{symbolMost}
 use Rattle.table_spec.specs.File.{Table, records, ofStates}
 use Rattle.table_spec.specs.Maps.{classes}
@@ -21,7 +21,7 @@ pub record Sized (symbols internals calls returns : List ℕ) : Type 0 where
 
 -- the keys of the images of a section's records: "the images of internals, calls and live returns"
 abbrev pub imageKeys : ℕ → List ℕ → List ℕ → List ℕ → List ℕ
-imageKeys w s f m = keysOf (images m (keep (kept f) (records w s)))
+imageKeys w s f m = keysOf (images m (filter (kept f) (records w s)))
 
 -- the quotient's table over the version and the parts
 abbrev pub partedQuotient : ℕ → List ℕ → List ℕ → List ℕ → List ℕ → List ℕ → List ℕ → List ℕ → Table

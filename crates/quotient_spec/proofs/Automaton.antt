@@ -9,7 +9,7 @@ use Prim.Native.Nat.{ℕ, _/_, _%_, _<_, _≤_}
 use native.Mathlib.Omega.{arith}
 use native.Mathlib.Decide.{decLt}
 use lib.ListN.{length, getD, List·getD-eq-default}
-use Rattle.lists.proofs.Members.{keep-mem, keep-of}
+use Rattle.lists.proofs.Members.{filter-mem, filter-of}
 use Rattle.vpa.specs.Automata.{Tops}
 use Rattle.vpa.specs.Quotients.{quotient}
 use Rattle.table_spec.specs.File.{Table}
@@ -122,7 +122,7 @@ module _ (t : Table) (m : List ℕ) (w : Wide t) (n : length m ≡ count t) (k :
     where
       forth : (r : List ℕ) × List·Memᴰ r (liveReturns t) × (image m r ≡ P ∷ a ∷ U ∷ Q ∷ []) → quotient (automaton t) (classOf m) .return P a U Q
       forth (r, i, e) =
-          let j = keep-mem (live (topWords t)) (t .returns) r i in
+          let j = filter-mem (live (topWords t)) (t .returns) r i in
           let o = return-of m r P a U Q (w .returns r (j .0)) e in
           let l = Memᴰ·cast (o .6) (j .0) in
           (o .0, o .1, o .2, o .3, o .4, o .5, l, exact (o .0 ∷ a ∷ o .1 ∷ o .2 ∷ []) l .0 (ap (live (topWords t)) (o .6) ∙ j .1))
@@ -130,4 +130,4 @@ module _ (t : Table) (m : List ℕ) (w : Wide t) (n : length m ≡ count t) (k :
       back : quotient (automaton t) (classOf m) .return P a U Q → List·Memᴰ (P ∷ a ∷ U ∷ Q ∷ []) (images m (liveReturns t))
       back (p, s, q, e, f, g, i, top) =
           images-mem m (liveReturns t) (P ∷ a ∷ U ∷ Q ∷ []) .1
-          (p ∷ a ∷ s ∷ q ∷ [], keep-of (live (topWords t)) (t .returns) (p ∷ a ∷ s ∷ q ∷ []) i (exact (p ∷ a ∷ s ∷ q ∷ []) i .1 top), image-return m p a s q ∙ (λ i. e i ∷ a ∷ f i ∷ g i ∷ []))
+          (p ∷ a ∷ s ∷ q ∷ [], filter-of (live (topWords t)) (t .returns) (p ∷ a ∷ s ∷ q ∷ []) i (exact (p ∷ a ∷ s ∷ q ∷ []) i .1 top), image-return m p a s q ∙ (λ i. e i ∷ a ∷ f i ∷ g i ∷ []))

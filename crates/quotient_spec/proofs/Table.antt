@@ -8,8 +8,8 @@ use lib.ListN.{length, getD}
 use lib.Dec.{eqb, ltb}
 use borrow.Author.Tests.{eqb-true, eq-eqb, ltb-true, lt-ltb}
 use Rattle.lists.specs.Lists.{any, all, upto}
-use Rattle.lists.proofs.Members.{and-true, and-of, getD-mem, any-true, any-of, all-true, all-of, keep-mem}
-use Rattle.lists.proofs.Counts.{keep-le}
+use Rattle.lists.proofs.Members.{and-true, and-of, getD-mem, any-true, any-of, all-true, all-of, filter-mem}
+use Rattle.lists.proofs.Counts.{filter-le}
 use Rattle.limits.specs.declared.Limits.{Limits}
 use Rattle.table_spec.specs.File.{Table}
 use Rattle.table_spec.specs.Reading.{versionFits, stateByteMost, isInitial, recordFits, ascend, WellFormed}
@@ -82,7 +82,7 @@ module _ (L : Limits) (t : Table) (m : List ℕ) (f : WellFormed L t) (n : lengt
 
   live-return : (r : List ℕ) → List·Memᴰ r (liveReturns t) → List·Memᴰ r (t .returns)
   unfolding liveReturns
-  live-return r i = keep-mem (live (topWords t)) (t .returns) r i .0
+  live-return r i = filter-mem (live (topWords t)) (t .returns) r i .0
 
   images-ascend : (rs : List (List ℕ)) → ascend (images m rs) ≡ true
   unfolding images
@@ -96,7 +96,7 @@ module _ (L : Limits) (t : Table) (m : List ℕ) (f : WellFormed L t) (n : lengt
     states-few = omega (arith, count-classes t m, few, p .states-few);
     internals-few = omega (arith, images-length m (t .internals), p .internals-few);
     calls-few = omega (arith, images-length m (t .calls), p .calls-few);
-    returns-few = omega (arith, images-length m (liveReturns t), keep-le (live (topWords t)) (t .returns), p .returns-few);
+    returns-few = omega (arith, images-length m (liveReturns t), filter-le (live (topWords t)) (t .returns), p .returns-few);
     symbol-bytes = p .symbol-bytes;
     state-bytes = λ x i. go x (Memᴰ·of-map (classByte t m) (upto (classes m)) i);
     initial = some-initial (p .initial);
@@ -121,7 +121,7 @@ module _ (L : Limits) (t : Table) (m : List ℕ) (f : WellFormed L t) (n : lengt
 
   dated-same : versionFits ((quotientTable t m) .version) ≡ true
   unfolding quotientTable
-  dated-same = f .dated
+  dated-same = f .versioned
 
   pub quotient-well-formed : WellFormed L (quotientTable t m)
   quotient-well-formed = formed-of (f .limits) dated-same (quotient-wide (formed-wide f)) (quotient-tested (formed-tested f))

@@ -93,8 +93,8 @@ fn starts_at(table: &[u8], end: usize) -> Starts
 }
 
 // The first of 4 to 8 that applies to the file's table: each section is handed on as a part of the file.
-fn sections_number(limits: Limits, table: &[u8], dated: usize, starts: Starts, end: usize) -> u8
-    requires { ⌜ (end + 12 ≡ length (now table)) × (distancesFit (now table) ≡ true) × (starts ≡ startsOf (now table)) × (dated ≡ version (now table)) ⌝ }
+fn sections_number(limits: Limits, table: &[u8], versioned: usize, starts: Starts, end: usize) -> u8
+    requires { ⌜ (end + 12 ≡ length (now table)) × (distancesFit (now table) ≡ true) × (starts ≡ startsOf (now table)) × (versioned ≡ version (now table)) ⌝ }
     ensures { λ r. ⌜ r ≡ firstFailed (tableTests limits (tableOf (now (table .entry)))) ⌝ }
 {
     let symbols = starts.symbols;
@@ -104,7 +104,7 @@ fn sections_number(limits: Limits, table: &[u8], dated: usize, starts: Starts, e
     let returns = starts.returns;
     table_number(
         limits,
-        dated,
+        versioned,
         &table[symbols..states],
         &table[states..internals],
         &table[internals..calls],
@@ -135,15 +135,15 @@ fn read_fit(limits: Limits, table: &[u8]) -> Reading
         return Reading::Refused(1);
     }
     let end = length - 12;
-    let dated = version_of(table);
-    if !version_fits(dated) {
+    let versioned = version_of(table);
+    if !version_fits(versioned) {
         return Reading::Refused(2);
     }
     if !distances_fit(table, end) {
         return Reading::Refused(3);
     }
     let starts = starts_at(table, end);
-    let number = sections_number(limits, table, dated, starts, end);
+    let number = sections_number(limits, table, versioned, starts, end);
     if number != 0 {
         return Reading::Refused(number);
     }

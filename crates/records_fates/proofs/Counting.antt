@@ -7,7 +7,7 @@ use native.Mathlib.Omega.{arith}
 use lib.ListN.{length, getD, drop, drop-of-length-le}
 use lib.Dec.{eqb}
 use borrow.Author.Tests.{eq-eqb, ne-eqb}
-use Rattle.lists.specs.Lists.{keep}
+use Rattle.lists.specs.Lists.{filter}
 use Rattle.lists.proofs.Members.{one-on}
 use Rattle.records_spec.specs.Fates.{having}
 
@@ -21,16 +21,16 @@ pub counting : (mark : ℕ) (marks : List ℕ) → Counting mark marks 0 0
 counting mark marks = record { inside = omega arith; few = omega arith; meets = omega arith }
 
 having-yes : (mark x : ℕ) (xs : List ℕ) → x ≡ mark → having mark (x ∷ xs) ≡ suc (having mark xs)
-unfolding having keep
-having-yes mark x xs e = rw (eq-eqb mark x (sym e), keep)
+unfolding having filter
+having-yes mark x xs e = rw (eq-eqb mark x (sym e), filter)
 
 having-no : (mark x : ℕ) (xs : List ℕ) → (x ≡ mark → ⊥) → having mark (x ∷ xs) ≡ having mark xs
-unfolding having keep
-having-no mark x xs n = rw (ne-eqb mark x (λ e. n (sym e)), keep)
+unfolding having filter
+having-no mark x xs n = rw (ne-eqb mark x (λ e. n (sym e)), filter)
 
 module _ {mark : ℕ} {marks : List ℕ} {n i : ℕ} (c : Counting mark marks n i) where
   pub counted : length marks ≤ i → n ≡ having mark marks
-  unfolding having keep
+  unfolding having filter
   counted h = omega (arith, c .meets, ap (having mark) (drop-of-length-le marks h))
 
   module _ (h : i < length marks) where

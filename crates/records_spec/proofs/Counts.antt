@@ -7,9 +7,9 @@ use Prim.Native.Nat.{ℕ, suc, _+_, _≤_}
 use native.Mathlib.Omega.{arith}
 use lib.ListN.{length, length-append}
 use lib.Dec.{eqb}
-use Rattle.lists.specs.Lists.{keep, same}
-use Rattle.lists.proofs.Members.{and-true, and-of, any-true, any-false, any-of, keep-mem, keep-of, same-true, same-of}
-use Rattle.lists.proofs.Counts.{keep-append, keep-every}
+use Rattle.lists.specs.Lists.{filter, same}
+use Rattle.lists.proofs.Members.{and-true, and-of, any-true, any-false, any-of, filter-mem, filter-of, same-true, same-of}
+use Rattle.lists.proofs.Counts.{filter-append, filter-every}
 use Rattle.table_spec.specs.File.{Table}
 use Rattle.table_spec.specs.Reading.{ascend}
 use Rattle.table_spec.proofs.Order.{ascend-unique}
@@ -87,7 +87,7 @@ module _ (alive : List ℕ → Bool) (m : List ℕ) where
 
   pub three : (earlier rs : List (List ℕ)) →
       length rs ≡ having keptMark (fatesBehind alive m earlier rs) + having foldedMark (fatesBehind alive m earlier rs) + having deadMark (fatesBehind alive m earlier rs)
-  unfolding fatesBehind having keep
+  unfolding fatesBehind having filter
   three earlier [] = refl
   three earlier (r ∷ rs) = go (fated earlier r) (three (earlier ++ (r ∷ [])) rs)
     where
@@ -100,37 +100,37 @@ module _ (alive : List ℕ → Bool) (m : List ℕ) where
 
   -- the images of the records that are alive
   shown : List (List ℕ) → List (List ℕ)
-  shown rs = images m (keep alive rs)
+  shown rs = images m (filter alive rs)
 
   -- a record is folded exactly where its image is among those of the records before it
   taken-shown : (earlier : List (List ℕ)) (r : List ℕ) → taken alive m earlier r ≡ true → List·Memᴰ (image m r) (shown earlier)
   unfolding taken shown
   taken-shown earlier r p = go (any-true _ earlier p)
     where
-      go : (e : List ℕ) × List·Memᴰ e earlier × ((alive e && same (image m e) (image m r)) ≡ true) → List·Memᴰ (image m r) (images m (keep alive earlier))
+      go : (e : List ℕ) × List·Memᴰ e earlier × ((alive e && same (image m e) (image m r)) ≡ true) → List·Memᴰ (image m r) (images m (filter alive earlier))
       go (e, k, h) =
           let a = and-true _ _ h in
-          images-mem m (keep alive earlier) (image m r) .1 (e, keep-of alive earlier e k (a .0), same-true _ _ (a .1))
+          images-mem m (filter alive earlier) (image m r) .1 (e, filter-of alive earlier e k (a .0), same-true _ _ (a .1))
 
   shown-taken : (earlier : List (List ℕ)) (r : List ℕ) → List·Memᴰ (image m r) (shown earlier) → taken alive m earlier r ≡ true
   unfolding taken shown
-  shown-taken earlier r k = go (images-mem m (keep alive earlier) (image m r) .0 k)
+  shown-taken earlier r k = go (images-mem m (filter alive earlier) (image m r) .0 k)
     where
-      go : (e : List ℕ) × List·Memᴰ e (keep alive earlier) × (image m e ≡ image m r) → taken alive m earlier r ≡ true
-      go (e, j, h) = let l = keep-mem alive earlier e j in any-of _ earlier e (l .0) (and-of (l .1) (same-of h))
+      go : (e : List ℕ) × List·Memᴰ e (filter alive earlier) × (image m e ≡ image m r) → taken alive m earlier r ≡ true
+      go (e, j, h) = let l = filter-mem alive earlier e j in any-of _ earlier e (l .0) (and-of (l .1) (same-of h))
 
   -- one record more: its image is put among the others, unless it is dead
   dead-on : (earlier : List (List ℕ)) (r : List ℕ) → alive r ≡ false → shown (earlier ++ (r ∷ [])) ≡ shown earlier
-  unfolding shown keep
-  dead-on earlier r a = ap (images m) (keep-append alive earlier (r ∷ []) ∙ rw (a, keep) (append-nil (keep alive earlier)))
+  unfolding shown filter
+  dead-on earlier r a = ap (images m) (filter-append alive earlier (r ∷ []) ∙ rw (a, filter) (append-nil (filter alive earlier)))
 
   alive-on : (earlier : List (List ℕ)) (r : List ℕ) → alive r ≡ true → shown (earlier ++ (r ∷ [])) ≡ insert (image m r) (shown earlier)
-  unfolding shown keep
-  alive-on earlier r a = ap (images m) (keep-append alive earlier (r ∷ []) ∙ rw (a, keep)) ∙ images-snoc m (keep alive earlier) r
+  unfolding shown filter
+  alive-on earlier r a = ap (images m) (filter-append alive earlier (r ∷ []) ∙ rw (a, filter)) ∙ images-snoc m (filter alive earlier) r
 
   -- "K equals the quotient's record count", of one section behind earlier records
   kept-behind : (earlier rs : List (List ℕ)) → having keptMark (fatesBehind alive m earlier rs) + length (shown earlier) ≡ length (shown (earlier ++ rs))
-  unfolding fatesBehind having keep shown
+  unfolding fatesBehind having filter shown
   kept-behind earlier [] = omega (arith, ap (λ xs. length (shown xs)) (append-nil earlier))
   kept-behind earlier (r ∷ rs) = go (fated earlier r) (kept-behind (earlier ++ (r ∷ [])) rs ∙ ap (λ xs. length (shown xs)) (append-assoc earlier (r ∷ []) rs))
     where
@@ -138,18 +138,18 @@ module _ (alive : List ℕ → Bool) (m : List ℕ) where
           → having 0 (fatesBehind alive m (earlier ++ (r ∷ [])) rs) + length (shown (earlier ++ (r ∷ []))) ≡ length (shown (earlier ++ (r ∷ rs)))
           → having 0 (x ∷ fatesBehind alive m (earlier ++ (r ∷ [])) rs) + length (shown earlier) ≡ length (shown (earlier ++ (r ∷ rs)))
       go (dead a) ih = omega (arith, ih, ap length (dead-on earlier r a))
-      go (folded a p) ih = omega (arith, ih, ap length (alive-on earlier r a ∙ insert-known (image m r) (shown earlier) (images-ascend m (keep alive earlier)) (taken-shown earlier r p)))
+      go (folded a p) ih = omega (arith, ih, ap length (alive-on earlier r a ∙ insert-known (image m r) (shown earlier) (images-ascend m (filter alive earlier)) (taken-shown earlier r p)))
       go (kept a p) ih = omega (arith, ih, ap length (alive-on earlier r a), insert-fresh (image m r) (shown earlier) (λ k. true≢false (sym (shown-taken earlier r k) ∙ p)))
 
-  pub kept-section : (rs : List (List ℕ)) → having keptMark (fatesBehind alive m [] rs) ≡ length (images m (keep alive rs))
-  unfolding shown keep images ascending
+  pub kept-section : (rs : List (List ℕ)) → having keptMark (fatesBehind alive m [] rs) ≡ length (images m (filter alive rs))
+  unfolding shown filter images ascending
   kept-section rs = omega (arith, kept-behind [] rs)
 
 -- ---- a whole table
 
 having-append : (k : ℕ) (xs ys : List ℕ) → having k (xs ++ ys) ≡ having k xs + having k ys
 unfolding having
-having-append k xs ys = ap length (keep-append (eqb k) xs ys) ∙ length-append (keep (eqb k) xs) (keep (eqb k) ys)
+having-append k xs ys = ap length (filter-append (eqb k) xs ys) ∙ length-append (filter (eqb k) xs) (filter (eqb k) ys)
 
 module _ (t : Table) (m : List ℕ) where
   moves : List (List ℕ) → List ℕ
@@ -200,7 +200,7 @@ module _ (t : Table) (m : List ℕ) where
       omega (
         arith,
         having-all 0,
-        kept-section (λ r. true) m (t .internals) ∙ ap (λ rs. length (images m rs)) (keep-every (t .internals)),
-        kept-section (λ r. true) m (t .calls) ∙ ap (λ rs. length (images m rs)) (keep-every (t .calls)),
+        kept-section (λ r. true) m (t .internals) ∙ ap (λ rs. length (images m rs)) (filter-every (t .internals)),
+        kept-section (λ r. true) m (t .calls) ∙ ap (λ rs. length (images m rs)) (filter-every (t .calls)),
         kept-section (live (topWords t)) m (t .returns),
       )

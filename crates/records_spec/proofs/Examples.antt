@@ -4,7 +4,7 @@ use mathlib.Core.Path.{_≡_, refl}
 use mathlib.Core.List.{List, [], _∷_, _++_, map}
 use Prim.Native.Nat.{ℕ}
 use lib.ListN.{replicate}
-use Rattle.lists.specs.Lists.{any, all, keep, gather, upto, same, parts, flat, over, firstFailed}
+use Rattle.lists.specs.Lists.{any, all, filter, concatMap, upto, same, parts, concat, over, firstFailed}
 use Rattle.lists.specs.Bits.{has, hasBit}
 use Rattle.limits.specs.Limits.{standard, limitsFit}
 use Rattle.table_spec.specs.Limits.{longest}
@@ -13,7 +13,7 @@ use Rattle.table_spec.specs.Reading.{lengthFits, versionFits, distancesFit, cou
 use Rattle.table_spec.specs.Language.{agreedOn, targets}
 use Rattle.table_spec.specs.Maps.{joins, numberedFrom, numbered}
 use Rattle.tops_spec.specs.Tops.{add, byInternals, byCalls, live, byReturns, round, rounds, startWords, topWordsAt}
-use Rattle.check_spec.specs.Check.{looksAgree, moveMatched, movesMatched, returnMatched, returnsMatched, mapTests, checkNumber}
+use Rattle.check_spec.specs.Check.{labelsAgree, moveMatched, movesMatched, returnMatched, returnsMatched, mapTests, checkNumber}
 use Rattle.quotient_spec.specs.Quotient.{image}
 use Rattle.records_spec.specs.Fates.{taken, fate, fatesBehind, fatesOf, recordCount, having, countsOf, recordsNumber, recordsOf, recordedNumber, recordedValues}
 
@@ -53,5 +53,5 @@ pub told :
     ∷ (0 ∷ 2 ∷ 1 ∷ 1 ∷ 0 ∷ 0 ∷ 1 ∷ 7 ∷ 7 ∷ 7 ∷ 7 ∷ 7 ∷ [])
     ∷ (20 ∷ [])
     ∷ []
-unfolding answers going any all keep gather upto same parts flat over firstFailed has hasBit limitsFit longest word16 trailer distance version start records tableOf bytes16 fromReturns fromCalls fromInternals fromStates fromSymbols trailerOf bytesOf lengthFits versionFits distancesFit countsFit stateByteMost bytesFit isInitial startFits recordFits recordsFit before ascendFrom ascend orderFits tableTests readNumber agreedOn targets joins numberedFrom numbered add byInternals byCalls live byReturns round rounds startWords topWordsAt looksAgree moveMatched movesMatched returnMatched returnsMatched mapTests checkNumber image taken fate fatesBehind fatesOf recordCount having countsOf recordsNumber recordsOf recordedNumber recordedValues
+unfolding answers going any all filter concatMap upto same parts concat over firstFailed has hasBit limitsFit longest word16 trailer distance version start records tableOf bytes16 fromReturns fromCalls fromInternals fromStates fromSymbols trailerOf bytesOf lengthFits versionFits distancesFit countsFit stateByteMost bytesFit isInitial startFits recordFits recordsFit before ascendFrom ascend orderFits tableTests readNumber agreedOn targets joins numberedFrom numbered add byInternals byCalls live byReturns round rounds startWords topWordsAt labelsAgree moveMatched movesMatched returnMatched returnsMatched mapTests checkNumber image taken fate fatesBehind fatesOf recordCount having countsOf recordsNumber recordsOf recordedNumber recordedValues
 told = refl

@@ -4,7 +4,7 @@ use mathlib.Core.List.{List, [], _∷_, _++_}
 use Prim.Native.Nat.{ℕ, _+_}
 use lib.ListN.{length}
 use lib.Dec.{eqb, leb}
-use Rattle.lists.specs.Lists.{any, keep, same, over, firstFailed, stage, Says}
+use Rattle.lists.specs.Lists.{any, filter, same, over, firstFailed, stage, Says}
 use Rattle.limits.specs.declared.Limits.{Limits}
 use Rattle.table_spec.specs.File.{Table, tableOf}
 use Rattle.tops_spec.specs.Tops.{topWords, live}
@@ -53,7 +53,7 @@ recordCount t = length (t .internals) + length (t .calls) + length (t .returns)
 
 -- how many records have a fate
 unfoldable pub having : ℕ → List ℕ → ℕ
-having mark fates = length (keep (eqb mark) fates)
+having mark fates = length (filter (eqb mark) fates)
 
 -- N, K, F, D: the input's records, and those of them that are kept, folded and dead
 unfoldable pub countsOf : Table → List ℕ → Recorded

@@ -10,8 +10,8 @@ use native.Mathlib.Decide.{ℕ-discrete}
 use lib.ListN.{length, getD, set, take, replicate, length-set, length-take}
 use lib.Seq.{getD-take, take-suc-set}
 use borrow.Author.Tests.{eq-eqb, ne-eqb}
-use Rattle.lists.specs.Lists.{keep, upto}
-use Rattle.lists.proofs.Counts.{keep-append}
+use Rattle.lists.specs.Lists.{filter, upto}
+use Rattle.lists.proofs.Counts.{filter-append}
 use Rattle.cnf.specs.Clauses.{valueOf}
 use Rattle.pairs.specs.Pairs.{pairs, variableOf}
 use Rattle.pairs.proofs.Pairs.{variable-below}
@@ -24,21 +24,21 @@ use Rattle.reduce_map.specs.Lowest.{LowestPartner, LowestJoined, MapOf}
 -- ---- the first state that passes a test
 
 module _ (f : ℕ → Bool) where
-  kept-none : (q : ℕ) → ((p : ℕ) → p < q → f p ≡ false) → keep f (upto q) ≡ []
-  unfolding keep upto
+  kept-none : (q : ℕ) → ((p : ℕ) → p < q → f p ≡ false) → filter f (upto q) ≡ []
+  unfolding filter upto
   kept-none zero h = refl
-  kept-none (suc q) h = keep-append f (upto q) (q ∷ []) ∙ rw (kept-none q (λ p l. h p (omega arith)), h q (omega arith), keep)
+  kept-none (suc q) h = filter-append f (upto q) (q ∷ []) ∙ rw (kept-none q (λ p l. h p (omega arith)), h q (omega arith), filter)
 
-  kept-first : (q l : ℕ) → l < q → f l ≡ true → ((p : ℕ) → p < l → f p ≡ false) → (ps : List ℕ) × (keep f (upto q) ≡ l ∷ ps)
-  unfolding keep upto
+  kept-first : (q l : ℕ) → l < q → f l ≡ true → ((p : ℕ) → p < l → f p ≡ false) → (ps : List ℕ) × (filter f (upto q) ≡ l ∷ ps)
+  unfolding filter upto
   kept-first zero l h e n = absurd (omega arith)
   kept-first (suc q) l h e n = go (ℕ-discrete l q) (kept-first q l)
     where
-      go : Dec (l ≡ q) → (l < q → f l ≡ true → ((p : ℕ) → p < l → f p ≡ false) → (ps : List ℕ) × (keep f (upto q) ≡ l ∷ ps)) → (ps : List ℕ) × (keep f (upto q ++ (q ∷ [])) ≡ l ∷ ps)
+      go : Dec (l ≡ q) → (l < q → f l ≡ true → ((p : ℕ) → p < l → f p ≡ false) → (ps : List ℕ) × (filter f (upto q) ≡ l ∷ ps)) → (ps : List ℕ) × (filter f (upto q ++ (q ∷ [])) ≡ l ∷ ps)
       go (yes d) ih =
           let own : f q ≡ true = ap f (sym d) ∙ e in
-          ([], keep-append f (upto q) (q ∷ []) ∙ rw (kept-none q (λ p k. n p (omega arith)), own, keep) (ap (λ x. x ∷ []) (sym d)))
-      go (no d) ih = let r = ih (omega arith) e n in (r .0 ++ keep f (q ∷ []), keep-append f (upto q) (q ∷ []) ∙ ap (λ xs. xs ++ keep f (q ∷ [])) (r .1))
+          ([], filter-append f (upto q) (q ∷ []) ∙ rw (kept-none q (λ p k. n p (omega arith)), own, filter) (ap (λ x. x ∷ []) (sym d)))
+      go (no d) ih = let r = ih (omega arith) e n in (r .0 ++ filter f (q ∷ []), filter-append f (upto q) (q ∷ []) ∙ ap (λ xs. xs ++ filter f (q ∷ [])) (r .1))
 
 -- ---- one class number more
 
@@ -77,7 +77,7 @@ module _ {v : List ℕ} {n next q : ℕ} {low map : List ℕ} (fits : n ≤ stat
   nothing-lower : (p : ℕ) → p < getD low q 0 → joinedBy v q p ≡ false
   nothing-lower p a = joined-false v p q (at-q .least p a (variable-below n p q (omega (arith, low-small)) l (omega (arith, low-small))))
 
-  more : (c : ℕ) → nextClass (mapOf v q) (keep (joinedBy v q) (upto q)) ≡ c → (k : ℕ) → max next (suc c) ≡ k → k ≤ q + 1 → Numbered v n (set map q c) k (q + 1)
+  more : (c : ℕ) → nextClass (mapOf v q) (filter (joinedBy v q) (upto q)) ≡ c → (k : ℕ) → max next (suc c) ≡ k → k ≤ q + 1 → Numbered v n (set map q c) k (q + 1)
   unfolding mapOf
   more c e k f g = record {
     inside = omega arith;
@@ -95,7 +95,7 @@ module _ {v : List ℕ} {n next q : ℕ} {low map : List ℕ} (fits : n ≤ stat
       s : ℕ
       s = getD low q 0
 
-      r : (ps : List ℕ) × (keep (joinedBy v q) (upto q) ≡ s ∷ ps)
+      r : (ps : List ℕ) × (filter (joinedBy v q) (upto q) ≡ s ∷ ps)
       r = kept-first (joinedBy v q) q s (omega (arith, low-small)) (joined-true v s q (at-q .joined d)) nothing-lower
 
       same : getD map s 0 ≡ getD (mapOf v q) s 0

@@ -9,8 +9,8 @@ use native.Mathlib.Omega.{arith}
 use native.Mathlib.Decide.{decLt}
 use lib.ListN.{length, length-append, List·getD-eq-default}
 use lib.Dec.{eqb}
-use Rattle.lists.specs.Lists.{keep, gather, upto}
-use Rattle.lists.proofs.Counts.{keep-append, keep-map, gather-append}
+use Rattle.lists.specs.Lists.{filter, concatMap, upto}
+use Rattle.lists.proofs.Counts.{filter-append, filter-map, concatMap-append}
 use Rattle.cnf.specs.Clauses.{valueOf, Model}
 use Rattle.cnf.specs.Trials.{trueCount, notFalse, ceilingOf, searchTried}
 use Rattle.cnf.specs.Closing.{Formed}
@@ -31,17 +31,17 @@ use Rattle.reduce_spec.specs.Reduce.{joinedPairs}
 
 -- ---- the variables of q's pairs are q in a row, in the order of the lower states
 
-kept-one : (f : ℕ → Bool) (x : ℕ) → length (keep f (x ∷ [])) ≡ bit (f x)
-unfolding keep
+kept-one : (f : ℕ → Bool) (x : ℕ) → length (filter f (x ∷ [])) ≡ bit (f x)
+unfolding filter
 kept-one f x = go (f x)
   where
     go : (t : Bool) → length {A = ℕ} (elim t [ true ↦ x ∷ [] | false ↦ [] ]) ≡ bit t
     go true = refl
     go false = refl
 
-kept-last : (f : ℕ → Bool) (n : ℕ) → length (keep f (upto (suc n))) ≡ length (keep f (upto n)) + bit (f n)
+kept-last : (f : ℕ → Bool) (n : ℕ) → length (filter f (upto (suc n))) ≡ length (filter f (upto n)) + bit (f n)
 unfolding upto
-kept-last f n = ap length (keep-append f (upto n) (n ∷ [])) ∙ length-append (keep f (upto n)) (keep f (n ∷ [])) ∙ ap (λ (k : ℕ). length (keep f (upto n)) + k) (kept-one f n)
+kept-last f n = ap length (filter-append f (upto n) (n ∷ [])) ∙ length-append (filter f (upto n)) (filter f (n ∷ [])) ∙ ap (λ (k : ℕ). length (filter f (upto n)) + k) (kept-one f n)
 
 module _ (f : ℕ → ℕ) where
   -- of a variable: its states are in one class
@@ -53,27 +53,27 @@ module _ (f : ℕ → ℕ) where
       let e = pair-variable p q l in
       ap joined (sym (variable-lt p q l)) ∙ (λ i. eqb (f (e .0 i)) (f (e .1 i)))
 
-  column : (q p : ℕ) → p ≤ q → length (keep joined (upto (pairs q + p))) ≡ length (keep joined (upto (pairs q))) + length (keep (λ p. eqb (f p) (f q)) (upto p))
-  unfolding upto keep
+  column : (q p : ℕ) → p ≤ q → length (filter joined (upto (pairs q + p))) ≡ length (filter joined (upto (pairs q))) + length (filter (λ p. eqb (f p) (f q)) (upto p))
+  unfolding upto filter
   column q zero h = let e : pairs q + 0 ≡ pairs q = omega arith in rw e (omega arith)
   column q (suc p) h =
       let e : pairs q + suc p ≡ suc (pairs q + p) = omega arith in
-      ap (λ (k : ℕ). length (keep joined (upto k))) e
+      ap (λ (k : ℕ). length (filter joined (upto k))) e
       ∙ omega (arith, kept-last joined (pairs q + p), kept-last (λ p. eqb (f p) (f q)) p, column q p (omega arith), ap bit (joined-pair q p h))
 
-  rows : (n : ℕ) → length (keep joined (upto (pairs n))) ≡ length (gather (λ q. keep (λ p. eqb (f p) (f q)) (upto q)) (upto n))
-  unfolding upto keep gather pairs
+  rows : (n : ℕ) → length (filter joined (upto (pairs n))) ≡ length (concatMap (λ q. filter (λ p. eqb (f p) (f q)) (upto q)) (upto n))
+  unfolding upto filter concatMap pairs
   rows zero = refl
   rows (suc n) =
-      ap (λ (k : ℕ). length (keep joined (upto k))) (pairs-suc n)
+      ap (λ (k : ℕ). length (filter joined (upto k))) (pairs-suc n)
       ∙ column n n (omega arith)
-      ∙ ap (λ (k : ℕ). k + length (keep (λ p. eqb (f p) (f n)) (upto n))) (rows n)
+      ∙ ap (λ (k : ℕ). k + length (filter (λ p. eqb (f p) (f n)) (upto n))) (rows n)
       ∙ sym (last n)
     where
-      last : (n : ℕ) → length (gather (λ q. keep (λ p. eqb (f p) (f q)) (upto q)) (upto n ++ (n ∷ []))) ≡ length (gather (λ q. keep (λ p. eqb (f p) (f q)) (upto q)) (upto n)) + length (keep (λ p. eqb (f p) (f n)) (upto n))
+      last : (n : ℕ) → length (concatMap (λ q. filter (λ p. eqb (f p) (f q)) (upto q)) (upto n ++ (n ∷ []))) ≡ length (concatMap (λ q. filter (λ p. eqb (f p) (f q)) (upto q)) (upto n)) + length (filter (λ p. eqb (f p) (f n)) (upto n))
       last n =
-          ap length (gather-append (λ q. keep (λ p. eqb (f p) (f q)) (upto q)) (upto n) (n ∷ []) ∙ ap (λ (xs : List ℕ). gather (λ q. keep (λ p. eqb (f p) (f q)) (upto q)) (upto n) ++ xs) (append-nil (keep (λ p. eqb (f p) (f n)) (upto n))))
-          ∙ length-append (gather (λ q. keep (λ p. eqb (f p) (f q)) (upto q)) (upto n)) (keep (λ p. eqb (f p) (f n)) (upto n))
+          ap length (concatMap-append (λ q. filter (λ p. eqb (f p) (f q)) (upto q)) (upto n) (n ∷ []) ∙ ap (λ (xs : List ℕ). concatMap (λ q. filter (λ p. eqb (f p) (f q)) (upto q)) (upto n) ++ xs) (append-nil (filter (λ p. eqb (f p) (f n)) (upto n))))
+          ∙ length-append (concatMap (λ q. filter (λ p. eqb (f p) (f q)) (upto q)) (upto n)) (filter (λ p. eqb (f p) (f n)) (upto n))
 
 one-bit : (t : Bool) → eqb 1 (bit t) ≡ t
 one-bit true = refl
@@ -83,8 +83,8 @@ one-bit false = refl
 pub joined-count : (n : ℕ) (m : List ℕ) → trueCount (assignmentOf (classOf m) n) ≡ joinedPairs n m
 unfolding trueCount assignmentOf joinedAt joinedPairs joins
 joined-count n m =
-    keep-map (eqb 1) (joinedAt (classOf m) n) (upto (pairs n))
-    ∙ (λ i. length (keep (λ x. one-bit (joined (classOf m) x) i) (upto (pairs n))))
+    filter-map (eqb 1) (joinedAt (classOf m) n) (upto (pairs n))
+    ∙ (λ i. length (filter (λ x. one-bit (joined (classOf m) x) i) (upto (pairs n))))
     ∙ rows (classOf m) n
 
 module _ (L : Limits) (t : Table) (wf : WellFormed L t) where

@@ -5,7 +5,7 @@ use mathlib.Core.List.{List, [], _∷_, _++_, map}
 use Prim.Native.Nat.{ℕ, _^_}
 use lib.ListN.{replicate, take}
 use lib.Count.{onesIn}
-use Rattle.lists.specs.Lists.{any, all, keep, gather, upto, mem, same, parts, flat, over, firstFailed}
+use Rattle.lists.specs.Lists.{any, all, filter, concatMap, upto, mem, same, parts, concat, over, firstFailed}
 use Rattle.lists.specs.Bits.{has, hasBit, onesOver}
 use Rattle.cnf.specs.Clauses.{wordsOf, clausesWithin, clausesIn, wholeWithin, whole, distinct, clauseFits}
 use Rattle.cnf.specs.Search.{isRight, isUnset, byUnset, seen, both, scan, undo, lowestUnset, decide, act, step, run, searchFrom}
@@ -22,7 +22,7 @@ use Rattle.tops_spec.specs.Tops.{add, byInternals, byCalls, live, byReturns, ro
 use Rattle.clauses_spec.specs.Clauses.{opposite, once, tidy, lookClauses, transitivity, premise, matching, moveClause, moveClauses, returnClause, topStates, returnClauses, clauseList, clauseWords, shortList, shortWords, clausesNumber, clausesOf, listedNumber, listedValues}
 use Rattle.clauses_spec.specs.Maps.{joinedBy, nextClass, mapOf}
 use Rattle.search_spec.specs.Answers.{listFits, searchNumber, searched, searchAt, searchOf, solutionNumber, solutionValues}
-use Rattle.check_spec.specs.Check.{looksAgree, moveMatched, movesMatched, returnMatched, returnsMatched, mapTests, checkNumber, checkOf, checkedNumber, checkedValues}
+use Rattle.check_spec.specs.Check.{labelsAgree, moveMatched, movesMatched, returnMatched, returnsMatched, mapTests, checkNumber, checkOf, checkedNumber, checkedValues}
 use Rattle.quotient_spec.specs.Quotient.{image, insert, ascending, images, memberHas, bitOf, markAmong, classMark, classByte, quotientTable, quotientBytes, quotientNumber, quotientOf, writtenNumber, writtenValues}
 use Rattle.reduce_spec.specs.Reduce.{beforeSearch, triedOfTable, joinedPairs, deliver, afterSearch, reduceOf, reductionNumber, reductionValues}
 
@@ -123,11 +123,11 @@ said =
 -- M1 to M14 (M9 as request (viii) has it), the clause count and word count of T, what the program prints for T, three states with one guess,
 -- whose budget is found spent at a rest with one pair joined, and of request (v), that "named" and "located" are never joined, and a quotient of version 2
 pub marked : answers ≡ said
-unfolding answers said checked searching writing reducing any all keep gather upto mem same parts flat over firstFailed limitsFit has hasBit onesOver onesIn wordsOf clausesWithin clausesIn wholeWithin whole distinct clauseFits isRight isUnset byUnset seen both scan undo lowestUnset decide act step run searchFrom onlyTrue satisfied trueCount notFalse better ceilingBy rested tried runTried searchTried longest word16 trailer distance version start records tableOf bytes16 fromReturns fromCalls fromInternals fromStates fromSymbols trailerOf bytesOf lengthFits versionFits distancesFit countsFit stateByteMost bytesFit isInitial isAccepting startFits recordFits recordsFit before ascendFrom ascend orderFits tableTests readNumber markOf agreedOn targets joins classes numberedFrom numbered add byInternals byCalls live byReturns round rounds startWords topWordsAt topCount topsOf liveReturns pairs variableOf opposite once tidy lookClauses past triangle triangles transitivity premise matching moveClause moveClauses returnClause topStates returnClauses clauseList clauseWords shortList shortWords clausesNumber clausesOf listedNumber listedValues joinedBy nextClass mapOf listFits searchNumber searched searchAt searchOf solutionNumber solutionValues looksAgree moveMatched movesMatched returnMatched returnsMatched mapTests checkNumber checkOf checkedNumber checkedValues image insert ascending images memberHas bitOf markAmong classMark classByte quotientTable quotientBytes quotientNumber quotientOf writtenNumber writtenValues beforeSearch triedOfTable joinedPairs deliver afterSearch reduceOf reductionNumber reductionValues
+unfolding answers said checked searching writing reducing any all filter concatMap upto mem same parts concat over firstFailed limitsFit has hasBit onesOver onesIn wordsOf clausesWithin clausesIn wholeWithin whole distinct clauseFits isRight isUnset byUnset seen both scan undo lowestUnset decide act step run searchFrom onlyTrue satisfied trueCount notFalse better ceilingBy rested tried runTried searchTried longest word16 trailer distance version start records tableOf bytes16 fromReturns fromCalls fromInternals fromStates fromSymbols trailerOf bytesOf lengthFits versionFits distancesFit countsFit stateByteMost bytesFit isInitial isAccepting startFits recordFits recordsFit before ascendFrom ascend orderFits tableTests readNumber markOf agreedOn targets joins classes numberedFrom numbered add byInternals byCalls live byReturns round rounds startWords topWordsAt topCount topsOf liveReturns pairs variableOf opposite once tidy lookClauses past triangle triangles transitivity premise matching moveClause moveClauses returnClause topStates returnClauses clauseList clauseWords shortList shortWords clausesNumber clausesOf listedNumber listedValues joinedBy nextClass mapOf listFits searchNumber searched searchAt searchOf solutionNumber solutionValues labelsAgree moveMatched movesMatched returnMatched returnsMatched mapTests checkNumber checkOf checkedNumber checkedValues image insert ascending images memberHas bitOf markAmong classMark classByte quotientTable quotientBytes quotientNumber quotientOf writtenNumber writtenValues beforeSearch triedOfTable joinedPairs deliver afterSearch reduceOf reductionNumber reductionValues
 marked = refl
 
 -- the order of reduce's refusals: an unreadable table before a short map buffer, that before a short clause buffer, and that before a short
 -- output, judged on the map delivered: 35 bytes where no guess is permitted, else 31
 pub order : map (λ a. reductionNumber (a .answer)) (reduceOf standard [] 0 [] [] [] ∷ reduceOf standard T 0 [] [] [] ∷ reduceOf standard T 0 (replicate 23 0) (replicate 4 0) [] ∷ reduceOf standard T 0 (replicate 24 0) (replicate 4 0) (replicate 34 0) ∷ reduceOf standard T 0 (replicate 24 0) (replicate 4 0) (replicate 35 0) ∷ reduceOf standard T 1 (replicate 24 0) (replicate 4 0) (replicate 30 0) ∷ reduceOf standard T 1 (replicate 24 0) (replicate 4 0) (replicate 31 0) ∷ []) ≡ 1 ∷ 22 ∷ 10 ∷ 21 ∷ 0 ∷ 21 ∷ 0 ∷ []
-unfolding any all keep gather upto mem same parts flat over firstFailed limitsFit has hasBit onesOver onesIn wordsOf clausesWithin clausesIn wholeWithin whole distinct clauseFits isRight isUnset byUnset seen both scan undo lowestUnset decide act step run searchFrom onlyTrue satisfied trueCount notFalse better ceilingBy rested tried runTried searchTried longest word16 trailer distance version start records tableOf bytes16 fromReturns fromCalls fromInternals fromStates fromSymbols trailerOf bytesOf lengthFits versionFits distancesFit countsFit stateByteMost bytesFit isInitial isAccepting startFits recordFits recordsFit before ascendFrom ascend orderFits tableTests readNumber markOf agreedOn targets joins classes numberedFrom numbered add byInternals byCalls live byReturns round rounds startWords topWordsAt topCount topsOf liveReturns pairs variableOf opposite once tidy lookClauses past triangle triangles transitivity premise matching moveClause moveClauses returnClause topStates returnClauses clauseList clauseWords shortList shortWords clausesNumber clausesOf listedNumber listedValues joinedBy nextClass mapOf listFits searchNumber searched searchAt searchOf solutionNumber solutionValues looksAgree moveMatched movesMatched returnMatched returnsMatched mapTests checkNumber checkOf checkedNumber checkedValues image insert ascending images memberHas bitOf markAmong classMark classByte quotientTable quotientBytes quotientNumber quotientOf writtenNumber writtenValues beforeSearch triedOfTable joinedPairs deliver afterSearch reduceOf reductionNumber reductionValues
+unfolding any all filter concatMap upto mem same parts concat over firstFailed limitsFit has hasBit onesOver onesIn wordsOf clausesWithin clausesIn wholeWithin whole distinct clauseFits isRight isUnset byUnset seen both scan undo lowestUnset decide act step run searchFrom onlyTrue satisfied trueCount notFalse better ceilingBy rested tried runTried searchTried longest word16 trailer distance version start records tableOf bytes16 fromReturns fromCalls fromInternals fromStates fromSymbols trailerOf bytesOf lengthFits versionFits distancesFit countsFit stateByteMost bytesFit isInitial isAccepting startFits recordFits recordsFit before ascendFrom ascend orderFits tableTests readNumber markOf agreedOn targets joins classes numberedFrom numbered add byInternals byCalls live byReturns round rounds startWords topWordsAt topCount topsOf liveReturns pairs variableOf opposite once tidy lookClauses past triangle triangles transitivity premise matching moveClause moveClauses returnClause topStates returnClauses clauseList clauseWords shortList shortWords clausesNumber clausesOf listedNumber listedValues joinedBy nextClass mapOf listFits searchNumber searched searchAt searchOf solutionNumber solutionValues labelsAgree moveMatched movesMatched returnMatched returnsMatched mapTests checkNumber checkOf checkedNumber checkedValues image insert ascending images memberHas bitOf markAmong classMark classByte quotientTable quotientBytes quotientNumber quotientOf writtenNumber writtenValues beforeSearch triedOfTable joinedPairs deliver afterSearch reduceOf reductionNumber reductionValues
 order = refl

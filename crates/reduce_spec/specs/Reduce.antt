@@ -5,7 +5,7 @@ use mathlib.Core.List.{List, [], _∷_}
 use Prim.Native.Nat.{ℕ}
 use lib.ListN.{length}
 use lib.Dec.{eqb, leb}
-use Rattle.lists.specs.Lists.{keep, gather, upto, over, firstFailed, stage, Says}
+use Rattle.lists.specs.Lists.{filter, concatMap, upto, over, firstFailed, stage, Says}
 use Rattle.script_spec.specs.Script.{yesValue}
 use Rattle.cnf.specs.Search.{Outcome, searchFrom, madeOf, isSpent}
 use Rattle.cnf.specs.Trials.{ceilingOf, Tried, searchTried}
@@ -47,7 +47,7 @@ triedOfTable b budget = searchTried (clauseList (tableOf b)) (pairs (count (tabl
 
 -- "joined pairs": the pairs p < q of n states that the map joins
 unfoldable pub joinedPairs : ℕ → List ℕ → ℕ
-joinedPairs n m = length (gather (λ q. keep (λ p. joins m p q) (upto q)) (upto n))
+joinedPairs n m = length (concatMap (λ q. filter (λ p. joins m p q) (upto q)) (upto n))
 
 module _ (L : Limits) (b list map out : List ℕ) where
   -- with 21 or a delivery "the clause buffer starts with the list, the rest unchanged": the list without group 2

@@ -1,1 +1,1 @@
-pub mod Retreating
+pub mod Backtracking

@@ -3,9 +3,9 @@ use mathlib.Core.Path.{_≡_}
 use mathlib.Core.List.{List}
 use Prim.Native.Nat.{ℕ, _+_, _≤_}
 use lib.ListN.{length}
-use Rattle.sat_restore.specs.Restoring.{Lags}
+use Rattle.sat_restore.specs.Restoring.{CountersBeforeIf}
 
 -- the words are those before the guess at mark, and saved
 pub record Back (ws clauses v t : List ℕ) (mark : ℕ) (words saved : List ℕ) : Type 0 where
-  pub lags : Lags ws clauses v t mark (mark + 1) words
+  pub lags : CountersBeforeIf ws clauses v t mark (mark + 1) words
   pub kept : length ws ≤ length clauses → saved ≡ words

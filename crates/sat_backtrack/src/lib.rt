@@ -5,7 +5,7 @@ ghost use lib.ListN.{length};
 ghost use Rattle.pairs.specs.Entries.{PairTable};
 ghost use Rattle.sat_trail.specs.Rows.{Rows};
 ghost use Rattle.sat_trail.specs.Undo.{Undoable, Undone};
-ghost use Rattle.sat_restore.specs.Restoring.{IndexedIf, Passed, Sized, Lags};
+ghost use Rattle.sat_restore.specs.Restoring.{IndexedIf, TrailMark, Sized, CountersBeforeIf};
 ghost use Rattle.sat_backtrack.specs.Back.{Back};
 use sat_restore::restore;
 use sat_trail::undo;
@@ -17,7 +17,7 @@ pub struct Flipped {
 }
 
 // Undoes the guess at `mark` and all that was set after it, and sets its variable false, forced; the words go back too, where the list is indexed.
-pub fn retreat(
+pub fn backtrack(
     list: &[u16],
     n: u8,
     table: &[u16],
@@ -34,7 +34,7 @@ pub fn retreat(
     count: usize,
 ) -> Flipped
     requires { ⌜ IndexedIf (now list) (now firsts) (now clauses) × Sized (now clauses) (now words) × (length (now saved) ≡ length (now words)) ⌝ }
-    requires { ⌜ Passed (now list) (now values) (now trail) mark base count × Lags (now list) (now clauses) (now values) (now trail) base count (now saved) ⌝ }
+    requires { ⌜ TrailMark (now list) (now values) (now trail) mark base count × CountersBeforeIf (now list) (now clauses) (now values) (now trail) base count (now saved) ⌝ }
     requires { ⌜ PairTable (now table) × Undoable (now values) (now trail) mark count × Rows n (now values) (now joined) (now apart) ⌝ }
     ensures { λ r. ⌜ Undone (now (values .entry)) (now (trail .entry)) mark count (now (values .exit)) (r .variable) × Rows n (now (values .exit)) (now (joined .exit)) (now (apart .exit)) ⌝ }
     ensures forced { λ r. ⌜ r .count ≡ mark + 1 ⌝ }

@@ -7,23 +7,23 @@ use mathlib.Core.List.{List, [], _∷_, List·Memᴰ, List·Memᴰ·head, List·
 use Prim.Native.Nat.{ℕ, _+_, _-_, _/_, _%_, _≤_, _<_}
 use native.Mathlib.Omega.{arith}
 use borrow.Author.Tests.{not-true, not-false}
-use Rattle.lists.specs.Lists.{any, keep}
-use Rattle.lists.proofs.Members.{not-so, keep-mem}
+use Rattle.lists.specs.Lists.{any, filter}
+use Rattle.lists.proofs.Members.{not-so, filter-mem}
 use Rattle.cnf.specs.Clauses.{valueOf}
 use Rattle.cnf.specs.Search.{isRight, isUnset, broken, forcing, quiet, byUnset, seen}
 use Rattle.cnf.specs.Closing.{_⊑_, holds, waits, SettledOr}
 use Rattle.cnf.proofs.Found.{right-is, right-not, unset-is, unset-of}
 use Rattle.cnf.proofs.Values.{set-cases}
 use Rattle.sat_trail.specs.Trail.{unsetting}
-use Rattle.sat_literal.proofs.Asking.{unset-not-right, keep-cons, seen-by, right-tells}
-use Rattle.sat_counters.specs.Tallies.{weight, isFalse, weigh}
+use Rattle.sat_literal.proofs.Literals.{unset-not-right, filter-cons, seen-by, right-tells}
+use Rattle.sat_counters.specs.Counters.{weight, isFalse, weigh}
 use Rattle.sat_counters.proofs.Weighing.{false-is, left-is}
 
 -- ---- the literals that are left
 
 -- the literals of a clause that are not false
 abbrev standing : List ℕ → List ℕ → List ℕ
-standing v d = keep (λ l. not (isFalse v l)) d
+standing v d = filter (λ l. not (isFalse v l)) d
 
 -- the weights of literals
 abbrev total : List ℕ → ℕ
@@ -31,7 +31,7 @@ total [] = 0
 total (l ∷ ls) = weight l + total ls
 
 weigh-standing : (v d : List ℕ) → weigh v d ≡ total (standing v d)
-unfolding weigh keep
+unfolding weigh filter
 weigh-standing v [] = refl
 weigh-standing v (l ∷ d) = go (isFalse v l) (weigh-standing v d)
   where
@@ -40,44 +40,44 @@ weigh-standing v (l ∷ d) = go (isFalse v l) (weigh-standing v d)
     go false e = ap (λ (n : ℕ). weight l + n) e
 
 standing-mem : (v d : List ℕ) (l : ℕ) → List·Memᴰ l (standing v d) → List·Memᴰ l d × (isFalse v l ≡ false)
-standing-mem v d l m = let r = keep-mem (λ k. not (isFalse v k)) d l m in (r .0, not-true (isFalse v l) (r .1))
+standing-mem v d l m = let r = filter-mem (λ k. not (isFalse v k)) d l m in (r .0, not-true (isFalse v l) (r .1))
 
 -- a test that only kept elements pass asks those alone
 module _ (f g : ℕ → Bool) (h : (x : ℕ) → g x ≡ false → f x ≡ false) where
-  keep-kept : (xs : List ℕ) → keep f xs ≡ keep f (keep g xs)
-  unfolding keep
-  keep-kept [] = refl
-  keep-kept (x ∷ xs) = go (g x) refl (keep-kept xs)
+  filter-kept : (xs : List ℕ) → filter f xs ≡ filter f (filter g xs)
+  unfolding filter
+  filter-kept [] = refl
+  filter-kept (x ∷ xs) = go (g x) refl (filter-kept xs)
     where
-      go : (t : Bool) → g x ≡ t → keep f xs ≡ keep f (keep g xs) → keep f (x ∷ xs) ≡ keep f (elim t as (λ _. List ℕ) [ true ↦ x ∷ keep g xs | false ↦ keep g xs ])
+      go : (t : Bool) → g x ≡ t → filter f xs ≡ filter f (filter g xs) → filter f (x ∷ xs) ≡ filter f (elim t as (λ _. List ℕ) [ true ↦ x ∷ filter g xs | false ↦ filter g xs ])
       go true p r = ap (λ (zs : List ℕ). elim (f x) as (λ _. List ℕ) [ true ↦ x ∷ zs | false ↦ zs ]) r
-      go false p r = rw (h x p, keep) r
+      go false p r = rw (h x p, filter) r
 
-  any-kept : (xs : List ℕ) → any f xs ≡ any f (keep g xs)
-  unfolding keep any
+  any-kept : (xs : List ℕ) → any f xs ≡ any f (filter g xs)
+  unfolding filter any
   any-kept [] = refl
   any-kept (x ∷ xs) = go (g x) refl (any-kept xs)
     where
-      go : (t : Bool) → g x ≡ t → any f xs ≡ any f (keep g xs) → any f (x ∷ xs) ≡ any f (elim t as (λ _. List ℕ) [ true ↦ x ∷ keep g xs | false ↦ keep g xs ])
+      go : (t : Bool) → g x ≡ t → any f xs ≡ any f (filter g xs) → any f (x ∷ xs) ≡ any f (elim t as (λ _. List ℕ) [ true ↦ x ∷ filter g xs | false ↦ filter g xs ])
       go true p r = rw r
       go false p r = rw (h x p, any) r
 
 -- what is seen of a clause of no literal, and of one
 none-seen : (w : List ℕ) → broken ≡ seen w []
-unfolding any keep byUnset
+unfolding any filter byUnset
 none-seen w = sym (seen-by w [] refl refl)
 
 unset-seen : (w : List ℕ) (m : ℕ) → isUnset w m ≡ true → forcing m ≡ seen w (m ∷ [])
-unfolding any keep byUnset
-unset-seen w m u = sym (seen-by w (m ∷ []) (or-false (isRight w m) ∙ unset-not-right w m u) (keep-cons w m [] u))
+unfolding any filter byUnset
+unset-seen w m u = sym (seen-by w (m ∷ []) (or-false (isRight w m) ∙ unset-not-right w m u) (filter-cons w m [] u))
 
 false-seen : (w : List ℕ) (m : ℕ) → isRight w m ≡ false → isUnset w m ≡ false → broken ≡ seen w (m ∷ [])
-unfolding any keep byUnset
-false-seen w m r u = sym (seen-by w (m ∷ []) {ks = []} (or-false (isRight w m) ∙ r) (rw (u, keep)))
+unfolding any filter byUnset
+false-seen w m r u = sym (seen-by w (m ∷ []) {ks = []} (or-false (isRight w m) ∙ r) (rw (u, filter)))
 
 -- the unset literals of a clause that begins with two
-two-unset : (w : List ℕ) (l m : ℕ) (ls : List ℕ) → isUnset w l ≡ true → isUnset w m ≡ true → keep (isUnset w) (l ∷ m ∷ ls) ≡ l ∷ m ∷ keep (isUnset w) ls
-two-unset w l m ls p q = keep-cons w l (m ∷ ls) p ∙ ap (λ (zs : List ℕ). l ∷ zs) (keep-cons w m ls q)
+two-unset : (w : List ℕ) (l m : ℕ) (ls : List ℕ) → isUnset w l ≡ true → isUnset w m ≡ true → filter (isUnset w) (l ∷ m ∷ ls) ≡ l ∷ m ∷ filter (isUnset w) ls
+two-unset w l m ls p q = filter-cons w l (m ∷ ls) p ∙ ap (λ (zs : List ℕ). l ∷ zs) (filter-cons w m ls q)
 
 -- one is left, and it is the word that says which
 one-standing : (v d : List ℕ) {m : ℕ} → 2048 ≤ weigh v d → weigh v d < 4096 → m ≡ weigh v d - 2048 → standing v d ≡ m ∷ []
@@ -121,8 +121,8 @@ module _ {v w : List ℕ} (more : v ⊑ w) where
   not-unset l e = not-so (isUnset w l) (λ p. omega (arith, unset-is w l p, stays-false l (not-false (isFalse v l) e)))
 
   -- the unset literals are left
-  unset-standing : (d : List ℕ) {ks : List ℕ} → standing v d ≡ ks → keep (isUnset w) d ≡ keep (isUnset w) ks
-  unset-standing d e = keep-kept (isUnset w) (λ l. not (isFalse v l)) not-unset d ∙ ap (keep (isUnset w)) e
+  unset-standing : (d : List ℕ) {ks : List ℕ} → standing v d ≡ ks → filter (isUnset w) d ≡ filter (isUnset w) ks
+  unset-standing d e = filter-kept (isUnset w) (λ l. not (isFalse v l)) not-unset d ∙ ap (filter (isUnset w)) e
 
   -- so the literals that are left tell what the clause says
   seen-standing : (d : List ℕ) {ks : List ℕ} → standing v d ≡ ks → seen w ks ≡ seen w d
@@ -173,7 +173,7 @@ module _ {v w : List ℕ} (more : v ⊑ w) where
         both l m ls e (inl s) r = s
         both l m ls e (inr p) (inl s) = s
         both l m ls e (inr p) (inr q) =
-            inl (waits l m (keep (isUnset w) ls) (unset-standing d e ∙ two-unset w l m ls p q))
+            inl (waits l m (filter (isUnset w) ls) (unset-standing d e ∙ two-unset w l m ls p q))
 
         go : (ks : List ℕ) → standing v d ≡ ks → weigh v d ≡ total ks → SettledOr w qs d
         go [] e t = absurd (omega arith)

@@ -1,8 +1,8 @@
-pub mod Falling
+pub mod Decrements
 pub mod Left
 pub mod Taking
-pub mod Tallying
+pub mod Counting
 pub mod Times
 pub mod Weighing
-pub mod Lagging
+pub mod Earlier
 pub mod FalseLiteral

@@ -9,9 +9,9 @@ use native.Mathlib.Omega.{arith}
 use native.Mathlib.Decide.{ℕ-discrete}
 use lib.ListN.{length, getD, set, take, drop, length-set, drop-of-length-le}
 use lib.Seq.{take-set-le, take-suc-set, getD-set-same, getD-set-other}
-use Rattle.lists.specs.Lists.{keep}
+use Rattle.lists.specs.Lists.{filter}
 use Rattle.lists.proofs.Members.{getD-mem, one-on}
-use Rattle.sat_counters.specs.Tallies.{times, weight, Falls, Fell, Noted, Rises}
+use Rattle.sat_counters.specs.Counters.{times, weight, Falls, Fell, Noted, Rises}
 use Rattle.sat_counters.proofs.Times.{weight-here, weight-past}
 
 -- the weight that the places from k on have for a clause
@@ -20,7 +20,7 @@ ahead places l k c = times c (drop k places) * weight l
 
 -- none where the places are passed
 ahead-none : (places : List ℕ) (l k c : ℕ) → length places ≤ k → ahead places l k c ≡ 0
-unfolding keep
+unfolding filter
 ahead-none places l k c h = rw (drop-of-length-le places h) (zero-mul (weight l))
 
 module _ (places : List ℕ) (l k : ℕ) (h : k < length places) where

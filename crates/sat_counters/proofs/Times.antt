@@ -9,25 +9,25 @@ use native.Mathlib.Omega.{arith}
 use lib.ListN.{length, length-append}
 use lib.Dec.{eqb}
 use borrow.Author.Tests.{eq-eqb, ne-eqb, eqb-true}
-use Rattle.lists.specs.Lists.{keep}
-use Rattle.lists.proofs.Members.{keep-mem, keep-of}
-use Rattle.lists.proofs.Counts.{keep-append}
-use Rattle.sat_counters.specs.Tallies.{times}
+use Rattle.lists.specs.Lists.{filter}
+use Rattle.lists.proofs.Members.{filter-mem, filter-of}
+use Rattle.lists.proofs.Counts.{filter-append}
+use Rattle.sat_counters.specs.Counters.{times}
 
 pub times-nil : (c : ℕ) → times c [] ≡ 0
-unfolding keep
+unfolding filter
 times-nil c = refl
 
 pub times-here : (c x : ℕ) (xs : List ℕ) → c ≡ x → times c (x ∷ xs) ≡ suc (times c xs)
-unfolding keep
-times-here c x xs e = rw (eq-eqb c x e, keep)
+unfolding filter
+times-here c x xs e = rw (eq-eqb c x e, filter)
 
 pub times-past : (c x : ℕ) (xs : List ℕ) → c ≢ x → times c (x ∷ xs) ≡ times c xs
-unfolding keep
-times-past c x xs n = rw (ne-eqb c x n, keep)
+unfolding filter
+times-past c x xs n = rw (ne-eqb c x n, filter)
 
 pub times-last : (c x : ℕ) (xs : List ℕ) → times c (xs ++ (x ∷ [])) ≡ times c xs + times c (x ∷ [])
-times-last c x xs = ap length (keep-append (eqb c) xs (x ∷ [])) ∙ length-append (keep (eqb c) xs) (keep (eqb c) (x ∷ []))
+times-last c x xs = ap length (filter-append (eqb c) xs (x ∷ [])) ∙ length-append (filter (eqb c) xs) (filter (eqb c) (x ∷ []))
 
 -- it is not there
 pub times-never : (c : ℕ) (xs : List ℕ) → ((x : ℕ) → List·Memᴰ x xs → c ≢ x) → times c xs ≡ 0
@@ -40,10 +40,10 @@ some-there (x ∷ xs) m = omega arith
 
 -- it is
 pub times-some : (c : ℕ) (xs : List ℕ) → List·Memᴰ c xs → 0 < times c xs
-times-some c xs m = some-there (keep (eqb c) xs) (keep-of (eqb c) xs c m (eq-eqb c c refl))
+times-some c xs m = some-there (filter (eqb c) xs) (filter-of (eqb c) xs c m (eq-eqb c c refl))
 
 pub times-in : (x : ℕ) (xs : List ℕ) → 0 < times x xs → List·Memᴰ x xs
-times-in x xs h = go (keep (eqb x) xs) h (keep-mem (eqb x) xs)
+times-in x xs h = go (filter (eqb x) xs) h (filter-mem (eqb x) xs)
   where
     go : (ys : List ℕ) → 0 < length ys → ((y : ℕ) → List·Memᴰ y ys → List·Memᴰ y xs × (eqb x y ≡ true)) → List·Memᴰ x xs
     go [] h k = absurd (omega (arith, h))

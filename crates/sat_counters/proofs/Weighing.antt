@@ -9,8 +9,8 @@ use lib.ListN.{length, getD, drop, drop-of-length-le}
 use borrow.Author.Tests.{eqb-true, eqb-false, eq-eqb, ne-eqb}
 use Rattle.lists.proofs.Members.{getD-mem, getD-any, one-on}
 use Rattle.cnf.specs.Clauses.{valueOf}
-use Rattle.sat_literal.specs.Asked.{Over}
-use Rattle.sat_counters.specs.Tallies.{weight, isFalse, weigh}
+use Rattle.sat_literal.specs.Literals.{Over}
+use Rattle.sat_counters.specs.Counters.{weight, isFalse, weigh}
 
 -- ---- a literal
 

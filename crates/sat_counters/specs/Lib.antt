@@ -1,2 +1,2 @@
-pub mod Tallies
-pub mod Behind
+pub mod Counters
+pub mod CountersBefore

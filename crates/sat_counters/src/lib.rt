@@ -5,8 +5,8 @@ ghost use Prim.Native.Nat.{_≤_};
 ghost use lib.ListN.{length};
 ghost use Rattle.cnf.specs.Clauses.{clausesIn, whole};
 ghost use Rattle.cnf.specs.Closing.{Formed};
-ghost use Rattle.sat_literal.specs.Asked.{Over};
-ghost use Rattle.sat_counters.specs.Tallies.{weigh, Tallied, Falls, Fell, Noted, Rises};
+ghost use Rattle.sat_literal.specs.Literals.{Over};
+ghost use Rattle.sat_counters.specs.Counters.{weigh, CountersOf, Falls, Fell, Noted, Rises};
 use sat_trail::wide;
 
 mod literal;
@@ -15,7 +15,7 @@ pub use literal::false_literal;
 
 // Takes the weight of a literal that became false from the words of its clauses, and notes those that have at most one literal left. Answers how many
 // are noted.
-pub fn fall(places: &[u16], l: u16, words: &mut [u32], noted: &mut [u16]) -> usize
+pub fn decrement(places: &[u16], l: u16, words: &mut [u32], noted: &mut [u16]) -> usize
     requires { ⌜ Falls (now places) l (now words) × (length (now places) ≤ length (now noted)) × (length (now noted) ≤ 32768) × (length (now words) ≤ 32768) ⌝ }
     ensures { λ _. ⌜ Fell (now (places .entry)) l (now (words .entry)) (now (words .exit)) ⌝ }
     ensures noted { λ r. ⌜ Noted (now (places .entry)) (now (words .exit)) (now (noted .exit)) r ⌝ }
@@ -37,7 +37,7 @@ pub fn fall(places: &[u16], l: u16, words: &mut [u32], noted: &mut [u16]) -> usi
 }
 
 // Gives it back, where the literal is unset again.
-pub fn rise(places: &[u16], l: u16, words: &mut [u32])
+pub fn increment(places: &[u16], l: u16, words: &mut [u32])
     requires { ⌜ Rises (now places) l (now words) × (length (now places) ≤ 32768) × (length (now words) ≤ 32768) ⌝ }
     ensures { λ _. ⌜ Fell (now (places .entry)) l (now (words .exit)) (now (words .entry)) ⌝ }
 {
@@ -68,10 +68,10 @@ fn weigh_clause(literals: &[u16], values: &[u8]) -> u32
 }
 
 // The words of a list's clauses under the values. Answers how many clauses there are.
-pub fn tally(list: &[u16], values: &[u8], words: &mut [u32]) -> usize
+pub fn count_literals(list: &[u16], values: &[u8], words: &mut [u32]) -> usize
     requires { ⌜ (whole (now list) ≡ true) × Formed (clausesIn (now list)) (length (now values)) × (length (now values) ≤ 780) ⌝ }
     requires { ⌜ (length (now list) ≤ 32768) × (length (clausesIn (now list)) ≤ length (now words)) × (length (now words) ≤ 32768) ⌝ }
-    ensures { λ r. ⌜ Tallied (now (list .entry)) (now (values .entry)) (now (words .exit)) × (r ≡ length (clausesIn (now (list .entry)))) ⌝ }
+    ensures { λ r. ⌜ CountersOf (now (list .entry)) (now (values .entry)) (now (words .exit)) × (r ≡ length (clausesIn (now (list .entry)))) ⌝ }
 {
     let mut count: usize = 0;
     let mut at: usize = 0;

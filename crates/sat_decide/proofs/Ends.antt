@@ -28,8 +28,8 @@ use Rattle.cnf.proofs.Closure.{closes-one, closes-alike, closes-below, units-br
 use Rattle.cnf.proofs.Trying.{closedTrials, endOf, TriesTo, there, turn, tried-outcome, turns-tried}
 use Rattle.cnf.proofs.Trials.{latest as latestTrial, Holds, holds-start, holds-closed, holds-undone, holds-guess, holds-latest, horn-trial, solved-held, tried-alike}
 use Rattle.pairs.specs.Triangles.{triangles}
-use Rattle.sat_scan.specs.Sift.{Sifts}
-use Rattle.sat_simplify.specs.Lighten.{AllSet, lightened, clausesAt, variablesSet, Lightens, LightensAll}
+use Rattle.sat_scan.specs.Scan.{Sifts}
+use Rattle.sat_simplify.specs.Simplify.{AllSet, lightened, clausesAt, variablesSet, Lightens, LightensAll}
 use Rattle.sat_trail.specs.Trail.{unsetting, Ready, Grown, Worked, Queue, closedBy, Settles}
 use Rattle.sat_trail.specs.Rows.{Rows, Own, Settable, Forced}
 use Rattle.sat_trail.specs.Conclusions.{withTriangles}
@@ -41,8 +41,8 @@ use Rattle.sat_decide.specs.declared.Ending.the-variants.{Found, Absent,
 use Rattle.sat_trail.proofs.Trails.{unsetting-append, length-unsetting, unsetting-store, grown-length, grown-store}
 use Rattle.sat_trail.proofs.Working.{worked-length, worked-on, worked-part, ready-part}
 use Rattle.sat_passes.proofs.Attending.{to-cs}
-use Rattle.sat_passes.proofs.Settling.{worked-queue}
-use Rattle.sat_simplify.proofs.Lightening.{covered, Spares, spares-all, spares-left, set-in, set-all-in, lighter-to, lighter-from, lighter-formed}
+use Rattle.sat_passes.proofs.Passes.{worked-queue}
+use Rattle.sat_simplify.proofs.Simplifying.{covered, Spares, spares-all, spares-left, set-in, set-all-in, lighter-to, lighter-from, lighter-formed}
 use Rattle.sat_trail.proofs.Marking.{rows-start}
 use Rattle.equality_spread.proofs.Triangles.{with-formed, triangles-horn, unset-rest}
 

@@ -14,7 +14,7 @@ use borrow.Author.Tests.{leb-true}
 use Rattle.lists.proofs.Members.{and-true}
 use Rattle.cnf.specs.Clauses.{clausesIn, whole}
 use Rattle.cnf.proofs.Words.{clauses-nil, clauses-cons, whole-cons}
-use Rattle.sat_literal.specs.Asked.{clauseAt}
+use Rattle.sat_literal.specs.Literals.{clauseAt}
 
 take-drop : (a k : ℕ) (l : List ℕ) → take k (drop a l) ≡ drop a (take (a + k) l)
 take-drop zero k l = rw zero-add

@@ -14,7 +14,7 @@ fn says(l: u16, x: u8) -> bool
 }
 
 // Whether a literal is right under the values.
-pub fn is_right(values: &[u8], l: u16) -> bool
+pub fn is_true(values: &[u8], l: u16) -> bool
     requires { ⌜ l / 2 < length (now values) ⌝ }
     ensures { λ r. ⌜ r ≡ isRight (now (values .entry)) l ⌝ }
 {

@@ -1,2 +1,2 @@
 pub mod Attending
-pub mod Settling
+pub mod Passes

@@ -9,11 +9,11 @@ ghost use Rattle.sat_trail.specs.Rows.{Rows};
 ghost use Rattle.sat_trail.specs.Trail.{Ready, Queue, Settles};
 use equality_propagate::drain;
 use equality_spread::Reached;
-use sat_scan::sift;
+use sat_scan::scan_clauses;
 
 // Draws the conclusions from the trail's variables from `from` on, then passes over the clauses; and again, until a pass sets nothing or a clause
 // is broken.
-pub fn settle(
+pub fn propagate_passes(
     list: &[u16],
     n: u8,
     table: &[u16],
@@ -41,7 +41,7 @@ pub fn settle(
         }
         at = d.count;
         let mut none = [0u16; 0];
-        let s = sift(list, n, table, values, trail, joined, apart, at, &mut none);
+        let s = scan_clauses(list, n, table, values, trail, joined, apart, at, &mut none);
         count = s.count;
         if s.broken {
             return Reached {

@@ -1,1 +1,1 @@
-pub mod Sinking
+pub mod Indexed

@@ -1,2 +1,2 @@
 pub mod Preparing
-pub mod Sinking
+pub mod Indexed

@@ -5,8 +5,8 @@ use mathlib.Core.List.{List}
 use Prim.Native.Nat.{ℕ, _≤_, _<_}
 use lib.ListN.{length}
 use Rattle.cnf.specs.Clauses.{whole}
-use Rattle.sat_counters.specs.Tallies.{Tallied}
-use Rattle.sat_propagate.specs.Sinking.{Room, Caught}
+use Rattle.sat_counters.specs.Counters.{CountersOf}
+use Rattle.sat_propagate.specs.Indexed.{Room, CountersAtRest}
 use Rattle.sat_restore.specs.Restoring.{IndexedIf}
 use Rattle.sat_segments.specs.Segments.{Marked}
 
@@ -19,9 +19,9 @@ pub record Prepared (ws firsts clauses starts masks words noted : List ℕ) : Ty
   pub room : Room clauses words noted
 
 -- where they are indexed, the words are those of the values
-abbrev pub TalliedIf : List ℕ → List ℕ → List ℕ → List ℕ → Type 0
-TalliedIf ws clauses v words = length ws ≤ length clauses → Tallied ws v words
+abbrev pub CountersOfIf : List ℕ → List ℕ → List ℕ → List ℕ → Type 0
+CountersOfIf ws clauses v words = length ws ≤ length clauses → CountersOf ws v words
 
 -- where they are indexed, the words are those of the values once these are closed and no clause is broken
-abbrev pub CaughtIf : List ℕ → List ℕ → List ℕ → List ℕ → Bool → Type 0
-CaughtIf ws clauses v words isBroken = length ws ≤ length clauses → Caught ws v words isBroken
+abbrev pub CountersAtRestIf : List ℕ → List ℕ → List ℕ → List ℕ → Bool → Type 0
+CountersAtRestIf ws clauses v words isBroken = length ws ≤ length clauses → CountersAtRest ws v words isBroken

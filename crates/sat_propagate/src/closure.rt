@@ -5,11 +5,11 @@ ghost use Rattle.pairs.specs.Entries.{PairTable};
 ghost use Rattle.sat_trail.specs.Conclusions.{withTriangles};
 ghost use Rattle.sat_trail.specs.Rows.{Rows};
 ghost use Rattle.sat_trail.specs.Trail.{Ready, Queue, Settles};
-ghost use Rattle.sat_restore.specs.Restoring.{Lags};
-ghost use Rattle.sat_propagate.specs.Preparing.{Prepared, CaughtIf};
-use super::settle_indexed;
+ghost use Rattle.sat_restore.specs.Restoring.{CountersBeforeIf};
+ghost use Rattle.sat_propagate.specs.Preparing.{Prepared, CountersAtRestIf};
+use super::propagate_indexed;
 use equality_spread::Reached;
-use sat_segments::settle_marked;
+use sat_segments::propagate_segments;
 
 // Closes the values, where clauses wait for the trail's variables from `from` on: by the clauses of each literal where the list is indexed so, else by passes
 // over the segments of each variable.
@@ -31,7 +31,7 @@ pub fn close(
     start: usize,
 ) -> Reached
     requires { ⌜ Prepared (now list) (now firsts) (now clauses) (now starts) (now masks) (now words) (now noted) ⌝ }
-    requires { ⌜ Lags (now list) (now clauses) (now values) (now trail) from start (now words) ⌝ }
+    requires { ⌜ CountersBeforeIf (now list) (now clauses) (now values) (now trail) from start (now words) ⌝ }
     requires { ⌜ Ready (withTriangles (now list) n) (now values) (now trail) start ⌝ }
     requires { ⌜ Queue (withTriangles (now list) n) (now values) (now trail) from start × (length (now values) ≤ 780) ⌝ }
     requires { ⌜ PairTable (now table) × Rows n (now values) (now joined) (now apart) ⌝ }
@@ -39,7 +39,7 @@ pub fn close(
         Settles (withTriangles (now (list .entry)) n) (now (values .entry)) (now (trail .entry)) start (now (values .exit)) (now (trail .exit)) (r .broken)
         (r .count)
         × Rows n (now (values .exit)) (now (joined .exit)) (now (apart .exit)) ⌝ }
-    ensures caught { λ r. ⌜ CaughtIf (now (list .entry)) (now (clauses .entry)) (now (values .exit)) (now (words .exit)) (r .broken) ⌝ }
+    ensures caught { λ r. ⌜ CountersAtRestIf (now (list .entry)) (now (clauses .entry)) (now (values .exit)) (now (words .exit)) (r .broken) ⌝ }
 {
     if from == start {
         return Reached {
@@ -48,7 +48,7 @@ pub fn close(
         };
     }
     if list.len() <= clauses.len() {
-        return settle_indexed(
+        return propagate_indexed(
             list,
             n,
             table,
@@ -64,7 +64,7 @@ pub fn close(
             start,
         );
     }
-    settle_marked(
+    propagate_segments(
         list,
         n,
         table,

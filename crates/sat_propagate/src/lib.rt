@@ -6,22 +6,22 @@ ghost use Rattle.pairs.specs.Entries.{PairTable};
 ghost use Rattle.sat_trail.specs.Conclusions.{withTriangles};
 ghost use Rattle.sat_trail.specs.Rows.{Rows};
 ghost use Rattle.sat_trail.specs.Trail.{Ready, Queue, Settles};
-ghost use Rattle.sat_counters.specs.Tallies.{Indexed};
-ghost use Rattle.sat_counters.specs.Behind.{Behind};
-ghost use Rattle.sat_propagate.specs.Sinking.{Room, Caught};
+ghost use Rattle.sat_counters.specs.Counters.{Indexed};
+ghost use Rattle.sat_counters.specs.Earlier.{CountersBefore};
+ghost use Rattle.sat_propagate.specs.Indexed.{Room, CountersAtRest};
 use equality_propagate::conclude;
 use equality_spread::Reached;
-use sat_counters::fall;
+use sat_counters::decrement;
 use sat_counters::false_literal;
 use sat_trail::wide;
-use sat_units::heed;
+use sat_units::propagate_units;
 
 mod closure;
 
 pub use closure::close;
 
 // Sees to the variables of the trail from `from` on, and to those that it sets itself: first what the pair says, then the clauses of the list.
-pub fn settle_indexed(
+pub fn propagate_indexed(
     list: &[u16],
     n: u8,
     table: &[u16],
@@ -39,13 +39,13 @@ pub fn settle_indexed(
     requires { ⌜ Indexed (now list) (now firsts) (now clauses) × Room (now clauses) (now words) (now noted) ⌝ }
     requires { ⌜ Ready (withTriangles (now list) n) (now values) (now trail) start ⌝ }
     requires { ⌜ Queue (withTriangles (now list) n) (now values) (now trail) from start × (length (now values) ≤ 780) ⌝ }
-    requires { ⌜ Behind (now list) (now values) (now trail) from start (now words) ⌝ }
+    requires { ⌜ CountersBefore (now list) (now values) (now trail) from start (now words) ⌝ }
     requires { ⌜ PairTable (now table) × Rows n (now values) (now joined) (now apart) ⌝ }
     ensures { λ r. ⌜
         Settles (withTriangles (now (list .entry)) n) (now (values .entry)) (now (trail .entry)) start (now (values .exit)) (now (trail .exit)) (r .broken)
         (r .count)
         × Rows n (now (values .exit)) (now (joined .exit)) (now (apart .exit)) ⌝ }
-    ensures caught { λ r. ⌜ Caught (now (list .entry)) (now (values .exit)) (now (words .exit)) (r .broken) ⌝ }
+    ensures caught { λ r. ⌜ CountersAtRest (now (list .entry)) (now (values .exit)) (now (words .exit)) (r .broken) ⌝ }
 {
     let mut at = from;
     let mut count = start;
@@ -58,8 +58,8 @@ pub fn settle_indexed(
         }
         let l = false_literal(values, x);
         let places = &clauses[wide(firsts[l])..wide(firsts[l + 1])];
-        let few = fall(places, l as u16, words, noted);
-        let r = heed(
+        let few = decrement(places, l as u16, words, noted);
+        let r = propagate_units(
             list,
             n,
             table,

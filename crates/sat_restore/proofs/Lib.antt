@@ -1,1 +1,1 @@
-pub mod Climbing
+pub mod Recounting

@@ -6,8 +6,8 @@ use lib.ListN.{length, getD}
 use Rattle.cnf.specs.Clauses.{clausesIn}
 use Rattle.cnf.specs.Closing.{unsetCount}
 use Rattle.sat_trail.specs.Trail.{Ready}
-use Rattle.sat_counters.specs.Tallies.{Indexed}
-use Rattle.sat_counters.specs.Behind.{earlier, Behind}
+use Rattle.sat_counters.specs.Counters.{Indexed}
+use Rattle.sat_counters.specs.Earlier.{earlier, CountersBefore}
 
 -- the clauses are indexed where there is room for each place
 abbrev pub IndexedIf : List ℕ → List ℕ → List ℕ → Type 0
@@ -19,11 +19,11 @@ pub record Sized (clauses words : List ℕ) : Type 0 where
   pub small : length words ≤ 32768
 
 -- where the list is indexed, the words are those of the values before the trail's variables from a place on were set
-abbrev pub Lags : List ℕ → List ℕ → List ℕ → List ℕ → ℕ → ℕ → List ℕ → Type 0
-Lags ws clauses v t from count words = length ws ≤ length clauses → Behind ws v t from count words
+abbrev pub CountersBeforeIf : List ℕ → List ℕ → List ℕ → List ℕ → ℕ → ℕ → List ℕ → Type 0
+CountersBeforeIf ws clauses v t from count words = length ws ≤ length clauses → CountersBefore ws v t from count words
 
 -- the trail has count variables, all of them set; a place at or before base on it, with as many set before it as it says
-pub record Passed (ws v t : List ℕ) (mark base count : ℕ) : Type 0 where
+pub record TrailMark (ws v t : List ℕ) (mark base count : ℕ) : Type 0 where
   pub ready : Ready (clausesIn ws) v t count
   pub most : length v ≤ 780
   pub below : (i : ℕ) → i < count → getD t i 0 < length v

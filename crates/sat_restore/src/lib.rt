@@ -2,11 +2,11 @@
 ghost use mathlib.Core.Path.{_≡_};
 ghost use Prim.Native.Nat.{_≤_};
 ghost use lib.ListN.{length};
-ghost use Rattle.sat_counters.specs.Tallies.{Indexed};
-ghost use Rattle.sat_counters.specs.Behind.{Behind};
-ghost use Rattle.sat_restore.specs.Restoring.{Passed, Sized};
+ghost use Rattle.sat_counters.specs.Counters.{Indexed};
+ghost use Rattle.sat_counters.specs.Earlier.{CountersBefore};
+ghost use Rattle.sat_restore.specs.Restoring.{TrailMark, Sized};
 use sat_counters::false_literal;
-use sat_counters::rise;
+use sat_counters::increment;
 use sat_trail::wide;
 
 // Copies the words.
@@ -22,7 +22,7 @@ pub fn copy(from: &[u32], to: &mut [u32])
 }
 
 // Gives the clauses the weights back that they lost by the trail's variables from `mark` up to `base`. The trail has `count` variables.
-fn climb(
+fn recount(
     list: &[u16],
     firsts: &[u16; 1561],
     clauses: &[u16],
@@ -34,15 +34,15 @@ fn climb(
     count: usize,
 )
     requires { ⌜ Indexed (now list) (now firsts) (now clauses) × Sized (now clauses) (now words) ⌝ }
-    requires { ⌜ Passed (now list) (now values) (now trail) mark base count × Behind (now list) (now values) (now trail) base count (now words) ⌝ }
-    ensures { λ _. ⌜ Behind (now (list .entry)) (now (values .entry)) (now (trail .entry)) mark count (now (words .exit)) ⌝ }
+    requires { ⌜ TrailMark (now list) (now values) (now trail) mark base count × CountersBefore (now list) (now values) (now trail) base count (now words) ⌝ }
+    ensures { λ _. ⌜ CountersBefore (now (list .entry)) (now (values .entry)) (now (trail .entry)) mark count (now (words .exit)) ⌝ }
 {
     let mut i = base;
     'trail: while mark < i {
         i -= 1;
         let l = false_literal(values, trail[i]);
         let places = &clauses[wide(firsts[l])..wide(firsts[l + 1])];
-        rise(places, l as u16, words);
+        increment(places, l as u16, words);
     }
 }
 
@@ -60,14 +60,14 @@ pub fn restore(
     count: usize,
 )
     requires { ⌜ Indexed (now list) (now firsts) (now clauses) × Sized (now clauses) (now words) × (length (now saved) ≡ length (now words)) ⌝ }
-    requires { ⌜ Passed (now list) (now values) (now trail) mark base count × Behind (now list) (now values) (now trail) base count (now saved) ⌝ }
-    ensures { λ _. ⌜ Behind (now (list .entry)) (now (values .entry)) (now (trail .entry)) mark count (now (words .exit)) × (now (saved .exit) ≡ now (words .exit)) ⌝ }
+    requires { ⌜ TrailMark (now list) (now values) (now trail) mark base count × CountersBefore (now list) (now values) (now trail) base count (now saved) ⌝ }
+    ensures { λ _. ⌜ CountersBefore (now (list .entry)) (now (values .entry)) (now (trail .entry)) mark count (now (words .exit)) × (now (saved .exit) ≡ now (words .exit)) ⌝ }
 {
     copy(saved, words);
     if mark == base {
         return;
     }
-    climb(
+    recount(
         list,
         firsts,
         clauses,

@@ -12,9 +12,9 @@ use Rattle.cnf.specs.Closing.{SettledOr}
 use Rattle.sat_trail.specs.Trail.{Ready, Worked, OnePass}
 use Rattle.sat_trail.specs.Rows.{Forced}
 use Rattle.sat_trail.proofs.Working.{worked-none, asked-quiet, asked-below, worked-broken, worked-store, store-keeps, store-own}
-use Rattle.sat_literal.specs.Asked.{clauseAt}
+use Rattle.sat_literal.specs.Literals.{clauseAt}
 use Rattle.sat_literal.proofs.Walking.{Before, before-first, before-next, end-inside, none-left, clause-in, clause-cases}
-use Rattle.sat_literal.proofs.Asking.{SeenSoFar, within}
+use Rattle.sat_literal.proofs.Literals.{SeenSoFar, within}
 
 -- before the clause at `at`: v₀ and t₀ were the values and the trail where the pass began
 pub record Passing (ws v₀ t₀ : List ℕ) (start : ℕ) (v t : List ℕ) (count at : ℕ) : Type 0 where

@@ -1,1 +1,1 @@
-pub mod Sift
+pub mod Scan

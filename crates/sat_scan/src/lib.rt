@@ -7,14 +7,14 @@ ghost use Rattle.cnf.specs.Clauses.{clausesIn, whole};
 ghost use Rattle.pairs.specs.Entries.{PairTable};
 ghost use Rattle.sat_trail.specs.Rows.{Rows};
 ghost use Rattle.sat_trail.specs.Trail.{Ready};
-ghost use Rattle.sat_scan.specs.Sift.{Sifts};
-use sat_literal::is_right;
+ghost use Rattle.sat_scan.specs.Scan.{Sifts};
+use sat_literal::is_true;
 use sat_literal::is_unset;
 use sat_trail::force;
 use sat_trail::wide;
 
 // Whether a clause is broken, how many variables are set, and how many clauses neither hold nor force.
-pub struct Sifted {
+pub struct Scanned {
     pub broken: bool,
     pub count: usize,
     pub kept: usize,
@@ -23,7 +23,7 @@ pub struct Sifted {
 // One pass over the clauses, which sets what is forced as it meets it and is left at a clause whose literals are all false. It puts down the places
 // of the clauses that neither hold nor force, as many as there is room for. In a clause that starts at `place`, `at` is its end, where the
 // next one starts, and `i` the place of the next literal. The first literal is looked at before the loop: most clauses hold by it.
-pub fn sift(
+pub fn scan_clauses(
     list: &[u16],
     n: u8,
     table: &[u16],
@@ -33,7 +33,7 @@ pub fn sift(
     apart: &mut [u64; 40],
     start: usize,
     places: &mut [u16],
-) -> Sifted
+) -> Scanned
     requires { ⌜ (whole (now list) ≡ true) × (0 < length (now places) → length (now list) ≤ 65536) ⌝ }
     requires { ⌜ Ready (clausesIn (now list)) (now values) (now trail) start ⌝ }
     requires { ⌜ PairTable (now table) × Rows n (now values) (now joined) (now apart) ⌝ }
@@ -52,7 +52,7 @@ pub fn sift(
         let mut last: u16 = 0;
         if i < at {
             last = list[i];
-            if is_right(values, last) {
+            if is_true(values, last) {
                 continue 'clauses;
             }
             if is_unset(values, last) {
@@ -69,7 +69,7 @@ pub fn sift(
                 break 'literals;
             }
             let l = list[i];
-            if is_right(values, l) {
+            if is_true(values, l) {
                 continue 'clauses;
             }
             if is_unset(values, l) {
@@ -87,7 +87,7 @@ pub fn sift(
         }
         count = force(n, table, last, values, trail, joined, apart, count);
     }
-    Sifted {
+    Scanned {
         broken,
         count,
         kept,

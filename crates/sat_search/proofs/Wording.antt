@@ -12,11 +12,11 @@ use Rattle.cnf.specs.Closing.{unsetCount}
 use Rattle.sat_trail.specs.Conclusions.{withTriangles}
 use Rattle.sat_trail.specs.Rows.{Forced}
 use Rattle.sat_trail.proofs.Trails.{grown-count, grown-length}
-use Rattle.sat_counters.proofs.Lagging.{behind-guess, behind-grown, behind-rested}
-use Rattle.sat_restore.specs.Restoring.{Lags, Passed, Sized}
+use Rattle.sat_counters.proofs.Earlier.{behind-guess, behind-grown, behind-rested}
+use Rattle.sat_restore.specs.Restoring.{CountersBeforeIf, TrailMark, Sized}
 use Rattle.sat_decide.specs.Turns.{LowestUnset}
 use Rattle.sat_decide.proofs.Ends.{Turning, after-size, after-count, after-places, counted-before, room-left, list-formed}
-use Rattle.sat_propagate.specs.Preparing.{Prepared, TalliedIf, CaughtIf}
+use Rattle.sat_propagate.specs.Preparing.{Prepared, CountersOfIf, CountersAtRestIf}
 
 -- the latest guess is at the place where the values were last closed, or before it
 pub record Marked (ms : List ℕ) (depth at : ℕ) : Type 0 where
@@ -36,7 +36,7 @@ pub prepared-sized : {ws firsts clauses starts masks words noted words′ : List
 prepared-sized a p = record { few = omega (arith, p .room .noted-room, p .room .short); small = omega (arith, a, p .room .few) }
 
 -- the first closing is done
-pub lags-first : {ws v t words : List ℕ} {count : ℕ} (clauses : List ℕ) → TalliedIf ws clauses v words → count + unsetCount v ≡ length v → count ≤ length t → Lags ws clauses v t count count words
+pub lags-first : {ws v t words : List ℕ} {count : ℕ} (clauses : List ℕ) → CountersOfIf ws clauses v words → count + unsetCount v ≡ length v → count ≤ length t → CountersBeforeIf ws clauses v t count count words
 lags-first clauses t c h = λ k. behind-rested c h (t k)
 
 module _ (ws : List ℕ) (m : ℕ) {v t ms w s : List ℕ} {n b most from count depth made low more : ℕ} {isBroken : Bool} (i : Turning (withTriangles ws m) n b most v t ms from count depth made low) (c : Settles (withTriangles ws m) v t count w s isBroken more) where
@@ -52,11 +52,11 @@ module _ (ws : List ℕ) (m : ℕ) {v t ms w s : List ℕ} {n b most from count 
   }
 
   -- the words that were saved
-  pub saved-on : {words saved : List ℕ} (clauses : List ℕ) → (length ws ≤ length clauses → saved ≡ words) → Lags ws clauses v t from count words → Lags ws clauses w s from more saved
+  pub saved-on : {words saved : List ℕ} (clauses : List ℕ) → (length ws ≤ length clauses → saved ≡ words) → CountersBeforeIf ws clauses v t from count words → CountersBeforeIf ws clauses w s from more saved
   saved-on clauses e l = λ k. rw (e k) (behind-grown (c .grown) (i .queue .inside) trail-room (l k))
 
   -- a clause is broken
-  pub passed : (e : isBroken ≡ true) (d : ℕ) {mark : ℕ} (q : depth ≡ suc d) (z : mark ≡ getD ms d 0) → Marked ms depth from → Passed ws w s mark from more
+  pub passed : (e : isBroken ≡ true) (d : ℕ) {mark : ℕ} (q : depth ≡ suc d) (z : mark ≡ getD ms d 0) → Marked ms depth from → TrailMark ws w s mark from more
   passed e d q z k = record {
     ready = after-ready;
     most = omega (arith, after-size i c, i .most);
@@ -67,7 +67,7 @@ module _ (ws : List ℕ) (m : ℕ) {v t ms w s : List ℕ} {n b most from count 
   }
 
   -- a guess is made
-  pub lags-guess : {x l k last : ℕ} {words u r joined apart : List ℕ} (clauses : List ℕ) (e : isBroken ≡ false) (f : LowestUnset w low x) → CaughtIf ws clauses w words isBroken → l ≡ 2 * x → Forced k w s more l u r joined apart last → Lags ws clauses u r more last words
+  pub lags-guess : {x l k last : ℕ} {words u r joined apart : List ℕ} (clauses : List ℕ) (e : isBroken ≡ false) (f : LowestUnset w low x) → CountersAtRestIf ws clauses w words isBroken → l ≡ 2 * x → Forced k w s more l u r joined apart last → CountersBeforeIf ws clauses u r more last words
   lags-guess {x} {l} clauses e f g z h =
       let half : l / 2 ≡ x = omega (arith, z) in
       λ y. rw (h .assigned .values, h .trail, h .count-more, half) (behind-guess s more x (1 - l % 2) (g y e) (c .grown .counted) (f .first .found (f .inside)) (omega (arith, room-left i c e f, after-count i c)))

@@ -6,8 +6,8 @@ ghost use Rattle.pairs.specs.Entries.{PairTable};
 ghost use Rattle.sat_trail.specs.Conclusions.{withTriangles};
 ghost use Rattle.sat_trail.specs.Rows.{Rows};
 ghost use Rattle.sat_decide.specs.Turns.{Rested, EndsWith};
-ghost use Rattle.sat_propagate.specs.Preparing.{Prepared, TalliedIf};
-use sat_backtrack::retreat;
+ghost use Rattle.sat_propagate.specs.Preparing.{Prepared, CountersOfIf};
+use sat_backtrack::backtrack;
 use sat_decide::Due;
 use sat_decide::Ending;
 use sat_decide::due_at;
@@ -46,7 +46,7 @@ pub fn turns(
     start: usize,
 ) -> Ending
     requires { ⌜ Prepared (now list) (now firsts) (now clauses) (now starts) (now masks) (now words) (now noted) ⌝ }
-    requires { ⌜ TalliedIf (now list) (now clauses) (now values) (now words) × (length (now saved) ≡ length (now words)) ⌝ }
+    requires { ⌜ CountersOfIf (now list) (now clauses) (now values) (now words) × (length (now saved) ≡ length (now words)) ⌝ }
     requires { ⌜ Rested (withTriangles (now list) n) (length (now values)) (now values) (now trail) start ⌝ }
     requires { ⌜ PairTable (now table) × Rows n (now values) (now joined) (now apart) ⌝ }
     ensures { λ r. ⌜ EndsWith (searchTried (withTriangles (now (list .entry)) n) (length (now (values .entry))) budget) r (now (values .exit)) (notFalse (now (values .entry))) ⌝ }
@@ -81,7 +81,7 @@ pub fn turns(
             }
             depth -= 1;
             let mark = wide(marks[depth]);
-            let undone = retreat(
+            let undone = backtrack(
                 list,
                 n,
                 table,

@@ -11,15 +11,15 @@ use lib.ListN.{length, getD, set, take, drop, length-set}
 use lib.Seq.{getD-set-same, getD-set-other, take-suc, take-all, take-add, drop-drop, length-slice}
 use lib.Bits.{bitOr}
 use borrow.Author.Tests.{eq-eqb, ne-eqb, lt-ltb, le-ltb}
-use Rattle.lists.specs.Lists.{gather}
+use Rattle.lists.specs.Lists.{concatMap}
 use Rattle.lists.specs.Bits.{Bit}
 use Rattle.lists.proofs.Bits.{bit-left, bit-right, bit-own}
-use Rattle.lists.proofs.Counts.{gather-append}
+use Rattle.lists.proofs.Counts.{concatMap-append}
 use Rattle.lists.proofs.Members.{one-on}
 use Rattle.cnf.specs.Clauses.{clausesIn, whole, wordsOf}
 use Rattle.cnf.proofs.Words.{clauses-nil, clauses-words, whole-words}
 use Rattle.cnf.specs.Closing.{Formed}
-use Rattle.sat_literal.specs.Asked.{clauseAt, Over}
+use Rattle.sat_literal.specs.Literals.{clauseAt, Over}
 use Rattle.sat_literal.proofs.Walking.{Before, before-first, before-next, end-inside, none-left, clause-in, clause-cases, clause-words}
 use Rattle.sat_segments.specs.Segments.{limitOf, between, Span, InMask, Noted, Placed, Marked}
 
@@ -112,8 +112,8 @@ next-words ws {from} {at} h k = ap (λ (n : ℕ). take n (drop from ws)) size �
         ∙ ap (λ (l : List ℕ). getD ws at 0 ∷ l) (ap (λ (n : ℕ). take n (drop (at + 1) ws)) (sym own) ∙ clause-words ws at refl)
 
 words-snoc : (cs : List (List ℕ)) (c : List ℕ) {n : ℕ} → n ≡ length c → wordsOf (cs ++ (c ∷ [])) ≡ wordsOf cs ++ (n ∷ c)
-unfolding wordsOf gather
-words-snoc cs c {n} e = gather-append (λ d. length d ∷ d) cs (c ∷ []) ∙ ap (λ (l : List ℕ). gather (λ d. length d ∷ d) cs ++ l) (append-nil (length c ∷ c) ∙ ap (λ (m : ℕ). m ∷ c) (sym e))
+unfolding wordsOf concatMap
+words-snoc cs c {n} e = concatMap-append (λ d. length d ∷ d) cs (c ∷ []) ∙ ap (λ (l : List ℕ). concatMap (λ d. length d ∷ d) cs ++ l) (append-nil (length c ∷ c) ∙ ap (λ (m : ℕ). m ∷ c) (sym e))
 
 -- ---- the walk over the clauses
 
@@ -139,7 +139,7 @@ marking {ws} starts masks w a b = record {
   before = before-first w;
   clauses = [];
   first = omega (arith, zero-there);
-  words = rw zero-there (unfold wordsOf gather in refl);
+  words = rw zero-there (unfold wordsOf concatMap in refl);
   mine = λ c m. absurd (not-nil m);
   closed = λ j h. absurd (omega (arith, h));
   passed = λ c m. inl m;
@@ -216,7 +216,7 @@ module _ {ws starts masks : List ℕ} {k at : ℕ} (i : Marking ws starts masks 
       before = i .before;
       clauses = [];
       first = omega (arith, ends-there);
-      words = let none : at - at ≡ 0 = omega arith in rw (ends-there, none) (unfold wordsOf gather in refl);
+      words = let none : at - at ≡ 0 = omega arith in rw (ends-there, none) (unfold wordsOf concatMap in refl);
       mine = λ c m. absurd (not-nil m);
       closed = λ j l. span j l (ℕ-discrete j k);
       passed = λ c m. go c (i .passed c m);

@@ -31,9 +31,9 @@ module _ {masks trail : List ℕ} {from to j word i : ℕ} (l : Lookup masks tra
   pub variable-small : from < i → {x : ℕ} → x ≡ getD trail (i - 1) 0 → x < 780
   variable-small h e = omega (arith, e, l .below (i - 1) (omega arith) (omega (arith, g .high)))
 
-  pub gather-on : from < i → {x : ℕ} → x ≡ getD trail (i - 1) 0 → Gathering masks trail from to j (bitOr (getD masks (x * 16 + j) 0) word) (i - 1)
+  pub concatMap-on : from < i → {x : ℕ} → x ≡ getD trail (i - 1) 0 → Gathering masks trail from to j (bitOr (getD masks (x * 16 + j) 0) word) (i - 1)
   unfolding wordOver
-  gather-on h {x} e = record {
+  concatMap-on h {x} e = record {
     low = omega arith;
     high = omega (arith, g .high);
     so-far = ap (λ (y : ℕ). bitOr (getD masks (y * 16 + j) 0) word) e ∙ ap (λ (y : ℕ). bitOr (getD masks (getD trail (i - 1) 0 * 16 + j) 0) y) (g .so-far) ∙ sym (ap (wordOver masks j) first);
@@ -45,8 +45,8 @@ module _ {masks trail : List ℕ} {from to j word i : ℕ} (l : Lookup masks tra
       first : slice (i - 1) to trail ≡ getD trail (i - 1) 0 ∷ slice i to trail
       first = slice-cons (i - 1) to trail 0 (omega (arith, g .high)) (l .inside) ∙ ap (λ (n : ℕ). getD trail (i - 1) 0 ∷ slice n to trail) next
 
-  pub gather-all : i ≤ from → word ≡ wordOver masks j (slice from to trail)
-  gather-all h = let same : i ≡ from = omega (arith, g .low) in g .so-far ∙ ap (λ (n : ℕ). wordOver masks j (slice n to trail)) same
+  pub concatMap-all : i ≤ from → word ≡ wordOver masks j (slice from to trail)
+  concatMap-all h = let same : i ≡ from = omega (arith, g .low) in g .so-far ∙ ap (λ (n : ℕ). wordOver masks j (slice n to trail)) same
 
 -- ---- all words
 

@@ -15,7 +15,7 @@ use Rattle.cnf.proofs.Queue.{waiting-more}
 use Rattle.sat_trail.specs.Trail.{OnePass, Drained}
 use Rattle.sat_trail.proofs.Trails.{grown-same, grown-slice}
 use Rattle.sat_trail.proofs.Working.{worked-length, worked-count}
-use Rattle.sat_passes.proofs.Settling.{Settling, drain-ready, pass-ready}
+use Rattle.sat_passes.proofs.Passes.{Settling, drain-ready, pass-ready}
 use Rattle.sat_segments.specs.Segments.{Marked, Gathered, Due, SettledOrDue, Lookup}
 use Rattle.sat_segments.proofs.Gathering.{gathered-has}
 

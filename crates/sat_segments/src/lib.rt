@@ -7,7 +7,7 @@ ghost use lib.Seq.{slice};
 ghost use Rattle.lists.specs.Bits.{has};
 ghost use Rattle.cnf.specs.Clauses.{clausesIn, whole};
 ghost use Rattle.cnf.specs.Closing.{Formed};
-ghost use Rattle.sat_literal.specs.Asked.{Over};
+ghost use Rattle.sat_literal.specs.Literals.{Over};
 ghost use Rattle.pairs.specs.Entries.{PairTable};
 ghost use Rattle.sat_trail.specs.Conclusions.{withTriangles};
 ghost use Rattle.sat_trail.specs.Rows.{Rows};
@@ -15,7 +15,7 @@ ghost use Rattle.sat_trail.specs.Trail.{Ready, Queue, OnePass, Settles};
 ghost use Rattle.sat_segments.specs.Segments.{limitOf, Cut, Noted, Marked, wordOver, Gathered, SettledOrDue, Lookup};
 use equality_propagate::drain;
 use equality_spread::Reached;
-use sat_scan::sift;
+use sat_scan::scan_clauses;
 use sat_trail::wide;
 
 // Where segment k, which begins at `at`, takes no further clause: after a 1,024th of the words. The last one takes what is left.
@@ -115,7 +115,7 @@ fn segments_of(masks: &[u64], trail: &[u16], from: usize, to: usize) -> [u64; 16
 }
 
 // One pass over the segments of the set, where every clause elsewhere is settled: what is forced is set as it is met, up to a clause that is broken.
-fn pass_marked(
+fn pass_segments(
     list: &[u16],
     n: u8,
     table: &[u16],
@@ -145,7 +145,7 @@ fn pass_marked(
         let first = starts[here];
         let end = starts[k];
         let mut none = [0u16; 0];
-        let s = sift(
+        let s = scan_clauses(
             &list[first..end],
             n,
             table,
@@ -172,7 +172,7 @@ fn pass_marked(
 
 // Closes the values, where clauses wait for the trail's variables from `from` on: draws the conclusions, then passes over the segments of the variables that
 // were set since the last pass began; and again, until a pass sets nothing or a clause is broken.
-pub fn settle_marked(
+pub fn propagate_segments(
     list: &[u16],
     n: u8,
     table: &[u16],
@@ -203,7 +203,7 @@ pub fn settle_marked(
         let mid = d.count;
         let set = segments_of(masks, trail, at, mid);
         at = mid;
-        let p = pass_marked(
+        let p = pass_segments(
             list,
             n,
             table,

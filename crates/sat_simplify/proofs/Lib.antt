@@ -1,1 +1,1 @@
-pub mod Lightening
+pub mod Simplifying

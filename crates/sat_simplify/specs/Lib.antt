@@ -1,1 +1,1 @@
-pub mod Lighten
+pub mod Simplify

@@ -7,9 +7,9 @@ ghost use Rattle.lists.specs.Lists.{any};
 ghost use Rattle.cnf.specs.Clauses.{valueOf, clausesIn};
 ghost use Rattle.cnf.specs.Search.{isRight};
 ghost use Rattle.sat_trail.specs.Conclusions.{saying};
-ghost use Rattle.sat_literal.specs.Asked.{Over};
-ghost use Rattle.sat_simplify.specs.Lighten.{SetIn, AllSet, units, lightened, clausesAt, variablesSet, Lightens, LightensAll, Written};
-use sat_literal::is_right;
+ghost use Rattle.sat_literal.specs.Literals.{Over};
+ghost use Rattle.sat_simplify.specs.Simplify.{SetIn, AllSet, units, lightened, clausesAt, variablesSet, Lightens, LightensAll, Written};
+use sat_literal::is_true;
 use sat_trail::wide;
 
 // Whether a literal of the clause is right.
@@ -19,7 +19,7 @@ fn holds(literals: &[u16], values: &[u8]) -> bool
 {
     let mut i: usize = 0;
     'literals: while i < literals.len() {
-        if is_right(values, literals[i]) {
+        if is_true(values, literals[i]) {
             return true;
         }
         i += 1;
@@ -89,7 +89,7 @@ fn put_set(values: &[u8], out: &mut [u16]) -> usize
 
 // What is left of the clauses at the places, where there is room: the variables that are set, and the clauses that do not hold. Answers how many words
 // that is, or more than there is room for.
-pub fn lighten(
+pub fn simplify(
     list: &[u16],
     places: &[u16],
     values: &[u8],
@@ -122,7 +122,7 @@ pub fn lighten(
 }
 
 // The same of all clauses of the list, which is walked over, and all variables that are set.
-pub fn lighten_all(list: &[u16], values: &[u8], out: &mut [u16]) -> usize
+pub fn simplify_all(list: &[u16], values: &[u8], out: &mut [u16]) -> usize
     requires { ⌜ LightensAll (now list) (now values) ⌝ }
     ensures { λ r. ⌜ (r ≤ length (now (out .entry)) → Written (now (out .exit)) r (lightened (now (values .entry)) (variablesSet (now (values .entry))) (clausesIn (now (list .entry))))) ⌝ }
 {

@@ -7,15 +7,15 @@ use Prim.Native.Nat.{ℕ, suc, _+_, _*_, _≤_, _<_}
 use native.Mathlib.Omega.{arith}
 use lib.ListN.{length, getD, take, length-append}
 use lib.Seq.{getD-take, length-take-le}
-use Rattle.lists.specs.Lists.{keep, gather}
+use Rattle.lists.specs.Lists.{filter, concatMap}
 use Rattle.cnf.specs.Clauses.{clausesIn, whole, wordsOf}
 use Rattle.cnf.specs.Closing.{Formed, Settled, holds, waits}
 use Rattle.cnf.proofs.Words.{words-clauses}
 use Rattle.pairs.specs.Triangles.{triangles}
 use Rattle.sat_trail.specs.Conclusions.{withTriangles}
-use Rattle.sat_counters.specs.Tallies.{Indexed, Tallied}
+use Rattle.sat_counters.specs.Counters.{Indexed, CountersOf}
 use Rattle.sat_occurrences.specs.Occurrences.{Listed, IndexRoom}
-use Rattle.sat_propagate.specs.Sinking.{Room}
+use Rattle.sat_propagate.specs.Indexed.{Room}
 use Rattle.sat_decide.specs.Turns.{Rested}
 use Rattle.sat_segments.specs.Segments.{Marked}
 use Rattle.sat_propagate.specs.Preparing.{Prepared}
@@ -29,14 +29,14 @@ listed w h f k = record { all-there = w; formed = formed-most f k; short = h }
 
 -- a clause that is settled has a literal
 settled-some : (v c : List ℕ) → Settled v c → 0 < length c
-unfolding keep
+unfolding filter
 settled-some v [] (holds l m r) = absurd (not-nil m)
 settled-some v [] (waits l m ls e) = absurd (omega (arith, ap length e))
 settled-some v (l ∷ c) s = omega arith
 
 -- clauses with literals are at most half as many as their words
 half-many : (cs : List (List ℕ)) → ((c : List ℕ) → List·Memᴰ c cs → 0 < length c) → 2 * length cs ≤ length (wordsOf cs)
-unfolding wordsOf gather
+unfolding wordsOf concatMap
 half-many [] h = omega arith
 half-many (c ∷ cs) h = omega (arith, h c (List·Memᴰ·head refl), half-many cs (λ d m. h d (List·Memᴰ·tail m)), length-append (length c ∷ c) (wordsOf cs))
 
@@ -46,7 +46,7 @@ few-clauses ws m {v = v} w r =
     omega (arith, some, ap length (words-clauses ws w))
 
 -- the words of the clauses alone
-pub tallied-part : {ws v words : List ℕ} {k : ℕ} → Tallied ws v words → k ≡ length (clausesIn ws) → Tallied ws v (take k words)
+pub tallied-part : {ws v words : List ℕ} {k : ℕ} → CountersOf ws v words → k ≡ length (clausesIn ws) → CountersOf ws v (take k words)
 tallied-part {ws} {v} {words} {k} t e = record {
   room = omega (arith, e, length-take-le k words (omega (arith, e, t .room)));
   each = λ c h. getD-take k words c 0 (omega (arith, e, h)) ∙ t .each c h;

@@ -12,17 +12,17 @@ ghost use Rattle.sat_solve.specs.Room.{WordRoom};
 ghost use Rattle.sat_solve.specs.Worth.{worthLightening};
 ghost use Rattle.sat_decide.specs.Turns.{noneSet, Fresh, Begun, Rested, EndsWith};
 use pairs::pair_table;
-use sat_counters::tally;
+use sat_counters::count_literals;
 use sat_decide::Ending;
 use sat_occurrences::index;
 use sat_occurrences::no_firsts;
-use sat_passes::settle;
-use sat_scan::sift;
+use sat_passes::propagate_passes;
+use sat_scan::scan_clauses;
 use sat_search::places;
 use sat_search::turns;
 use sat_segments::mark;
-use sat_simplify::lighten;
-use sat_simplify::lighten_all;
+use sat_simplify::simplify;
+use sat_simplify::simplify_all;
 use sat_trail::own_rows;
 use sat_trial::not_false;
 
@@ -62,7 +62,7 @@ fn turns_indexed(
 {
     let mut firsts = no_firsts();
     index(list, &mut firsts, clauses);
-    let few = tally(list, values, words);
+    let few = count_literals(list, values, words);
     let starts = [0usize; 0];
     let masks = [0u64; 0];
     turns(
@@ -232,7 +232,7 @@ fn turns_any(
 }
 
 // Whether what is left of a list at rest is looked for: where it is too long to be indexed, or not short and half of the variables are set.
-fn worth_lightening(words: usize, set: usize, variables: usize) -> bool
+fn worth_simplifying(words: usize, set: usize, variables: usize) -> bool
     ensures { λ r. ⌜ r ≡ worthLightening words set variables ⌝ }
 {
     if words <= 4096 {
@@ -261,11 +261,11 @@ fn turns_left(
     requires { ⌜ PairTable (now table) × Rows n (now values) (now joined) (now apart) ⌝ }
     ensures { λ r. ⌜ EndsWith (searchTried (withTriangles (now (list .entry)) n) (length (now (values .entry))) budget) r (now (values .exit)) (notFalse (now (values .entry))) ⌝ }
 {
-    if !worth_lightening(list.len(), start, values.len()) {
+    if !worth_simplifying(list.len(), start, values.len()) {
         return turns_any(list, n, table, values, trail, joined, apart, budget, start);
     }
     let mut rest = [0u16; 32768];
-    let k = lighten_all(list, values, &mut rest);
+    let k = simplify_all(list, values, &mut rest);
     if k <= 32768 {
         return turns_any(
             &rest[..k],
@@ -298,7 +298,7 @@ fn finish(
     requires { ⌜ PairTable (now table) × Rows n (now values) (now joined) (now apart) ⌝ }
     ensures { λ r. ⌜ EndsWith (searchTried (withTriangles (now (list .entry)) n) (length (now (values .entry))) budget) (r .ending) (now (values .exit)) (r .ceiling) ⌝ }
 {
-    let r = settle(list, n, table, values, trail, joined, apart, 0, start);
+    let r = propagate_passes(list, n, table, values, trail, joined, apart, 0, start);
     if r.broken {
         return End {
             ending: Ending::Absent(0),
@@ -318,7 +318,7 @@ fn finish(
 }
 
 // A first pass, and then the search over what it leaves of the list, which is mostly short; where that has no room, over the list.
-fn solve_sifted(
+fn solve_scanned(
     list: &[u16],
     n: u8,
     table: &[u16],
@@ -333,7 +333,7 @@ fn solve_sifted(
     ensures { λ r. ⌜ EndsWith (searchTried (withTriangles (now (list .entry)) n) (length (now (values .entry))) budget) (r .ending) (now (values .exit)) (r .ceiling) ⌝ }
 {
     let mut left = [0u16; 4096];
-    let s = sift(list, n, table, values, trail, joined, apart, 0, &mut left);
+    let s = scan_clauses(list, n, table, values, trail, joined, apart, 0, &mut left);
     if s.broken {
         return End {
             ending: Ending::Absent(0),
@@ -343,7 +343,7 @@ fn solve_sifted(
     let start = s.count;
     if s.kept <= 4096 {
         let mut rest = [0u16; 4096];
-        let k = lighten(list, &left[..s.kept], values, &trail[..start], &mut rest);
+        let k = simplify(list, &left[..s.kept], values, &trail[..start], &mut rest);
         if k <= 4096 {
             return finish(
                 &rest[..k],
@@ -372,7 +372,7 @@ pub fn solve(list: &[u16], n: u8, values: &mut [u8], budget: u64) -> End
     let mut apart = [0u64; 40];
     let mut trail = places();
     if list.len() <= 65536 {
-        return solve_sifted(
+        return solve_scanned(
             list,
             n,
             &table,

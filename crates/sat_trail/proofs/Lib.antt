@@ -1,5 +1,5 @@
 pub mod Undoing
-pub mod Unwinding
+pub mod UndoingTo
 pub mod Trails
 pub mod Working
 pub mod Words

@@ -6,7 +6,7 @@ mod retract;
 mod rows;
 
 pub use retract::undo;
-pub use retract::unwind;
+pub use retract::undo_to;
 pub use rows::assign;
 pub use rows::force;
 pub use rows::lacking;

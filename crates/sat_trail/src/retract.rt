@@ -36,7 +36,7 @@ fn unset(
 }
 
 // Unsets the variables of the trail from `mark` on.
-pub fn unwind(
+pub fn undo_to(
     n: u8,
     table: &[u16],
     values: &mut [u8],
@@ -70,7 +70,7 @@ pub fn undo(
     requires { ⌜ PairTable (now table) × Undoable (now values) (now trail) mark count × Rows n (now values) (now joined) (now apart) ⌝ }
     ensures { λ r. ⌜ Undone (now (values .entry)) (now (trail .entry)) mark count (now (values .exit)) r × Rows n (now (values .exit)) (now (joined .exit)) (now (apart .exit)) ⌝ }
 {
-    unwind(n, table, values, trail, joined, apart, mark, count);
+    undo_to(n, table, values, trail, joined, apart, mark, count);
     let x = trail[mark];
     assign(n, table, x, 0, values, joined, apart);
     wide(x)

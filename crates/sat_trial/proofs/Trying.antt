@@ -8,7 +8,7 @@ use lib.ListN.{length, getD, take, drop, set, length-replicate, getD-replicate, 
 use lib.Seq.{drop-cons, getD-append-seam, length-take-le}
 use lib.Dec.{eqb}
 use borrow.Author.Tests.{eqb-true, eqb-false, eq-eqb, ne-eqb}
-use Rattle.lists.specs.Lists.{any, all, keep, over}
+use Rattle.lists.specs.Lists.{any, all, filter, over}
 use Rattle.lists.proofs.Members.{getD-any, getD-map, one-on}
 use Rattle.lists.proofs.Copying.{Writing, writing, same-length, write-on, write-all}
 use Rattle.cnf.specs.Clauses.{valueOf, clausesIn, whole}
@@ -17,8 +17,8 @@ use Rattle.cnf.specs.Trials.{onlyTrue, satisfied, notFalse}
 use Rattle.cnf.specs.Closing.{Formed}
 use Rattle.cnf.proofs.Words.{clauses-nil}
 use Rattle.cnf.proofs.Trials.{length-only, only-one, only-zero}
-use Rattle.sat_literal.specs.Asked.{Over}
-use Rattle.sat_literal.specs.Asked.{clauseAt}
+use Rattle.sat_literal.specs.Literals.{Over}
+use Rattle.sat_literal.specs.Literals.{clauseAt}
 use Rattle.sat_trial.specs.Trial.{heldValue, heldIf}
 use Rattle.sat_literal.proofs.Walking.{Before, before-first, before-next, clause-in, at-clauses, clause-words}
 
@@ -41,17 +41,17 @@ module _ {v : List ℕ} {count i : ℕ} (p : Counting v count i) where
     count-false e = record { inside = omega arith; few = omega (arith, p .few); meets = ap (λ (k : ℕ). count + k) (sym past) ∙ count-at }
       where
         past : notFalse (getD v i 0 ∷ drop (i + 1) v) ≡ notFalse (drop (i + 1) v)
-        past = unfold notFalse keep in rw (eq-eqb (getD v i 0) 0 e, keep)
+        past = unfold notFalse filter in rw (eq-eqb (getD v i 0) 0 e, filter)
 
     pub count-more : (getD v i 0 ≡ 0 → ⊥) → Counting v (count + 1) (i + 1)
     count-more n = record { inside = omega arith; few = omega (arith, p .few); meets = omega (arith, one, count-at) }
       where
         one : notFalse (getD v i 0 ∷ drop (i + 1) v) ≡ suc (notFalse (drop (i + 1) v))
-        one = unfold notFalse keep in rw (ne-eqb (getD v i 0) 0 n, keep)
+        one = unfold notFalse filter in rw (ne-eqb (getD v i 0) 0 n, filter)
 
   pub count-all : length v ≤ i → count ≡ notFalse v
-  unfolding notFalse keep
-  count-all h = let none : notFalse (drop i v) ≡ 0 = rw (drop-of-length-le v h, keep) in omega (arith, none, p .meets)
+  unfolding notFalse filter
+  count-all h = let none : notFalse (drop i v) ≡ 0 = rw (drop-of-length-le v h, filter) in omega (arith, none, p .meets)
 
 -- ---- a literal
 

@@ -10,9 +10,9 @@ ghost use Rattle.cnf.specs.Trials.{onlyTrue, satisfied, notFalse};
 ghost use Rattle.cnf.specs.Closing.{Formed};
 ghost use Rattle.pairs.specs.Entries.{PairTable};
 ghost use Rattle.sat_trail.specs.Rows.{Rows};
-ghost use Rattle.sat_literal.specs.Asked.{Over};
+ghost use Rattle.sat_literal.specs.Literals.{Over};
 ghost use Rattle.sat_trial.specs.Trial.{heldValue, heldIf, backAlong, Retraceable};
-use sat_trail::unwind;
+use sat_trail::undo_to;
 use sat_trail::wide;
 
 // How many variables are not false.
@@ -129,7 +129,7 @@ pub fn walk_back(
         }
         depth -= 1;
         let mark = wide(marks[depth]);
-        unwind(n, table, values, trail, joined, apart, mark, count);
+        undo_to(n, table, values, trail, joined, apart, mark, count);
         count = mark;
     }
 }

@@ -5,15 +5,15 @@ ghost use Rattle.cnf.specs.Clauses.{clausesIn};
 ghost use Rattle.pairs.specs.Entries.{PairTable};
 ghost use Rattle.sat_trail.specs.Rows.{Rows};
 ghost use Rattle.sat_trail.specs.Trail.{Ready};
-ghost use Rattle.sat_units.specs.Heeding.{Told, Heeded};
+ghost use Rattle.sat_units.specs.Units.{UnitsNoted, Heeded};
 use equality_spread::Reached;
-use sat_literal::is_right;
+use sat_literal::is_true;
 use sat_literal::is_unset;
 use sat_trail::force;
 use sat_trail::wide;
 
 // Sees to clauses that have at most one literal left, by their words: one that is unset is forced, and without one the clause is broken.
-pub fn heed(
+pub fn propagate_units(
     list: &[u16],
     n: u8,
     table: &[u16],
@@ -26,7 +26,7 @@ pub fn heed(
     start: usize,
 ) -> Reached
     requires { ⌜ Ready (clausesIn (now list)) (now values) (now trail) start × (length (now values) ≤ 780) ⌝ }
-    requires { ⌜ Told (now list) (now values) (now words) (now noted) ⌝ }
+    requires { ⌜ UnitsNoted (now list) (now values) (now words) (now noted) ⌝ }
     requires { ⌜ PairTable (now table) × Rows n (now values) (now joined) (now apart) ⌝ }
     ensures { λ r. ⌜
         Heeded (now (list .entry)) (now (noted .entry)) (now (values .entry)) (now (trail .entry)) start (now (values .exit)) (now (trail .exit)) (r .broken)
@@ -45,7 +45,7 @@ pub fn heed(
         }
         let m = (w - 2048) as u16;
         k += 1;
-        if is_right(values, m) {
+        if is_true(values, m) {
             continue 'noted;
         }
         if is_unset(values, m) {

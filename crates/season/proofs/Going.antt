@@ -8,7 +8,7 @@ use native.Mathlib.Numerals.{add-one}
 use native.Mathlib.Omega.{arith}
 use lib.ListN.{length, getD, take, drop, replicate, length-append, length-drop, take-append-drop, drop-of-length-le}
 use lib.Seq.{paste, drop-cons, drop-drop, take-all, take-append-add, drop-append-add, length-take-le, length-paste, take-paste, drop-paste}
-use Rattle.lists.specs.Lists.{gather, over, sum}
+use Rattle.lists.specs.Lists.{concatMap, over, sum}
 use Rattle.limits.specs.declared.Limits.{Limits}
 use Rattle.reduce_spec.specs.Reduce.{Reduced, reduceOf, reductionValues}
 use Rattle.reduce_spec.specs.declared.Reduction.{Reduction}
@@ -89,7 +89,7 @@ module _ (L : Limits) (share : ℕ) (lengths tables list maps out : List ℕ) wh
     pub list-long : length list' ≡ length list
     pub maps-long : length maps' ≡ length maps
     pub out-long : length out' ≡ length out
-    pub rows-to : over (gather row (all .answers)) (replicate 64 0) ≡ take (8 * i) values ++ over (gather row (Rest list' maps' out' saved at m o i .answers)) (drop (8 * i) values)
+    pub rows-to : over (concatMap row (all .answers)) (replicate 64 0) ≡ take (8 * i) values ++ over (concatMap row (Rest list' maps' out' saved at m o i .answers)) (drop (8 * i) values)
     pub list-to : all .list ≡ Rest list' maps' out' saved at m o i .list
     pub maps-to : all .maps ≡ take m maps' ++ Rest list' maps' out' saved at m o i .maps
     pub out-to : all .out ≡ take o out' ++ Rest list' maps' out' saved at m o i .out
@@ -118,12 +118,12 @@ module _ (L : Limits) (share : ℕ) (lengths tables list maps out : List ℕ) wh
   module _ {values list' maps' out' : List ℕ} {saved at m o i : ℕ} (g : Going values list' maps' out' saved at m o i) where
     -- behind the last table
     pub ended : length lengths ≤ i → Ran L share lengths tables list maps out values list' maps' out'
-    unfolding reductionsFrom gather
+    unfolding reductionsFrom concatMap
     ended h =
         let e : drop i lengths ≡ [] = drop-of-length-le lengths h in
         let r : Rest list' maps' out' saved at m o i ≡ record { answers = []; list = list'; maps = drop m maps'; out = drop o out' } = ap (λ (ns : List ℕ). reductionsFrom L share saved ns (drop at tables) list' (drop m maps') (drop o out')) e in
         record {
-          rows = sym (g .rows-to ∙ ap (λ (z : Reductions). take (8 * i) values ++ over (gather row (z .answers)) (drop (8 * i) values)) r ∙ ap (λ (l : List ℕ). take (8 * i) values ++ l) (over-none (drop (8 * i) values)) ∙ take-append-drop (8 * i) values);
+          rows = sym (g .rows-to ∙ ap (λ (z : Reductions). take (8 * i) values ++ over (concatMap row (z .answers)) (drop (8 * i) values)) r ∙ ap (λ (l : List ℕ). take (8 * i) values ++ l) (over-none (drop (8 * i) values)) ∙ take-append-drop (8 * i) values);
           kept-list = sym (g .list-to ∙ ap (λ (z : Reductions). z .list) r);
           new-maps = sym (g .maps-to ∙ ap (λ (z : Reductions). take m maps' ++ z .maps) r ∙ take-append-drop m maps');
           new-out = sym (g .out-to ∙ ap (λ (z : Reductions). take o out' ++ z .out) r ∙ take-append-drop o out');
@@ -196,7 +196,7 @@ module _ (L : Limits) (share : ℕ) (lengths tables list maps out : List ℕ) wh
 
         next : {values' : List ℕ} → values' ≡ paste values (8 * i) (turn .row) 8 → length list'' ≡ length list' → length map'' ≡ length (drop m maps') → length out'' ≡ length (drop o out')
             → Going values' list'' (take m maps' ++ map'') (take o out' ++ out'') (share + saved - turn .guesses) (at + n) (m + turn .states) (o + turn .length) (i + 1)
-        unfolding gather
+        unfolding concatMap
         next {values'} e ll lm lo =
             let w = turn .row in
             let long : length w ≡ 8 = turn-row-long in
@@ -221,10 +221,10 @@ module _ (L : Limits) (share : ℕ) (lengths tables list maps out : List ℕ) wh
               out-long = as-long o out' out'' (g .out-in) lo ∙ g .out-long;
               rows-to =
                   g .rows-to
-                  ∙ ap (λ (z : Reductions). take (8 * i) values ++ over (gather row (z .answers)) (drop (8 * i) values)) first
-                  ∙ ap (λ (l : List ℕ). take (8 * i) values ++ l) (over-first (row (r .answer)) (gather row (later .answers)) (drop (8 * i) values) 8 (row-long (r .answer)))
-                  ∙ sym (append-assoc (take (8 * i) values) (row (r .answer)) (over (gather row (later .answers)) (drop 8 (drop (8 * i) values))))
-                  ∙ (λ j. x j ++ over (gather row (same j .answers)) (y j));
+                  ∙ ap (λ (z : Reductions). take (8 * i) values ++ over (concatMap row (z .answers)) (drop (8 * i) values)) first
+                  ∙ ap (λ (l : List ℕ). take (8 * i) values ++ l) (over-first (row (r .answer)) (concatMap row (later .answers)) (drop (8 * i) values) 8 (row-long (r .answer)))
+                  ∙ sym (append-assoc (take (8 * i) values) (row (r .answer)) (over (concatMap row (later .answers)) (drop 8 (drop (8 * i) values))))
+                  ∙ (λ j. x j ++ over (concatMap row (same j .answers)) (y j));
               list-to = g .list-to ∙ ap (λ (z : Reductions). z .list) first ∙ ap (λ (z : Reductions). z .list) same;
               maps-to = laid m (mapTaken b (r .answer)) (turn .states) maps' map'' (r .map) (all .maps) (later .maps) (then .maps) (g .map-in) (g .maps-to ∙ ap (λ (z : Reductions). take m maps' ++ z .maps) first) (t .took-map) (t .new-map) (ap (λ (z : Reductions). z .maps) same);
               out-to = laid o (outTaken (r .answer)) (turn .length) out' out'' (r .out) (all .out) (later .out) (then .out) (g .out-in) (g .out-to ∙ ap (λ (z : Reductions). take o out' ++ z .out) first) (t .took-out) (t .new-out) (ap (λ (z : Reductions). z .out) same);

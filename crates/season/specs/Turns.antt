@@ -3,7 +3,7 @@ use mathlib.Core.Path.{_≡_}
 use mathlib.Core.List.{List}
 use Prim.Native.Nat.{ℕ}
 use lib.ListN.{length, replicate}
-use Rattle.lists.specs.Lists.{gather, over}
+use Rattle.lists.specs.Lists.{concatMap, over}
 use Rattle.limits.specs.declared.Limits.{Limits}
 use Rattle.reduce_spec.specs.Reduce.{reduceOf}
 use Rattle.season_spec.specs.Seasons.{row, guessesIn, mapTaken, outTaken, reductionsFrom}
@@ -21,7 +21,7 @@ pub record Turned (L : Limits) (b : List ℕ) (budget : ℕ) (list map out : Lis
 
 -- all tables: their rows, and the buffers at exit
 pub record Ran (L : Limits) (share : ℕ) (lengths tables list maps out : List ℕ) (values list' maps' out' : List ℕ) : Type 0 where
-  pub rows : values ≡ over (gather row (reductionsFrom L share 0 lengths tables list maps out .answers)) (replicate 64 0)
+  pub rows : values ≡ over (concatMap row (reductionsFrom L share 0 lengths tables list maps out .answers)) (replicate 64 0)
   pub kept-list : list' ≡ reductionsFrom L share 0 lengths tables list maps out .list
   pub new-maps : maps' ≡ reductionsFrom L share 0 lengths tables list maps out .maps
   pub new-out : out' ≡ reductionsFrom L share 0 lengths tables list maps out .out

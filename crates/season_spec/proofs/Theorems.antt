@@ -9,7 +9,7 @@ use native.Mathlib.Omega.{arith}
 use lib.ListN.{length, getD, take, drop, replicate}
 use lib.Seq.{getD-take, getD-drop, take-length}
 use borrow.Author.Tests.{leb-true}
-use Rattle.lists.specs.Lists.{gather, parts, sum, over}
+use Rattle.lists.specs.Lists.{concatMap, parts, sum, over}
 use Rattle.lists.proofs.Members.{and-true}
 use Rattle.lists.proofs.Refusals.{passed, by-number}
 use Rattle.cnf.specs.Search.{madeOf, isSpent}
@@ -59,8 +59,8 @@ unfolding parts sum
 none-reported zero zs h = refl
 none-reported (suc k) zs h = omega (arith, getD-take 8 zs 2 0 (omega arith), h 2, none-reported k (drop 8 zs) (later-zeros 8 zs h))
 
-rows-reported : (rs : List Reduction) (n : ℕ) (zs : List ℕ) → length rs ≤ n → Zeros zs → reportedIn (parts n 8 (gather row rs ++ zs)) ≡ sum (map guessesIn rs)
-unfolding parts sum gather over row guessesIn reductionNumber reductionValues
+rows-reported : (rs : List Reduction) (n : ℕ) (zs : List ℕ) → length rs ≤ n → Zeros zs → reportedIn (parts n 8 (concatMap row rs ++ zs)) ≡ sum (map guessesIn rs)
+unfolding parts sum concatMap over row guessesIn reductionNumber reductionValues
 rows-reported [] n zs l h = none-reported n zs h
 rows-reported (r ∷ rs) zero zs l h = absurd (omega arith)
 rows-reported (Delivered c g w k j u s ∷ rs) (suc n) zs l h = ap (λ (m : ℕ). g + m) (rows-reported rs n zs (omega arith) h)
@@ -134,7 +134,7 @@ module _ (L : Limits) (tables lengths : List ℕ) (guesses : ℕ) (list maps out
   -- the two ways in which a season ends
   data Ends : SeasonDone → Type 0 where
     refused : (k : ℕ) → k ≢ 0 → Ends (record { answer = record { number = k; values = replicate 64 0 }; list = list; maps = maps; out = out })
-    reduced : 1 ≤ length lengths → length lengths ≤ 8 → Ends (record { answer = record { number = 0; values = over (gather row (run .answers)) (replicate 64 0) }; list = run .list; maps = run .maps; out = run .out })
+    reduced : 1 ≤ length lengths → length lengths ≤ 8 → Ends (record { answer = record { number = 0; values = over (concatMap row (run .answers)) (replicate 64 0) }; list = run .list; maps = run .maps; out = run .out })
 
   lengths-few : seasonNumber L tables lengths ≡ 0 → (1 ≤ length lengths) × (length lengths ≤ 8)
   unfolding seasonNumber lengthsFit
@@ -176,7 +176,7 @@ module _ (L : Limits) (tables lengths : List ℕ) (guesses : ℕ) (list maps out
   unfolding guessesReported over
   within-ends (refused k n) = omega (arith, none-reported 8 (replicate 64 0) (zeros 64))
   within-ends (reduced h k) =
-      omega (arith, rows-reported (run .answers) 8 (drop (length (gather row (run .answers))) (replicate 64 0)) (omega (arith, counted L share 0 lengths tables list maps out)) (later-zeros (length (gather row (run .answers))) (replicate 64 0) (zeros 64)), all-within h)
+      omega (arith, rows-reported (run .answers) 8 (drop (length (concatMap row (run .answers))) (replicate 64 0)) (omega (arith, counted L share 0 lengths tables list maps out)) (later-zeros (length (concatMap row (run .answers))) (replicate 64 0) (zeros 64)), all-within h)
 
 -- what the contract of a season says, of the answer and the buffers that the definition gives
 pub promised : (L : Limits) (tables lengths : List ℕ) (guesses : ℕ) (list maps out : List ℕ) {r : Season} {list' maps' out' : List ℕ}

@@ -4,7 +4,7 @@ use mathlib.Core.Bool.{false}
 use mathlib.Core.List.{List, [], _∷_, map}
 use Prim.Native.Nat.{ℕ, _+_, _-_, _*_, _≤_, _<_}
 use lib.ListN.{length, getD, take, drop, replicate}
-use Rattle.lists.specs.Lists.{gather, over, parts, sum}
+use Rattle.lists.specs.Lists.{concatMap, over, parts, sum}
 use Rattle.cnf.specs.Search.{madeOf, isSpent}
 use Rattle.limits.specs.declared.Limits.{Limits}
 use Rattle.reduce_spec.specs.Reduce.{Reduced, searchOfTable, reduceOf}
@@ -68,7 +68,7 @@ module _ (L : Limits) (tables lengths : List ℕ) (guesses : ℕ) (list maps out
   -- the numbers answered are the rows of the answers, zeros past the count, and each answer is a lone reduction's
   pub record EachAlone (r : Season) (maps' out' : List ℕ) : Type 0 where
     pub count : length answersOf ≡ length lengths
-    pub rows : r .values ≡ over (gather row answersOf) (replicate 64 0)
+    pub rows : r .values ≡ over (concatMap row answersOf) (replicate 64 0)
     pub each : (i : ℕ) → i < length lengths → IsLone L (bytesAt i) (allowedAt i) list (drop (mapAt i) maps) (drop (outAt i) out) (answerAt answersOf i) (drop (mapAt i) maps') (drop (outAt i) out')
 
   abbrev pub Alone : Season → List ℕ → List ℕ → Type 0

@@ -4,7 +4,7 @@ use mathlib.Core.List.{List, [], _∷_, _++_}
 use Prim.Native.Nat.{ℕ, _+_, _-_, _/_}
 use lib.ListN.{length, getD, take, drop, replicate}
 use lib.Dec.{eqb, leb}
-use Rattle.lists.specs.Lists.{gather, sum, over, firstFailed}
+use Rattle.lists.specs.Lists.{concatMap, sum, over, firstFailed}
 use Rattle.limits.specs.declared.Limits.{Limits}
 use Rattle.limits.specs.Limits.{limitsFit}
 use Rattle.table_spec.specs.File.{tableOf}
@@ -75,7 +75,7 @@ unfoldable pub seasonOf : Limits → List ℕ → List ℕ → ℕ → List ℕ 
 seasonOf L tables lengths guesses list maps out = elim (eqb (seasonNumber L tables lengths) 0) [
   | true ↦
       let r = reductionsFrom L (shareOf guesses lengths) 0 lengths tables list maps out in
-      record { answer = record { number = 0; values = over (gather row (r .answers)) (replicate 64 0) }; list = r .list; maps = r .maps; out = r .out }
+      record { answer = record { number = 0; values = over (concatMap row (r .answers)) (replicate 64 0) }; list = r .list; maps = r .maps; out = r .out }
   | false ↦ record { answer = refusedBy (seasonNumber L tables lengths); list = list; maps = maps; out = out }
 ]
 

@@ -12,7 +12,7 @@ use lib.ListN.{length, getD, take, drop, length-drop, drop-of-length-le}
 use lib.Seq.{take-nil, drop-cons, drop-drop, getD-drop, length-take-le, take-take}
 use lib.Dec.{eqb, ltb}
 use borrow.Author.Tests.{lt-ltb, le-ltb, eq-eqb, ne-eqb}
-use Rattle.lists.specs.Lists.{keep, parts}
+use Rattle.lists.specs.Lists.{filter, parts}
 use Rattle.lists.proofs.Members.{getD-mem}
 use Rattle.lists.proofs.Parts.{getD-parts}
 use Rattle.table_spec.specs.File.{records}
@@ -254,7 +254,7 @@ module _ {w : ℕ} {s : List ℕ} {wanted from to : ℕ} (i : Span w s wanted fr
   pub ends-within : to * w ≤ length s
   ends-within = omega (arith, mul-le-mul-right w (i .within), div-mul-le-self (length s) w)
 
-  pub found : (k : List ℕ) → Keyed w k wanted → ascend (records w s) ≡ true → records w (take (to * w - from * w) (drop (from * w) s)) ≡ keep (startsWith k) (records w s)
+  pub found : (k : List ℕ) → Keyed w k wanted → ascend (records w s) ≡ true → records w (take (to * w - from * w) (drop (from * w) s)) ≡ filter (startsWith k) (records w s)
   found k d a =
       let m = leading (drop from (records w s)) k in
       let l = i .last k d in

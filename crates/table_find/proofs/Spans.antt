@@ -8,7 +8,7 @@ use native.Mathlib.Omega.{arith}
 use lib.ListN.{length, getD, take, drop}
 use lib.Dec.{eqb, ltb}
 use borrow.Author.Tests.{eqb-true, eq-eqb, ltb-true, le-ltb, ltb-false}
-use Rattle.lists.specs.Lists.{keep, same}
+use Rattle.lists.specs.Lists.{filter, same}
 use Rattle.lists.proofs.Members.{and-true, and-of, or-true, or-false}
 use Rattle.table_spec.specs.Reading.{before, ascendFrom, ascend}
 use Rattle.table_spec.specs.Language.{targets}
@@ -52,10 +52,10 @@ module _ (key : List ℕ) where
   abbrev target : List ℕ → ℕ
   target r = getD r (length key) 0
 
-  keep-all : (rs : List (List ℕ)) → ((r : List ℕ) → List·Memᴰ r rs → startsWith key r ≡ false) → keep (startsWith key) rs ≡ []
-  unfolding keep
-  keep-all [] h = refl
-  keep-all (r ∷ rs) h = rw (h r (List·Memᴰ·head refl), keep) (keep-all rs (λ s m. h s (List·Memᴰ·tail m)))
+  filter-all : (rs : List (List ℕ)) → ((r : List ℕ) → List·Memᴰ r rs → startsWith key r ≡ false) → filter (startsWith key) rs ≡ []
+  unfolding filter
+  filter-all [] h = refl
+  filter-all (r ∷ rs) h = rw (h r (List·Memᴰ·head refl), filter) (filter-all rs (λ s m. h s (List·Memᴰ·tail m)))
 
   none-later : (r : List ℕ) (rs : List (List ℕ)) → ascendFrom r rs ≡ true → before r key ≡ false → startsWith key r ≡ false → (s : List ℕ) → List·Memᴰ s rs → startsWith key s ≡ false
   none-later r rs a b e s m = go (startsWith key s) refl
@@ -72,32 +72,32 @@ module _ (key : List ℕ) where
       go false f = f
 
   -- from the first record on that does not stand before the key
-  from-first : (r : List ℕ) (rs : List (List ℕ)) → ascendFrom r rs ≡ true → before r key ≡ false → keep (startsWith key) (r ∷ rs) ≡ take (leading (r ∷ rs) key) (r ∷ rs)
-  unfolding keep leading ascendFrom
+  from-first : (r : List ℕ) (rs : List (List ℕ)) → ascendFrom r rs ≡ true → before r key ≡ false → filter (startsWith key) (r ∷ rs) ≡ take (leading (r ∷ rs) key) (r ∷ rs)
+  unfolding filter leading ascendFrom
   from-first r [] a b = go (startsWith key r) refl
     where
-      go : (t : Bool) → startsWith key r ≡ t → keep (startsWith key) (r ∷ []) ≡ take (leading (r ∷ []) key) (r ∷ [])
-      go true e = rw (e, keep, leading)
-      go false e = rw (e, keep, leading)
+      go : (t : Bool) → startsWith key r ≡ t → filter (startsWith key) (r ∷ []) ≡ take (leading (r ∷ []) key) (r ∷ [])
+      go true e = rw (e, filter, leading)
+      go false e = rw (e, filter, leading)
   from-first r (s ∷ rs) a b = go (startsWith key r) refl (from-first s rs (and-true (before r s) (ascendFrom s rs) a .1) (not-before r s (and-true (before r s) (ascendFrom s rs) a .0) b))
     where
-      go : (t : Bool) → startsWith key r ≡ t → keep (startsWith key) (s ∷ rs) ≡ take (leading (s ∷ rs) key) (s ∷ rs) → keep (startsWith key) (r ∷ s ∷ rs) ≡ take (leading (r ∷ s ∷ rs) key) (r ∷ s ∷ rs)
-      go true e ih = rw (e, keep, leading) (ap (λ xs. r ∷ xs) ih)
-      go false e ih = rw (e, keep, leading) (keep-all (s ∷ rs) (none-later r (s ∷ rs) a b e))
+      go : (t : Bool) → startsWith key r ≡ t → filter (startsWith key) (s ∷ rs) ≡ take (leading (s ∷ rs) key) (s ∷ rs) → filter (startsWith key) (r ∷ s ∷ rs) ≡ take (leading (r ∷ s ∷ rs) key) (r ∷ s ∷ rs)
+      go true e ih = rw (e, filter, leading) (ap (λ xs. r ∷ xs) ih)
+      go false e ih = rw (e, filter, leading) (filter-all (s ∷ rs) (none-later r (s ∷ rs) a b e))
 
   -- the records that start with the key are those of its span
-  pub kept-span : (rs : List (List ℕ)) → ascend rs ≡ true → keep (startsWith key) rs ≡ take (leading (drop (firstAt rs key) rs) key) (drop (firstAt rs key) rs)
-  unfolding keep firstAt ascend leading
+  pub kept-span : (rs : List (List ℕ)) → ascend rs ≡ true → filter (startsWith key) rs ≡ take (leading (drop (firstAt rs key) rs) key) (drop (firstAt rs key) rs)
+  unfolding filter firstAt ascend leading
   kept-span [] a = refl
   kept-span (r ∷ rs) a = go (before r key) refl (kept-span rs (ascend-rest r rs a))
     where
-      go : (t : Bool) → before r key ≡ t → keep (startsWith key) rs ≡ take (leading (drop (firstAt rs key) rs) key) (drop (firstAt rs key) rs)
-          → keep (startsWith key) (r ∷ rs) ≡ take (leading (drop (firstAt (r ∷ rs) key) (r ∷ rs)) key) (drop (firstAt (r ∷ rs) key) (r ∷ rs))
+      go : (t : Bool) → before r key ≡ t → filter (startsWith key) rs ≡ take (leading (drop (firstAt rs key) rs) key) (drop (firstAt rs key) rs)
+          → filter (startsWith key) (r ∷ rs) ≡ take (leading (drop (firstAt (r ∷ rs) key) (r ∷ rs)) key) (drop (firstAt (r ∷ rs) key) (r ∷ rs))
       go true e ih = rw (e, firstAt) (past (startsWith key r) refl ih)
         where
-          past : (t : Bool) → startsWith key r ≡ t → keep (startsWith key) rs ≡ take (leading (drop (firstAt rs key) rs) key) (drop (firstAt rs key) rs) → keep (startsWith key) (r ∷ rs) ≡ take (leading (drop (firstAt rs key) rs) key) (drop (firstAt rs key) rs)
+          past : (t : Bool) → startsWith key r ≡ t → filter (startsWith key) rs ≡ take (leading (drop (firstAt rs key) rs) key) (drop (firstAt rs key) rs) → filter (startsWith key) (r ∷ rs) ≡ take (leading (drop (firstAt rs key) rs) key) (drop (firstAt rs key) rs)
           past true f ih = absurd (true≢false (sym e ∙ starts-not-before key r f))
-          past false f ih = rw (f, keep) ih
+          past false f ih = rw (f, filter) ih
       go false e ih = rw (e, firstAt) (from-first r rs a e)
 
   pub targets-span : (rs : List (List ℕ)) → ascend rs ≡ true → targets rs key ≡ map target (take (leading (drop (firstAt rs key) rs) key) (drop (firstAt rs key) rs))

@@ -5,7 +5,7 @@ use mathlib.Core.Bool.{Bool, true, false}
 use mathlib.Core.List.{List, [], _∷_}
 use Prim.Native.Nat.{ℕ, suc, _+_}
 use lib.ListN.{length, take, drop}
-use Rattle.lists.specs.Lists.{same, keep}
+use Rattle.lists.specs.Lists.{same, filter}
 use Rattle.table_spec.specs.File.{records}
 use Rattle.table_spec.specs.Reading.{before, ascend}
 use Rattle.table_find.specs.Keys.{Keyed, ByKey}
@@ -40,4 +40,4 @@ LastFrom w s n from r = ByKey w n r (λ k. from + leading (drop from (records w 
 
 -- a part has the records that start with the key, where the records ascend
 abbrev pub StartingOf : ℕ → List ℕ → ℕ → List ℕ → Type 0
-StartingOf w s n part = (k : List ℕ) → Keyed w k n → ascend (records w s) ≡ true → records w part ≡ keep (startsWith k) (records w s)
+StartingOf w s n part = (k : List ℕ) → Keyed w k n → ascend (records w s) ≡ true → records w part ≡ filter (startsWith k) (records w s)

@@ -126,7 +126,7 @@ fn last_at(section: &[u8], width: usize, wanted: u32, from: usize) -> usize
 }
 
 // The part of the section whose records start with the key, by the key's number.
-pub fn starting<'a>(section: &'a [u8], width: usize, wanted: u32) -> &'a [u8]
+pub fn equal_range<'a>(section: &'a [u8], width: usize, wanted: u32) -> &'a [u8]
     ensures { λ r. ⌜ StartingOf width (now (section .entry)) wanted (now r) ⌝ }
 {
     if width < 3 {

@@ -9,8 +9,8 @@ use native.Mathlib.Decide.{decLt}
 use lib.ListN.{length, getD, take, drop}
 use lib.Dec.{eqb}
 use borrow.Author.Tests.{eq-eqb, eqb-true}
-use Rattle.lists.specs.Lists.{keep, same}
-use Rattle.lists.proofs.Members.{and-true, not-so, getD-mem, keep-mem}
+use Rattle.lists.specs.Lists.{filter, same}
+use Rattle.lists.proofs.Members.{and-true, not-so, getD-mem, filter-mem}
 use Rattle.limits.specs.Limits.{stateMost, symbolMost}
 use Rattle.table_spec.specs.File.{records}
 use Rattle.table_spec.specs.Reading.{ascend}
@@ -24,27 +24,27 @@ use Rattle.table_index.proofs.Index.{symbol-small}
 -- ---- what is kept of a list where a run of its elements passes and no other does
 
 module _ {A : Type 0} (f : A → Bool) (d : A) where
-  keep-none : (xs : List A) → ((k : ℕ) → k < length xs → f (getD xs k d) ≡ false) → keep f xs ≡ []
-  unfolding keep
-  keep-none [] h = refl
-  keep-none (x ∷ xs) h = let e : f x ≡ false = h 0 (omega arith) in rw (e, keep) (keep-none xs (λ k l. h (suc k) (omega arith)))
+  filter-none : (xs : List A) → ((k : ℕ) → k < length xs → f (getD xs k d) ≡ false) → filter f xs ≡ []
+  unfolding filter
+  filter-none [] h = refl
+  filter-none (x ∷ xs) h = let e : f x ≡ false = h 0 (omega arith) in rw (e, filter) (filter-none xs (λ k l. h (suc k) (omega arith)))
 
-  keep-first : (m : ℕ) (xs : List A) → m ≤ length xs → ((k : ℕ) → k < m → f (getD xs k d) ≡ true) → ((k : ℕ) → m ≤ k → k < length xs → f (getD xs k d) ≡ false) → keep f xs ≡ take m xs
-  unfolding keep
-  keep-first zero xs l h n = keep-none xs (λ k a. n k (omega arith) a)
-  keep-first (suc m) [] l h n = absurd (omega arith)
-  keep-first (suc m) (x ∷ xs) l h n =
+  filter-first : (m : ℕ) (xs : List A) → m ≤ length xs → ((k : ℕ) → k < m → f (getD xs k d) ≡ true) → ((k : ℕ) → m ≤ k → k < length xs → f (getD xs k d) ≡ false) → filter f xs ≡ take m xs
+  unfolding filter
+  filter-first zero xs l h n = filter-none xs (λ k a. n k (omega arith) a)
+  filter-first (suc m) [] l h n = absurd (omega arith)
+  filter-first (suc m) (x ∷ xs) l h n =
       let e : f x ≡ true = h 0 (omega arith) in
-      rw (e, keep) (ap (λ ys. x ∷ ys) (keep-first m xs (omega arith) (λ k a. h (suc k) (omega arith)) (λ k a b. n (suc k) (omega arith) (omega arith))))
+      rw (e, filter) (ap (λ ys. x ∷ ys) (filter-first m xs (omega arith) (λ k a. h (suc k) (omega arith)) (λ k a b. n (suc k) (omega arith) (omega arith))))
 
-  pub keep-run : (i m : ℕ) (xs : List A) → i + m ≤ length xs → ((k : ℕ) → k < i → f (getD xs k d) ≡ false) → ((k : ℕ) → i ≤ k → k < i + m → f (getD xs k d) ≡ true)
-      → ((k : ℕ) → i + m ≤ k → k < length xs → f (getD xs k d) ≡ false) → keep f xs ≡ take m (drop i xs)
-  unfolding keep
-  keep-run zero m xs l a b c = keep-first m xs (omega arith) (λ k p. b k (omega arith) (omega arith)) (λ k p q. c k (omega arith) q)
-  keep-run (suc i) m [] l a b c = absurd (omega arith)
-  keep-run (suc i) m (x ∷ xs) l a b c =
+  pub filter-run : (i m : ℕ) (xs : List A) → i + m ≤ length xs → ((k : ℕ) → k < i → f (getD xs k d) ≡ false) → ((k : ℕ) → i ≤ k → k < i + m → f (getD xs k d) ≡ true)
+      → ((k : ℕ) → i + m ≤ k → k < length xs → f (getD xs k d) ≡ false) → filter f xs ≡ take m (drop i xs)
+  unfolding filter
+  filter-run zero m xs l a b c = filter-first m xs (omega arith) (λ k p. b k (omega arith) (omega arith)) (λ k p q. c k (omega arith) q)
+  filter-run (suc i) m [] l a b c = absurd (omega arith)
+  filter-run (suc i) m (x ∷ xs) l a b c =
       let e : f x ≡ false = a 0 (omega arith) in
-      rw (e, keep) (keep-run i m xs (omega arith) (λ k p. a (suc k) (omega arith)) (λ k p q. b (suc k) (omega arith) (omega arith)) (λ k p q. c (suc k) (omega arith) (omega arith)))
+      rw (e, filter) (filter-run i m xs (omega arith) (λ k p. a (suc k) (omega arith)) (λ k p q. b (suc k) (omega arith) (omega arith)) (λ k p q. c (suc k) (omega arith) (omega arith)))
 
 -- ---- a record that starts with a state and a symbol
 
@@ -124,7 +124,7 @@ module _ {w : ℕ} {s : List ℕ} {q a i j : ℕ} (b : Block w s q a i j) where
   starts-elsewhere : (k : ℕ) → k < length (records w s) → (placeOf (getD (records w s) k []) ≡ q * symbolMost + a → ⊥) → first (getD (records w s) k []) ≡ false
   starts-elsewhere k l n = not-so _ (λ e. let p = two-start q a (getD (records w s) k []) (long k l) e in n (omega (arith, p .0, p .1)))
 
-  pub block-records : records w (take (j * w - i * w) (drop (i * w) s)) ≡ keep (startsWith (q ∷ a ∷ [])) (records w s)
+  pub block-records : records w (take (j * w - i * w) (drop (i * w) s)) ≡ filter (startsWith (q ∷ a ∷ [])) (records w s)
   block-records =
       let m = j - i in
       let f : j ≡ i + m = omega (arith, ordered) in
@@ -132,39 +132,39 @@ module _ {w : ℕ} {s : List ℕ} {q a i j : ℕ} (b : Block w s q a i j) where
       let n : j ≤ length (records w s) = omega (arith, within, length-records w s) in
       ap (λ v. records w (take v (drop (i * w) s))) e
       ∙ span-records w s i m (omega (arith, b .wide)) (omega (arith, within))
-      ∙ sym (keep-run first [] i m (records w s) (omega arith)
+      ∙ sym (filter-run first [] i m (records w s) (omega arith)
       (λ k l. starts-elsewhere k (omega (arith, ordered)) (λ o. omega (arith, b .low .before k l)))
       (λ k l o. let r : k < length (records w s) = omega arith in starts-here k r (omega (arith, b .low .behind k l r, b .high .before k (omega arith))))
       (λ k l o. starts-elsewhere k o (λ p. omega (arith, b .high .behind k (omega arith) o))))
 
 -- ---- records kept are lent as well
 
-ascend-keep : (f : List ℕ → Bool) (rs : List (List ℕ)) → ascend rs ≡ true → ascend (keep f rs) ≡ true
-unfolding keep ascend
-ascend-keep f [] a = refl
-ascend-keep f (r ∷ rs) a = go (f r) refl (ascend-keep f rs (ascend-rest r rs a))
+ascend-filter : (f : List ℕ → Bool) (rs : List (List ℕ)) → ascend rs ≡ true → ascend (filter f rs) ≡ true
+unfolding filter ascend
+ascend-filter f [] a = refl
+ascend-filter f (r ∷ rs) a = go (f r) refl (ascend-filter f rs (ascend-rest r rs a))
   where
-    go : (t : Bool) → f r ≡ t → ascend (keep f rs) ≡ true → ascend (keep f (r ∷ rs)) ≡ true
-    go true e ih = rw (e, keep) (ascend-cons r (keep f rs) (λ s m. ascend-behind r rs a s (keep-mem f rs s m .0)) ih)
-    go false e ih = rw (e, keep) ih
+    go : (t : Bool) → f r ≡ t → ascend (filter f rs) ≡ true → ascend (filter f (r ∷ rs)) ≡ true
+    go true e ih = rw (e, filter) (ascend-cons r (filter f rs) (λ s m. ascend-behind r rs a s (filter-mem f rs s m .0)) ih)
+    go false e ih = rw (e, filter) ih
 
-keep-short : (f : List ℕ → Bool) (rs : List (List ℕ)) → length (keep f rs) ≤ length rs
-unfolding keep
-keep-short f [] = omega arith
-keep-short f (r ∷ rs) = go (f r) (keep-short f rs)
+filter-short : (f : List ℕ → Bool) (rs : List (List ℕ)) → length (filter f rs) ≤ length rs
+unfolding filter
+filter-short f [] = omega arith
+filter-short f (r ∷ rs) = go (f r) (filter-short f rs)
   where
-    go : (t : Bool) → length (keep f rs) ≤ length rs → length {A = List ℕ} (elim t [ true ↦ r ∷ keep f rs | false ↦ keep f rs ]) ≤ suc (length rs)
+    go : (t : Bool) → length (filter f rs) ≤ length rs → length {A = List ℕ} (elim t [ true ↦ r ∷ filter f rs | false ↦ filter f rs ]) ≤ suc (length rs)
     go true ih = omega arith
     go false ih = omega arith
 
-pub lent-kept : {w n : ℕ} {s : List ℕ} (part : List ℕ) (f : List ℕ → Bool) → Lent w n s → records w part ≡ keep f (records w s) → Lent w n part
+pub lent-kept : {w n : ℕ} {s : List ℕ} (part : List ℕ) (f : List ℕ → Bool) → Lent w n s → records w part ≡ filter f (records w s) → Lent w n part
 lent-kept {w} {n} {s} part f h e =
     record {
-      in-order = ap ascend e ∙ ascend-keep f (records w s) (h .in-order);
-      few = omega (arith, ap length e, keep-short f (records w s), h .few);
+      in-order = ap ascend e ∙ ascend-filter f (records w s) (h .in-order);
+      few = omega (arith, ap length e, filter-short f (records w s), h .few);
       states = λ r m. h .states r (among r m);
       symbols = λ r m. h .symbols r (among r m);
     }
   where
     among : (r : List ℕ) → List·Memᴰ r (records w part) → List·Memᴰ r (records w s)
-    among r m = keep-mem f (records w s) r (subst (λ xs. List·Memᴰ r xs) e m) .0
+    among r m = filter-mem f (records w s) r (subst (λ xs. List·Memᴰ r xs) e m) .0

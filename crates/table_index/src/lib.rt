@@ -3,7 +3,7 @@ ghost use mathlib.Core.Path.{_≡_};
 ghost use mathlib.Core.List.{[], _∷_};
 ghost use Prim.Native.Nat.{_≤_, _<_};
 ghost use lib.ListN.{length};
-ghost use Rattle.lists.specs.Lists.{keep};
+ghost use Rattle.lists.specs.Lists.{filter};
 ghost use Rattle.table_spec.specs.File.{records};
 ghost use Rattle.table_find.specs.Spans.{startsWith};
 ghost use Rattle.table_index.specs.Index.{Lent, Indexed, Placed, Filled};
@@ -51,7 +51,7 @@ pub fn starts_of(section: &[u8], width: usize, n: usize) -> [u16; 2561]
 // The records of a state and a symbol: the part of the section from where they begin to where the next ones do.
 pub fn block<'a>(section: &'a [u8], width: usize, starts: &[u16; 2561], q: u8, a: u8) -> &'a [u8]
     requires { ⌜ (3 ≤ width) × Lent width 40 (now section) × Placed (records width (now section)) (now starts) q a × (q < 40) × (a < 64) ⌝ }
-    ensures { λ r. ⌜ records width (now r) ≡ keep (startsWith (q ∷ a ∷ [])) (records width (now (section .entry))) ⌝ }
+    ensures { λ r. ⌜ records width (now r) ≡ filter (startsWith (q ∷ a ∷ [])) (records width (now (section .entry))) ⌝ }
 {
     let x = wide(q) * 64 + wide(a);
     let from = place(starts[x]);

@@ -11,9 +11,9 @@ use lib.ListN.{length, getD, take, drop, length-append, take-append-drop, drop-o
 use lib.Seq.{slice, length-slice, drop-cons, take-take, take-append-seam, drop-append-seam, getD-append-add, take-append-add}
 use lib.Dec.{ltb}
 use borrow.Author.Tests.{ltb-true}
-use Rattle.lists.specs.Lists.{all, flat, gather, firstFailed}
+use Rattle.lists.specs.Lists.{all, concat, concatMap, firstFailed}
 use Rattle.lists.proofs.Members.{and-true, all-true}
-use Rattle.lists.proofs.Parts.{length-parts, parts-wide, flat-parts, length-flat, parts-flat}
+use Rattle.lists.proofs.Parts.{length-parts, parts-wide, concat-parts, length-concat, parts-concat}
 use Rattle.limits.proofs.Within.{Within, limits-within}
 use Rattle.limits.specs.declared.Limits.{Limits}
 use Rattle.table_spec.specs.Limits.{longest}
@@ -44,8 +44,8 @@ unfolding word16
 word-behind p g n = rw (add-assoc, getD-append-add p g n 0, getD-append-add p g (n + 1) 0)
 
 -- word k of words written one behind the other
-word-gathered : (ds : List ℕ) (k : ℕ) → k < length ds → getD ds k 0 < 65536 → word16 (gather bytes16 ds) (2 * k) ≡ getD ds k 0
-unfolding word16 bytes16 gather
+word-gathered : (ds : List ℕ) (k : ℕ) → k < length ds → getD ds k 0 < 65536 → word16 (concatMap bytes16 ds) (2 * k) ≡ getD ds k 0
+unfolding word16 bytes16 concatMap
 word-gathered [] k l h = absurd (omega arith)
 word-gathered (d ∷ ds) zero l h = omega arith
 word-gathered (d ∷ ds) (suc k) l h = rw (mul-suc 2 k, add-two, suc-add, suc-add) (word-gathered ds k (omega arith) h)
@@ -81,14 +81,14 @@ unfolding records
 records-wide w s = parts-wide (length s / w) w s (div-mul-le-self (length s) w)
 
 -- a whole number of records is the section again
-flat-records : (w : ℕ) (s : List ℕ) → length s % w ≡ 0 → flat (records w s) ≡ s
+concat-records : (w : ℕ) (s : List ℕ) → length s % w ≡ 0 → concat (records w s) ≡ s
 unfolding records
-flat-records w s h = flat-parts (length s / w) w s (omega (arith, div-add-mod' (length s) w))
+concat-records w s h = concat-parts (length s / w) w s (omega (arith, div-add-mod' (length s) w))
 
 -- records put together and read
-records-flat : (w : ℕ) (rs : List (List ℕ)) → 0 < w → ((r : List ℕ) → List·Memᴰ r rs → length r ≡ w) → records w (flat rs) ≡ rs
+records-concat : (w : ℕ) (rs : List (List ℕ)) → 0 < w → ((r : List ℕ) → List·Memᴰ r rs → length r ≡ w) → records w (concat rs) ≡ rs
 unfolding records
-records-flat w rs p h = rw (length-flat w rs h, mul-div-cancel (length rs) p) (parts-flat w rs h)
+records-concat w rs p h = rw (length-concat w rs h, mul-div-cancel (length rs) p) (parts-concat w rs h)
 
 pub length-records : (w : ℕ) (s : List ℕ) → length (records w s) ≡ length s / w
 unfolding records
@@ -100,7 +100,7 @@ unfolding tableOf
 read-well-formed L b e =
     formed-of
     (read-passed L b e .limits)
-    (read-passed L b e .dated)
+    (read-passed L b e .versioned)
     (record {
       internals = records-wide 3 (slice (start b 2) (start b 3) b);
       calls = records-wide 3 (slice (start b 3) (start b 4) b);
@@ -132,18 +132,18 @@ module _ (L : Limits) (b : List ℕ) (p : ReadPasses L b) where
 
   from-returns : fromReturns (tableOf b) ≡ slice (start b 4) (trailer b) b
   unfolding fromReturns tableOf
-  from-returns = flat-records 4 (slice (start b 4) (trailer b) b) (ap (λ n. n % 4) (length-from b 4 (omega arith)) ∙ p .framed .fours-4)
+  from-returns = concat-records 4 (slice (start b 4) (trailer b) b) (ap (λ n. n % 4) (length-from b 4 (omega arith)) ∙ p .framed .fours-4)
 
   from-calls : fromCalls (tableOf b) ≡ slice (start b 3) (trailer b) b
   unfolding fromCalls tableOf
   from-calls =
-      let whole = flat-records 3 (slice (start b 3) (start b 4) b) (ap (λ n. n % 3) (length-between b 3 4 (p .framed .falls-4) (omega arith)) ∙ p .framed .threes-3) in
+      let whole = concat-records 3 (slice (start b 3) (start b 4) b) (ap (λ n. n % 3) (length-between b 3 4 (p .framed .falls-4) (omega arith)) ∙ p .framed .threes-3) in
       (λ i. whole i ++ from-returns i) ∙ join 3 4 (p .framed .falls-4)
 
   from-internals : fromInternals (tableOf b) ≡ slice (start b 2) (trailer b) b
   unfolding fromInternals tableOf
   from-internals =
-      let whole = flat-records 3 (slice (start b 2) (start b 3) b) (ap (λ n. n % 3) (length-between b 2 3 (p .framed .falls-3) (omega arith)) ∙ p .framed .threes-2) in
+      let whole = concat-records 3 (slice (start b 2) (start b 3) b) (ap (λ n. n % 3) (length-between b 2 3 (p .framed .falls-3) (omega arith)) ∙ p .framed .threes-2) in
       (λ i. whole i ++ from-calls i) ∙ join 2 3 (p .framed .falls-3)
 
   from-states : fromStates (tableOf b) ≡ slice (start b 1) (trailer b) b
@@ -165,8 +165,8 @@ module _ (L : Limits) (b : List ℕ) (p : ReadPasses L b) where
       let e : trailer b + 2 * k + 2 ≡ trailer b + 2 * suc k = omega arith in
       bytes-on b h (trailer b + 2 * k) (omega arith) ∙ ap (λ n. bytes16 (distance b k) ++ drop n b) e
 
-  trailing : Bytes b → gather bytes16 (distance b 0 ∷ distance b 1 ∷ distance b 2 ∷ distance b 3 ∷ distance b 4 ∷ distance b 5 ∷ []) ≡ drop (trailer b) b
-  unfolding gather trailer
+  trailing : Bytes b → concatMap bytes16 (distance b 0 ∷ distance b 1 ∷ distance b 2 ∷ distance b 3 ∷ distance b 4 ∷ distance b 5 ∷ []) ≡ drop (trailer b) b
+  unfolding concatMap trailer
   trailing h =
       let next : ℕ → List ℕ → List ℕ = λ k e. bytes16 (distance b k) ++ e in
       let past : length b ≤ trailer b + 12 = omega arith in
@@ -184,7 +184,7 @@ module _ (L : Limits) (b : List ℕ) (p : ReadPasses L b) where
       let e2 = ap length from-internals ∙ length-from b 2 (omega arith) in
       let e3 = ap length from-calls ∙ length-from b 3 (omega arith) in
       let e4 = ap length from-returns ∙ length-from b 4 (omega arith) in
-      (λ i. gather bytes16 (e0 i ∷ e1 i ∷ e2 i ∷ e3 i ∷ e4 i ∷ version b ∷ [])) ∙ trailing h
+      (λ i. concatMap bytes16 (e0 i ∷ e1 i ∷ e2 i ∷ e3 i ∷ e4 i ∷ version b ∷ [])) ∙ trailing h
 
 pub bytes-of-table : (L : Limits) (b : List ℕ) → Bytes b → Readable L b → bytesOf (tableOf b) ≡ b
 unfolding bytesOf
@@ -208,11 +208,11 @@ pub record Lengths (t : Table) : Type 0 where
   pub bytes : length (bytesOf t) ≡ length (fromSymbols t) + 12
 
 pub lengths : (t : Table) → Wide t → Lengths t
-unfolding fromReturns fromCalls fromInternals fromStates fromSymbols bytesOf trailerOf gather bytes16
+unfolding fromReturns fromCalls fromInternals fromStates fromSymbols bytesOf trailerOf concatMap bytes16
 lengths t w = record {
-  returns = omega (arith, length-flat 4 (t .returns) (w .returns));
-  calls = omega (arith, length-flat 3 (t .calls) (w .calls), length-append (flat (t .calls)) (fromReturns t));
-  internals = omega (arith, length-flat 3 (t .internals) (w .internals), length-append (flat (t .internals)) (fromCalls t));
+  returns = omega (arith, length-concat 4 (t .returns) (w .returns));
+  calls = omega (arith, length-concat 3 (t .calls) (w .calls), length-append (concat (t .calls)) (fromReturns t));
+  internals = omega (arith, length-concat 3 (t .internals) (w .internals), length-append (concat (t .internals)) (fromCalls t));
   states = length-append (t .states) (fromInternals t);
   symbols = length-append (t .symbols) (fromStates t);
   bytes = length-append (fromSymbols t) (trailerOf t);
@@ -258,9 +258,9 @@ module _ (L : Limits) (t : Table) (f : WellFormed L t) where
   d4 : distance (bytesOf t) 4 ≡ length (fromReturns t)
   d4 = word-is 4 (omega arith) (omega (arith, n, small))
 
-  dated : version (bytesOf t) ≡ t .version
+  versioned : version (bytesOf t) ≡ t .version
   unfolding version distance
-  dated = word-is 5 (omega arith) (omega (arith, version-small (f .dated)))
+  versioned = word-is 5 (omega arith) (omega (arith, version-small (f .versioned)))
 
   -- a section of the bytes, by what stands before it and behind it
   section : (p x q : List ℕ) → fromSymbols t ≡ p ++ (x ++ q) → slice (length (fromSymbols t) - length (x ++ q)) (length (fromSymbols t) - length q) (bytesOf t) ≡ x
@@ -285,29 +285,29 @@ module _ (L : Limits) (t : Table) (f : WellFormed L t) where
   unfolding fromSymbols fromStates
   states-again = at-starts 1 2 d1 d2 ∙ section (t .symbols) (t .states) (fromInternals t) refl
 
-  internals-again : slice (start (bytesOf t) 2) (start (bytesOf t) 3) (bytesOf t) ≡ flat (t .internals)
+  internals-again : slice (start (bytesOf t) 2) (start (bytesOf t) 3) (bytesOf t) ≡ concat (t .internals)
   unfolding fromSymbols fromStates fromInternals
-  internals-again = at-starts 2 3 d2 d3 ∙ section (t .symbols ++ t .states) (flat (t .internals)) (fromCalls t) (simp append-assoc)
+  internals-again = at-starts 2 3 d2 d3 ∙ section (t .symbols ++ t .states) (concat (t .internals)) (fromCalls t) (simp append-assoc)
 
-  calls-again : slice (start (bytesOf t) 3) (start (bytesOf t) 4) (bytesOf t) ≡ flat (t .calls)
+  calls-again : slice (start (bytesOf t) 3) (start (bytesOf t) 4) (bytesOf t) ≡ concat (t .calls)
   unfolding fromSymbols fromStates fromInternals fromCalls
-  calls-again = at-starts 3 4 d3 d4 ∙ section (t .symbols ++ t .states ++ flat (t .internals)) (flat (t .calls)) (fromReturns t) (simp append-assoc)
+  calls-again = at-starts 3 4 d3 d4 ∙ section (t .symbols ++ t .states ++ concat (t .internals)) (concat (t .calls)) (fromReturns t) (simp append-assoc)
 
-  returns-again : slice (start (bytesOf t) 4) (trailer (bytesOf t)) (bytesOf t) ≡ flat (t .returns)
+  returns-again : slice (start (bytesOf t) 4) (trailer (bytesOf t)) (bytesOf t) ≡ concat (t .returns)
   unfolding start fromSymbols fromStates fromInternals fromCalls fromReturns
   returns-again =
       let end : trailer (bytesOf t) ≡ length (fromSymbols t) - 0 = omega (arith, trailer-at) in
-      let from : length (fromReturns t) ≡ length (flat (t .returns) ++ []) = ap length (sym (append-nil (flat (t .returns)))) in
+      let from : length (fromReturns t) ≡ length (concat (t .returns) ++ []) = ap length (sym (append-nil (concat (t .returns)))) in
       (λ i. slice (trailer-at i - (d4 ∙ from) i) (end i) (bytesOf t))
-      ∙ section (t .symbols ++ t .states ++ flat (t .internals) ++ flat (t .calls)) (flat (t .returns)) [] (simp (append-assoc, append-nil))
+      ∙ section (t .symbols ++ t .states ++ concat (t .internals) ++ concat (t .calls)) (concat (t .returns)) [] (simp (append-assoc, append-nil))
 
   pub table-of-bytes : tableOf (bytesOf t) ≡ t
   unfolding tableOf
   table-of-bytes =
-      let internals = ap (records 3) internals-again ∙ records-flat 3 (t .internals) (omega arith) (formed-wide f .internals) in
-      let calls = ap (records 3) calls-again ∙ records-flat 3 (t .calls) (omega arith) (formed-wide f .calls) in
-      let returns = ap (records 4) returns-again ∙ records-flat 4 (t .returns) (omega arith) (formed-wide f .returns) in
-      λ i. record { version = dated i; symbols = symbols-again i; states = states-again i; internals = internals i; calls = calls i; returns = returns i }
+      let internals = ap (records 3) internals-again ∙ records-concat 3 (t .internals) (omega arith) (formed-wide f .internals) in
+      let calls = ap (records 3) calls-again ∙ records-concat 3 (t .calls) (omega arith) (formed-wide f .calls) in
+      let returns = ap (records 4) returns-again ∙ records-concat 4 (t .returns) (omega arith) (formed-wide f .returns) in
+      λ i. record { version = versioned i; symbols = symbols-again i; states = states-again i; internals = internals i; calls = calls i; returns = returns i }
 
   pub passed-bytes : ReadPasses L (bytesOf t)
   unfolding longest
@@ -315,7 +315,7 @@ module _ (L : Limits) (t : Table) (f : WellFormed L t) where
     limits = f .limits;
     long = omega (arith, n);
     short = omega (arith, n, few);
-    dated = ap versionFits dated ∙ f .dated;
+    versioned = ap versionFits versioned ∙ f .versioned;
     framed =
         record {
           whole = d0 ∙ sym trailer-at;
@@ -345,13 +345,13 @@ bytes-append [] q h k i = k i
 bytes-append (x ∷ p) q h k zero = h 0
 bytes-append (x ∷ p) q h k (suc i) = bytes-append p q (λ j. h (suc j)) k i
 
-bytes-flat : (rs : List (List ℕ)) → ((r : List ℕ) → List·Memᴰ r rs → Bytes r) → Bytes (flat rs)
-unfolding flat
-bytes-flat [] h i = omega arith
-bytes-flat (r ∷ rs) h i = bytes-append r (flat rs) (h r (List·Memᴰ·head refl)) (bytes-flat rs (λ s m. h s (List·Memᴰ·tail m))) i
+bytes-concat : (rs : List (List ℕ)) → ((r : List ℕ) → List·Memᴰ r rs → Bytes r) → Bytes (concat rs)
+unfolding concat
+bytes-concat [] h i = omega arith
+bytes-concat (r ∷ rs) h i = bytes-append r (concat rs) (h r (List·Memᴰ·head refl)) (bytes-concat rs (λ s m. h s (List·Memᴰ·tail m))) i
 
-bytes-words : (ds : List ℕ) → Bytes (gather bytes16 ds)
-unfolding gather bytes16
+bytes-words : (ds : List ℕ) → Bytes (concatMap bytes16 ds)
+unfolding concatMap bytes16
 bytes-words [] i = omega arith
 bytes-words (d ∷ ds) zero = omega arith
 bytes-words (d ∷ ds) (suc zero) = omega arith
@@ -389,11 +389,11 @@ bytes-bytes L t f = bytes-append (fromSymbols t) (trailerOf t) (bytes-append (t 
     states : Bytes (t .states)
     states = bytes-of (t .states) (λ x m. let l = c .state-bytes x m in omega (arith, byte-most (t .version)))
 
-    section : (kind : ℕ) (rs : List (List ℕ)) → ((r : List ℕ) → List·Memᴰ r rs → recordFits t kind r ≡ true) → Bytes (flat rs)
-    section kind rs h = bytes-flat rs (λ r m. bytes-record t kind (omega (arith, c, s)) (omega (arith, c, s)) r (h r m))
+    section : (kind : ℕ) (rs : List (List ℕ)) → ((r : List ℕ) → List·Memᴰ r rs → recordFits t kind r ≡ true) → Bytes (concat rs)
+    section kind rs h = bytes-concat rs (λ r m. bytes-record t kind (omega (arith, c, s)) (omega (arith, c, s)) r (h r m))
 
     from-calls : Bytes (fromCalls t)
-    from-calls = bytes-append (flat (t .calls)) (fromReturns t) (section 1 (t .calls) (c .calls-fit)) (section 2 (t .returns) (c .returns-fit))
+    from-calls = bytes-append (concat (t .calls)) (fromReturns t) (section 1 (t .calls) (c .calls-fit)) (section 2 (t .returns) (c .returns-fit))
 
     from-states : Bytes (fromStates t)
-    from-states = bytes-append (t .states) (fromInternals t) states (bytes-append (flat (t .internals)) (fromCalls t) (section 0 (t .internals) (c .internals-fit)) from-calls)
+    from-states = bytes-append (t .states) (fromInternals t) states (bytes-append (concat (t .internals)) (fromCalls t) (section 0 (t .internals) (c .internals-fit)) from-calls)

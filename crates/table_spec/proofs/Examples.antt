@@ -4,7 +4,7 @@ use mathlib.Core.Path.{_≡_, refl}
 use mathlib.Core.List.{List, [], _∷_, _++_, map}
 use Prim.Native.Nat.{ℕ}
 use lib.ListN.{replicate}
-use Rattle.lists.specs.Lists.{any, all, parts, gather, firstFailed}
+use Rattle.lists.specs.Lists.{any, all, parts, concatMap, firstFailed}
 use Rattle.limits.specs.declared.Limits.{Limits}
 use Rattle.limits.specs.Limits.{limitsFit}
 use Rattle.limits.specs.Limits.{standard}
@@ -14,7 +14,7 @@ use Rattle.table_spec.specs.Reading.{lengthFits, versionFits, distancesF
 
 -- sections, the five distances and the version
 abbrev file : List ℕ → ℕ → ℕ → ℕ → ℕ → ℕ → ℕ → List ℕ
-file b d0 d1 d2 d3 d4 v = b ++ gather bytes16 (d0 ∷ d1 ∷ d2 ∷ d3 ∷ d4 ∷ v ∷ [])
+file b d0 d1 d2 d3 d4 v = b ++ concatMap bytes16 (d0 ∷ d1 ∷ d2 ∷ d3 ∷ d4 ∷ v ∷ [])
 
 -- "Table T"
 abbrev T : List ℕ
@@ -74,7 +74,7 @@ files =
     ∷ []
 
 numbers : map (readNumber standard) files ≡ 0 ∷ 0 ∷ 1 ∷ 1 ∷ 2 ∷ 2 ∷ 2 ∷ 2 ∷ 3 ∷ 3 ∷ 3 ∷ 3 ∷ 3 ∷ 4 ∷ 4 ∷ 4 ∷ 5 ∷ 5 ∷ 0 ∷ 5 ∷ 6 ∷ 6 ∷ 7 ∷ 7 ∷ 8 ∷ 8 ∷ 8 ∷ []
-unfolding any all parts gather firstFailed limitsFit longest word16 trailer distance version start records tableOf bytes16 lengthFits versionFits distancesFit countsFit stateByteMost bytesFit isInitial startFits recordFits recordsFit before ascendFrom ascend orderFits tableTests readNumber
+unfolding any all parts concatMap firstFailed limitsFit longest word16 trailer distance version start records tableOf bytes16 lengthFits versionFits distancesFit countsFit stateByteMost bytesFit isInitial startFits recordFits recordsFit before ascendFrom ascend orderFits tableTests readNumber
 numbers = refl
 
 abbrev within : ℕ → ℕ → Limits
@@ -93,10 +93,10 @@ limited :
     ∷ readNumber (within 4 3) T
     ∷ []
     ≡ 39 ∷ 39 ∷ 39 ∷ 39 ∷ 1 ∷ 2 ∷ 6 ∷ 4 ∷ 0 ∷ []
-unfolding any all parts gather firstFailed limitsFit longest word16 trailer distance version start records tableOf bytes16 lengthFits versionFits distancesFit countsFit stateByteMost bytesFit isInitial startFits recordFits recordsFit before ascendFrom ascend orderFits tableTests readNumber
+unfolding any all parts concatMap firstFailed limitsFit longest word16 trailer distance version start records tableOf bytes16 lengthFits versionFits distancesFit countsFit stateByteMost bytesFit isInitial startFits recordFits recordsFit before ascendFrom ascend orderFits tableTests readNumber
 limited = refl
 
 -- "Reading answers the five section starts."
 starts-of-T : readingValues (readOf standard T) ≡ 0 ∷ 3 ∷ 7 ∷ 16 ∷ 19 ∷ []
-unfolding any all parts gather firstFailed limitsFit longest word16 trailer distance version start records tableOf bytes16 lengthFits versionFits distancesFit countsFit stateByteMost bytesFit isInitial startFits recordFits recordsFit before ascendFrom ascend orderFits tableTests readNumber startsOf readOf readingValues
+unfolding any all parts concatMap firstFailed limitsFit longest word16 trailer distance version start records tableOf bytes16 lengthFits versionFits distancesFit countsFit stateByteMost bytesFit isInitial startFits recordFits recordsFit before ascendFrom ascend orderFits tableTests readNumber startsOf readOf readingValues
 starts-of-T = refl

@@ -10,8 +10,8 @@ use lib.ListN.{length, getD, take, List·getD-eq-default}
 use lib.Seq.{take-suc, take-all, take-append-seam, getD-append-seam}
 use lib.Dec.{eqb, ltb}
 use borrow.Author.Tests.{eqb-true, ltb-true}
-use Rattle.lists.specs.Lists.{keep, same}
-use Rattle.lists.proofs.Members.{and-true, getD-mem, all-true, keep-mem, keep-of, same-true, same-refl}
+use Rattle.lists.specs.Lists.{filter, same}
+use Rattle.lists.proofs.Members.{and-true, getD-mem, all-true, filter-mem, filter-of, same-true, same-refl}
 use Rattle.limits.specs.declared.Limits.{Limits}
 use Rattle.limits.specs.Limits.{stateMost}
 use Rattle.limits.proofs.Within.{limits-within}
@@ -141,8 +141,8 @@ module _ (rs : List (List ℕ)) (key : List ℕ) where
   pub targets-mem : ((r : List ℕ) → List·Memᴰ r rs → length r ≡ suc (length key)) → (q : ℕ) → List·Memᴰ q (targets rs key) → List·Memᴰ (key ++ (q ∷ [])) rs
   unfolding targets starts-with
   targets-mem wide q m =
-      let r = Memᴰ·of-map (λ r. getD r (length key) 0) (keep starts-with rs) m in
-      let k = keep-mem starts-with rs (r .0) (r .1) in
+      let r = Memᴰ·of-map (λ r. getD r (length key) 0) (filter starts-with rs) m in
+      let k = filter-mem starts-with rs (r .0) (r .1) in
       let e = key-split (r .0) key (wide (r .0) (k .0)) (same-true key (take (length key) (r .0)) (k .1)) in
       Memᴰ·cast (sym (e ∙ ap (λ x. key ++ (x ∷ [])) (r .2))) (k .0)
 
@@ -150,4 +150,4 @@ module _ (rs : List (List ℕ)) (key : List ℕ) where
   unfolding targets starts-with
   mem-targets q m =
       let s : same key (take (length key) (key ++ (q ∷ []))) ≡ true = rw (take-append-seam key (q ∷ [])) (same-refl key) in
-      subst (λ x. List·Memᴰ x (targets rs key)) (getD-append-seam key q [] 0) (Memᴰ·map (λ r. getD r (length key) 0) (keep-of starts-with rs (key ++ (q ∷ [])) m s))
+      subst (λ x. List·Memᴰ x (targets rs key)) (getD-append-seam key q [] 0) (Memᴰ·map (λ r. getD r (length key) 0) (filter-of starts-with rs (key ++ (q ∷ [])) m s))

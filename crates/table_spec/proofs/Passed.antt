@@ -77,7 +77,7 @@ pub record ReadPasses (L : Limits) (b : List ℕ) : Type 0 where
   pub limits : limitsFit L ≡ true
   pub long : 12 ≤ length b
   pub short : length b ≤ longest L
-  pub dated : versionFits (version b) ≡ true
+  pub versioned : versionFits (version b) ≡ true
   pub framed : Framed b
   pub fits : firstFailed (tableTests L (tableOf b)) ≡ 0
 
@@ -93,7 +93,7 @@ read-passed L b e =
       limits = p0 .0;
       long = leb-true _ _ (l .0);
       short = leb-true _ _ (l .1);
-      dated = p2 .0;
+      versioned = p2 .0;
       framed = distances-framed b (p3 .0);
       fits = p3 .1;
     }
@@ -103,7 +103,7 @@ unfolding readNumber lengthFits
 passed-read L b p =
     passes 39 _ (p .limits)
     ∙ passes 1 _ (and-of (le-leb _ _ (p .long)) (le-leb _ _ (p .short)))
-    ∙ passes 2 _ (p .dated)
+    ∙ passes 2 _ (p .versioned)
     ∙ passes 3 _ (framed-distances b (p .framed))
     ∙ p .fits
 
@@ -197,7 +197,7 @@ formed-tested {L} {t} f = tests-passed L t (f .fits)
 pub formed-of : {L : Limits} {t : Table} → limitsFit L ≡ true → versionFits (t .version) ≡ true → Wide t → Tested L t → WellFormed L t
 formed-of {L} {t} l v w p = record {
   limits = l;
-  dated = v;
+  versioned = v;
   internals-wide = wide 3 (t .internals) (w .internals);
   calls-wide = wide 3 (t .calls) (w .calls);
   returns-wide = wide 4 (t .returns) (w .returns);

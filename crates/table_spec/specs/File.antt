@@ -3,7 +3,7 @@ use mathlib.Core.List.{List, [], _∷_, _++_}
 use Prim.Native.Nat.{ℕ, _+_, _-_, _*_, _/_, _%_}
 use lib.ListN.{length, getD}
 use lib.Seq.{slice}
-use Rattle.lists.specs.Lists.{parts, flat, gather}
+use Rattle.lists.specs.Lists.{parts, concat, concatMap}
 
 -- the file's version and the five sections; a record is its bytes
 pub record Table : Type 0 where
@@ -60,13 +60,13 @@ bytes16 x = (x % 256) ∷ (x / 256 % 256) ∷ []
 
 -- "Each section is written behind the one before it": the sections from each one on
 unfoldable pub fromReturns : Table → List ℕ
-fromReturns t = flat (t .returns)
+fromReturns t = concat (t .returns)
 
 unfoldable pub fromCalls : Table → List ℕ
-fromCalls t = flat (t .calls) ++ fromReturns t
+fromCalls t = concat (t .calls) ++ fromReturns t
 
 unfoldable pub fromInternals : Table → List ℕ
-fromInternals t = flat (t .internals) ++ fromCalls t
+fromInternals t = concat (t .internals) ++ fromCalls t
 
 unfoldable pub fromStates : Table → List ℕ
 fromStates t = t .states ++ fromInternals t
@@ -76,7 +76,7 @@ fromSymbols t = t .symbols ++ fromStates t
 
 -- ".. then the trailer": the five distances and the version
 unfoldable pub trailerOf : Table → List ℕ
-trailerOf t = gather bytes16 (length (fromSymbols t) ∷ length (fromStates t) ∷ length (fromInternals t) ∷ length (fromCalls t) ∷ length (fromReturns t) ∷ t .version ∷ [])
+trailerOf t = concatMap bytes16 (length (fromSymbols t) ∷ length (fromStates t) ∷ length (fromInternals t) ∷ length (fromCalls t) ∷ length (fromReturns t) ∷ t .version ∷ [])
 
 unfoldable pub bytesOf : Table → List ℕ
 bytesOf t = fromSymbols t ++ trailerOf t

@@ -4,7 +4,7 @@ use mathlib.Core.Logic.{_↔_}
 use mathlib.Core.List.{List, [], _∷_, _++_, map, List·Memᴰ}
 use Prim.Native.Nat.{ℕ, _/_, _%_, _<_}
 use lib.ListN.{length, getD, take}
-use Rattle.lists.specs.Lists.{keep, same}
+use Rattle.lists.specs.Lists.{filter, same}
 use Rattle.vpa.specs.Automata.{Automaton, Accepts, EndsIn, openAfter}
 use Rattle.table_spec.specs.File.{Table, tableOf}
 
@@ -26,7 +26,7 @@ agreedOn byte = byte / 2
 
 -- the targets of the records that start with the key (q, a) or (q, r, u), in file order
 unfoldable pub targets : List (List ℕ) → List ℕ → List ℕ
-targets rs key = map (λ r. getD r (length key) 0) (keep (λ r. same key (take (length key) r)) rs)
+targets rs key = map (λ r. getD r (length key) 0) (filter (λ r. same key (take (length key) r)) rs)
 
 -- a record (q, a, q') is an internal or a call by symbol a, a record (q, r, s, q') a return that pops s
 abbrev pub automaton : Table → Automaton ℕ

@@ -124,7 +124,7 @@ ReadSays L b r = Says (readingNumber r) (readingValues r) (readNumber L b) (read
 -- a table whose bytes are readable: its version is 1 or 2, its records have their widths, and 39 and 4 to 8 do not apply
 pub record WellFormed (L : Limits) (t : Table) : Type 0 where
   pub limits : limitsFit L ≡ true
-  pub dated : versionFits (t .version) ≡ true
+  pub versioned : versionFits (t .version) ≡ true
   pub internals-wide : all (λ r. eqb (length r) 3) (t .internals) ≡ true
   pub calls-wide : all (λ r. eqb (length r) 3) (t .calls) ≡ true
   pub returns-wide : all (λ r. eqb (length r) 4) (t .returns) ≡ true

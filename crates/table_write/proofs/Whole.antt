@@ -5,7 +5,7 @@ use Prim.Native.Nat.{ℕ, _+_, _*_, _≤_}
 use native.Mathlib.Nat.{mul-zero, mul-suc}
 use native.Mathlib.Omega.{arith}
 use lib.ListN.{length, length-append, length-map}
-use Rattle.lists.specs.Lists.{flat, gather}
+use Rattle.lists.specs.Lists.{concat, concatMap}
 use Rattle.table_spec.specs.File.{Table, bytes16, fromReturns, fromCalls, fromInternals, fromStates, fromSymbols, trailerOf, bytesOf}
 use Rattle.table_spec.proofs.Passed.{Wide}
 use Rattle.table_spec.proofs.Bytes.{lengths}
@@ -13,15 +13,15 @@ use Rattle.table_write.specs.Keys.{recordOf}
 use Rattle.table_write.specs.Tables.{keyedTable, trailerFrom}
 use Rattle.table_write.proofs.Keys.{length-last}
 
-gather-flat : (f : ℕ → List ℕ) (ks : List ℕ) → gather f ks ≡ flat (map f ks)
-unfolding gather flat
-gather-flat f [] = refl
-gather-flat f (k ∷ ks) = ap (λ xs. f k ++ xs) (gather-flat f ks)
+concatMap-concat : (f : ℕ → List ℕ) (ks : List ℕ) → concatMap f ks ≡ concat (map f ks)
+unfolding concatMap concat
+concatMap-concat f [] = refl
+concatMap-concat f (k ∷ ks) = ap (λ xs. f k ++ xs) (concatMap-concat f ks)
 
-pub gather-long : (w : ℕ) (f : ℕ → List ℕ) → ((k : ℕ) → length (f k) ≡ w) → (ks : List ℕ) → length (gather f ks) ≡ w * length ks
-unfolding gather
-gather-long w f h [] = sym (mul-zero w)
-gather-long w f h (k ∷ ks) = omega (arith, length-append (f k) (gather f ks), h k, gather-long w f h ks, mul-suc w (length ks))
+pub concatMap-long : (w : ℕ) (f : ℕ → List ℕ) → ((k : ℕ) → length (f k) ≡ w) → (ks : List ℕ) → length (concatMap f ks) ≡ w * length ks
+unfolding concatMap
+concatMap-long w f h [] = sym (mul-zero w)
+concatMap-long w f h (k ∷ ks) = omega (arith, length-append (f k) (concatMap f ks), h k, concatMap-long w f h ks, mul-suc w (length ks))
 
 regroup : (a b c d e f : List ℕ) → (a ++ (b ++ (c ++ (d ++ e)))) ++ f ≡ a ++ (b ++ (c ++ (d ++ (e ++ f))))
 regroup a b c d e f = simp append-assoc
@@ -33,13 +33,13 @@ module _ (v : ℕ) (y s i c r : List ℕ) where
   behindReturns = trailerFrom v (length y) (length s) (length i) (length c) (length r)
 
   abbrev pub behindCalls : List ℕ
-  behindCalls = gather (recordOf 4) r ++ behindReturns
+  behindCalls = concatMap (recordOf 4) r ++ behindReturns
 
   abbrev pub behindInternals : List ℕ
-  behindInternals = gather (recordOf 3) c ++ behindCalls
+  behindInternals = concatMap (recordOf 3) c ++ behindCalls
 
   abbrev pub behindStates : List ℕ
-  behindStates = gather (recordOf 3) i ++ behindInternals
+  behindStates = concatMap (recordOf 3) i ++ behindInternals
 
   abbrev pub behindSymbols : List ℕ
   behindSymbols = s ++ behindStates
@@ -65,16 +65,16 @@ module _ (v : ℕ) (y s i c r : List ℕ) where
       let e2 : length (fromInternals keyed) ≡ 3 * length i + (3 * length c + 4 * length r) = omega arith in
       let e1 : length (fromStates keyed) ≡ length s + (3 * length i + (3 * length c + 4 * length r)) = omega arith in
       let e0 : length (fromSymbols keyed) ≡ length y + (length s + (3 * length i + (3 * length c + 4 * length r))) = omega arith in
-      λ j. gather bytes16 (e0 j ∷ e1 j ∷ e2 j ∷ e3 j ∷ e4 j ∷ v ∷ [])
+      λ j. concatMap bytes16 (e0 j ∷ e1 j ∷ e2 j ∷ e3 j ∷ e4 j ∷ v ∷ [])
 
   pub bytes-apart : bytesOf keyed ≡ y ++ behindSymbols
   unfolding bytesOf fromSymbols fromStates fromInternals fromCalls fromReturns
   bytes-apart =
-      (λ j. (y ++ (s ++ (sym (gather-flat (recordOf 3) i) j ++ (sym (gather-flat (recordOf 3) c) j ++ sym (gather-flat (recordOf 4) r) j)))) ++ trailer-again j)
-      ∙ regroup y s (gather (recordOf 3) i) (gather (recordOf 3) c) (gather (recordOf 4) r) behindReturns
+      (λ j. (y ++ (s ++ (sym (concatMap-concat (recordOf 3) i) j ++ (sym (concatMap-concat (recordOf 3) c) j ++ sym (concatMap-concat (recordOf 4) r) j)))) ++ trailer-again j)
+      ∙ regroup y s (concatMap (recordOf 3) i) (concatMap (recordOf 3) c) (concatMap (recordOf 4) r) behindReturns
 
   pub length-trailer : length behindReturns ≡ 12
-  unfolding trailerFrom gather bytes16
+  unfolding trailerFrom concatMap bytes16
   length-trailer = refl
 
   pub bytes-long : length (bytesOf keyed) ≡ length y + length s + 3 * length i + 3 * length c + 4 * length r + 12

@@ -7,7 +7,7 @@ use native.Mathlib.Nat.{zero-add}
 use native.Mathlib.Numerals.{add-one}
 use lib.ListN.{length, getD, take, drop, length-append, length-drop, take-append-drop, drop-of-length-le}
 use lib.Seq.{length-take-le, drop-cons, drop-drop, take-all, take-at, drop-at}
-use Rattle.lists.specs.Lists.{gather, over}
+use Rattle.lists.specs.Lists.{concatMap, over}
 use Rattle.lists.proofs.Copying.{length-over}
 use Rattle.table_spec.specs.File.{bytes16}
 use Rattle.table_write.specs.Keys.{bytes32, recordOf}
@@ -80,22 +80,22 @@ length-word k = refl
 
 -- the bytes of the numbers from i on are still to be written
 pub record Listing (f : ℕ → List ℕ) (ks end out : List ℕ) (at i : ℕ) : Type 0 where
-  pub rest : Writing (gather f (drop i ks)) end out at
+  pub rest : Writing (concatMap f (drop i ks)) end out at
 
-pub listing : (f : ℕ → List ℕ) (ks out : List ℕ) → length (gather f ks) ≤ length out → Listing f ks (over (gather f ks) out) out 0 0
-listing f ks out h = record { rest = writing (gather f ks) out h }
+pub listing : (f : ℕ → List ℕ) (ks out : List ℕ) → length (concatMap f ks) ≤ length out → Listing f ks (over (concatMap f ks) out) out 0 0
+listing f ks out h = record { rest = writing (concatMap f ks) out h }
 
 module _ {f : ℕ → List ℕ} {ks end out : List ℕ} {at i : ℕ} (l : Listing f ks end out at i) where
-  key-on : i < length ks → gather f (drop i ks) ≡ f (getD ks i 0) ++ gather f (drop (i + 1) ks)
-  unfolding gather
+  key-on : i < length ks → concatMap f (drop i ks) ≡ f (getD ks i 0) ++ concatMap f (drop (i + 1) ks)
+  unfolding concatMap
   key-on h = rw (add-one, drop-cons ks i 0 h)
 
   pub key-room : {w : ℕ} → ((k : ℕ) → length (f k) ≡ w) → i < length ks → at + w ≤ length out
-  key-room h k = omega (arith, l .rest .room, ap length (key-on k), length-append (f (getD ks i 0)) (gather f (drop (i + 1) ks)), h (getD ks i 0))
+  key-room h k = omega (arith, l .rest .room, ap length (key-on k), length-append (f (getD ks i 0)) (concatMap f (drop (i + 1) ks)), h (getD ks i 0))
 
   pub key-listed : {w : ℕ} {out' : List ℕ} → ((k : ℕ) → length (f k) ≡ w) → i < length ks → out' ≡ take at out ++ over (f (getD ks i 0)) (drop at out) → Listing f ks end out' (at + w) (i + 1)
   key-listed h p e = record { rest = written (f (getD ks i 0)) (l .rest) (key-on p) (h (getD ks i 0)) e }
 
   pub listed : length ks ≤ i → out ≡ end
-  unfolding gather
-  listed h = finished (subst (λ (xs : List ℕ). Writing (gather f xs) end out at) (drop-of-length-le ks h) (l .rest))
+  unfolding concatMap
+  listed h = finished (subst (λ (xs : List ℕ). Writing (concatMap f xs) end out at) (drop-of-length-le ks h) (l .rest))

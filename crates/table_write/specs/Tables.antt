@@ -4,7 +4,7 @@ use mathlib.Core.List.{List, [], _∷_, map}
 use Prim.Native.Nat.{ℕ, _+_, _*_}
 use lib.ListN.{length}
 use lib.Dec.{leb}
-use Rattle.lists.specs.Lists.{gather, over}
+use Rattle.lists.specs.Lists.{concatMap, over}
 use Rattle.table_spec.specs.File.{Table, bytes16}
 use Rattle.quotient_spec.specs.Quotient.{QuotientDone}
 use Rattle.quotient_spec.specs.declared.Written.the-variants.{Length, Refused}
@@ -24,7 +24,7 @@ keyedTable version symbols states internals calls returns =
 
 -- the trailer of a version behind so many symbols, states, internals, calls and returns
 unfoldable pub trailerFrom : ℕ → ℕ → ℕ → ℕ → ℕ → ℕ → List ℕ
-trailerFrom v y s i c r = gather bytes16 ((y + (s + (3 * i + (3 * c + 4 * r)))) ∷ (s + (3 * i + (3 * c + 4 * r))) ∷ (3 * i + (3 * c + 4 * r)) ∷ (3 * c + 4 * r) ∷ (4 * r) ∷ v ∷ [])
+trailerFrom v y s i c r = concatMap bytes16 ((y + (s + (3 * i + (3 * c + 4 * r)))) ∷ (s + (3 * i + (3 * c + 4 * r))) ∷ (3 * i + (3 * c + 4 * r)) ∷ (3 * c + 4 * r) ∷ (4 * r) ∷ v ∷ [])
 
 -- the answer and the output where these bytes are to be written: "21 output short"
 unfoldable pub writtenFor : List ℕ → List ℕ → QuotientDone

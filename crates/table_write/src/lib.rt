@@ -2,7 +2,7 @@
 ghost use mathlib.Core.Path.{_≡_};
 ghost use Prim.Native.Nat.{_+_, _*_, _^_, _<_, _≤_};
 ghost use lib.ListN.{length};
-ghost use Rattle.lists.specs.Lists.{gather, over};
+ghost use Rattle.lists.specs.Lists.{concatMap, over};
 ghost use Rattle.table_spec.specs.File.{bytes16, bytesOf};
 ghost use Rattle.table_write.specs.Keys.{recordOf};
 ghost use Rattle.table_write.specs.Tables.{keyedTable, trailerFrom};
@@ -32,8 +32,8 @@ fn put_key(width: usize, key: u32, out: &mut [u8])
 
 // The records of keys.
 fn put_keys(width: usize, keys: &[u32], out: &mut [u8])
-    requires { ⌜ (width ≤ 4) × (length (gather (recordOf width) (now keys)) ≤ length (now out)) ⌝ }
-    ensures { λ _. ⌜ now (out .exit) ≡ over (gather (recordOf width) (now (keys .entry))) (now (out .entry)) ⌝ }
+    requires { ⌜ (width ≤ 4) × (length (concatMap (recordOf width) (now keys)) ≤ length (now out)) ⌝ }
+    ensures { λ _. ⌜ now (out .exit) ≡ over (concatMap (recordOf width) (now (keys .entry))) (now (out .entry)) ⌝ }
 {
     let mut at: usize = 0;
     let mut i: usize = 0;
@@ -55,8 +55,8 @@ fn put_word(word: usize, out: &mut [u8])
 
 // 16-bit numbers.
 fn put_words(words: &[usize], out: &mut [u8])
-    requires { ⌜ length (gather bytes16 (now words)) ≤ length (now out) ⌝ }
-    ensures { λ _. ⌜ now (out .exit) ≡ over (gather bytes16 (now (words .entry))) (now (out .entry)) ⌝ }
+    requires { ⌜ length (concatMap bytes16 (now words)) ≤ length (now out) ⌝ }
+    ensures { λ _. ⌜ now (out .exit) ≡ over (concatMap bytes16 (now (words .entry))) (now (out .entry)) ⌝ }
 {
     let mut at: usize = 0;
     let mut i: usize = 0;
@@ -69,7 +69,7 @@ fn put_words(words: &[usize], out: &mut [u8])
 
 // The trailer behind so many symbols, states and records: "the distances back from its first byte to each section's start", then the version.
 fn put_trailer(
-    dated: usize,
+    versioned: usize,
     symbols: usize,
     states: usize,
     internals: usize,
@@ -78,7 +78,7 @@ fn put_trailer(
     out: &mut [u8],
 )
     requires { ⌜ (symbols + states + 3 * internals + 3 * calls + 4 * returns < 2 ^ 64) × (12 ≤ length (now out)) ⌝ }
-    ensures { λ _. ⌜ now (out .exit) ≡ over (trailerFrom dated symbols states internals calls returns) (now (out .entry)) ⌝ }
+    ensures { λ _. ⌜ now (out .exit) ≡ over (trailerFrom versioned symbols states internals calls returns) (now (out .entry)) ⌝ }
 {
     let from_returns = 4 * returns;
     let from_calls = 3 * calls + from_returns;
@@ -91,7 +91,7 @@ fn put_trailer(
         from_internals,
         from_calls,
         from_returns,
-        dated,
+        versioned,
     ];
     put_words(&words, out);
 }

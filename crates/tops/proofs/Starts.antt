@@ -41,8 +41,8 @@ pub record Starting (s words : List ℕ) (q : ℕ) : Type 0 where
   pub inside : q ≤ length s
   pub meets : words ≡ map startWord (take q s) ++ replicate (stateMost - q) 0
 
-pub starting : (s : List ℕ) {words : List ℕ} → length s ≤ stateMost → words ≡ replicate stateMost 0 → Starting s words 0
-starting s h e = record { few = h; inside = omega arith; meets = e }
+pub equal-range : (s : List ℕ) {words : List ℕ} → length s ≤ stateMost → words ≡ replicate stateMost 0 → Starting s words 0
+equal-range s h e = record { few = h; inside = omega arith; meets = e }
 
 module _ {s words : List ℕ} {q : ℕ} (p : Starting s words q) where
   zeros : q < length s → replicate {A = ℕ} (stateMost - q) 0 ≡ 0 ∷ replicate (stateMost - (q + 1)) 0

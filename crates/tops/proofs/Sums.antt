@@ -137,16 +137,16 @@ start-small s few e = record { long = ap length e ∙ long; each = λ q. rw (e, 
 
 -- ---- the rounds, with the sum of the words
 
-pub record Told (t : Table) (end words : List ℕ) (left sum : ℕ) : Type 0 where
+pub record SumKnown (t : Table) (end words : List ℕ) (left sum : ℕ) : Type 0 where
   pub rest : Resting t end words left
   pub small : Small words
   pub summed : sum ≡ sumOf words
 
-module _ {s i c r end words new : List ℕ} {left sum : ℕ} (p : Told (sectioned 0 [] s i c r) end words left sum) (h : StateParts s i c r) (l : 0 < left) (e : new ≡ round (sectioned 0 [] s i c r) words) where
+module _ {s i c r end words new : List ℕ} {left sum : ℕ} (p : SumKnown (sectioned 0 [] s i c r) end words left sum) (h : StateParts s i c r) (l : 0 < left) (e : new ≡ round (sectioned 0 [] s i c r) words) where
   pub told-small : Small new
   told-small = small-on h (p .small) e
 
-  pub told-on : {told : ℕ} → told ≡ sumOf new → told ≢ sum → Told (sectioned 0 [] s i c r) end new (left - 1) told
+  pub told-on : {told : ℕ} → told ≡ sumOf new → told ≢ sum → SumKnown (sectioned 0 [] s i c r) end new (left - 1) told
   told-on k n = record { rest = rest-on (p .rest) l e (sum-other h (p .small) e (λ d. n (k ∙ d ∙ sym (p .summed)))); small = told-small; summed = k }
 
   pub told-end : {told : ℕ} → told ≡ sumOf new → told ≡ sum → new ≡ end

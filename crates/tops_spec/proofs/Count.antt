@@ -6,11 +6,11 @@ use Prim.Native.Nat.{ℕ, suc, _-_, _≤_}
 use native.Mathlib.Omega.{arith}
 use lib.ListN.{length, take, replicate}
 use lib.Seq.{take-at}
-use Rattle.lists.specs.Lists.{keep, upto}
+use Rattle.lists.specs.Lists.{filter, upto}
 use Rattle.lists.specs.Bits.{has, onesOver}
-use Rattle.lists.proofs.Members.{keep-mem, keep-of, upto-of}
+use Rattle.lists.proofs.Members.{filter-mem, filter-of, upto-of}
 use Rattle.lists.proofs.Counts.{grid, grid-of}
-use Rattle.lists.proofs.Words.{over-append, over-zeros, over-keep, over-more}
+use Rattle.lists.proofs.Words.{over-append, over-zeros, over-filter, over-more}
 use Rattle.vpa.specs.Automata.{Tops}
 use Rattle.limits.specs.Limits.{stateMost}
 use Rattle.table_spec.specs.File.{Table}
@@ -21,9 +21,9 @@ use Rattle.tops_spec.proofs.Exact.{padded, length-words, top-bit, top-h
 
 module _ {t : Table} (bounded : Bounded stateMost t) where
   -- the cells (q, x), x a state or bottom, that the words have
-  pub count-exact : topCount t ≡ length (keep (λ c. has (topWords t) (c .0) (c .1)) (grid (upto stateMost) (upto (suc stateMost))))
+  pub count-exact : topCount t ≡ length (filter (λ c. has (topWords t) (c .0) (c .1)) (grid (upto stateMost) (upto (suc stateMost))))
   unfolding topCount
-  count-exact = over-keep (suc stateMost) (topWords t) ∙ ap (λ n. length (keep (λ c. has (topWords t) (c .0) (c .1)) (grid (upto n) (upto (suc stateMost))))) (length-words bounded)
+  count-exact = over-filter (suc stateMost) (topWords t) ∙ ap (λ n. length (filter (λ c. has (topWords t) (c .0) (c .1)) (grid (upto n) (upto (suc stateMost))))) (length-words bounded)
 
   -- the words of the states have them all
   pub ones-first : (n : ℕ) → onesOver n (take (count t) (topWords t)) ≡ onesOver n (topWords t)
@@ -40,10 +40,10 @@ module _ {t : Table} (bounded : Bounded stateMost t) where
   count-ones n h = over-more (suc stateMost) n (topWords t) h (word-within bounded)
 
   -- the cells counted are the tops
-  pub counted : (q x : ℕ) → List·Memᴰ (q, x) (keep (λ c. has (topWords t) (c .0) (c .1)) (grid (upto stateMost) (upto (suc stateMost)))) ↔ Tops (automaton t) q (topNamed stateMost x)
-  counted q x = (λ m. top-has bounded q x .0 (keep-mem _ (grid (upto stateMost) (upto (suc stateMost))) (q, x) m .1), there)
+  pub counted : (q x : ℕ) → List·Memᴰ (q, x) (filter (λ c. has (topWords t) (c .0) (c .1)) (grid (upto stateMost) (upto (suc stateMost)))) ↔ Tops (automaton t) q (topNamed stateMost x)
+  counted q x = (λ m. top-has bounded q x .0 (filter-mem _ (grid (upto stateMost) (upto (suc stateMost))) (q, x) m .1), there)
     where
-      there : Tops (automaton t) q (topNamed stateMost x) → List·Memᴰ (q, x) (keep (λ c. has (topWords t) (c .0) (c .1)) (grid (upto stateMost) (upto (suc stateMost))))
+      there : Tops (automaton t) q (topNamed stateMost x) → List·Memᴰ (q, x) (filter (λ c. has (topWords t) (c .0) (c .1)) (grid (upto stateMost) (upto (suc stateMost))))
       there h =
           let k = bit-within bounded q x (top-bit bounded q x .1 h) in
-          keep-of _ _ (q, x) (grid-of _ _ q x (upto-of stateMost q (omega (arith, bounded .states))) (upto-of (suc stateMost) x (k .1))) (top-has bounded q x .1 h)
+          filter-of _ _ (q, x) (grid-of _ _ q x (upto-of stateMost q (omega (arith, bounded .states))) (upto-of (suc stateMost) x (k .1))) (top-has bounded q x .1 h)

@@ -12,11 +12,11 @@ use lib.ListN.{length, getD, replicate, length-map, List·getD-map, length-repli
 use lib.Seq.{ext-getD}
 use lib.Dec.{eqb}
 use borrow.Author.Tests.{eqb-true, eqb-false, eq-eqb, ne-eqb}
-use Rattle.lists.specs.Lists.{keep, upto, same}
+use Rattle.lists.specs.Lists.{filter, upto, same}
 use Rattle.lists.specs.Bits.{Bit, has}
 use Rattle.lists.proofs.Bits.{some-bit, no-bit, bit-own, bit-pow, has-true, has-of}
 use Rattle.lists.proofs.Members.{upto-of, length-upto, same-true}
-use Rattle.lists.proofs.Counts.{keep-le, keep-less, grid, length-grid, grid-of}
+use Rattle.lists.proofs.Counts.{filter-le, filter-less, grid, length-grid, grid-of}
 use Rattle.lists.proofs.Words.{new-bit, has-no, same-false, getD-padded, bits-equal, word-lt}
 use Rattle.vpa.specs.Automata.{Tops, Top, bottom, along, pushed, popped}
 use Rattle.vpa.proofs.Tops.{tops-of, top-of, top-state, top-named}
@@ -139,7 +139,7 @@ module _ {most : ℕ} {t : Table} (bounded : Bounded most t) where
 
   -- how many bits are set
   bits : List ℕ → ℕ
-  bits f = length (keep (λ c. has f (c .0) (c .1)) cells)
+  bits f = length (filter (λ c. has f (c .0) (c .1)) cells)
 
   round-longer : (f : List ℕ) → InWords f (round t f)
   round-longer f =
@@ -153,7 +153,7 @@ module _ {most : ℕ} {t : Table} (bounded : Bounded most t) where
       let g = round-sound f s in
       let d = same-false (round t f) f (g .wide ∙ sym (s .wide)) e in
       let n = new-bit (getD (round t f) (d .0) 0) (getD f (d .0) 0) (getD (round t f) (d .0) 0) (le-refl _) (round-longer f .keeps (d .0)) (λ e. d .1 (sym e)) in
-      keep-less (λ c. has f (c .0) (c .1)) (λ c. has (round t f) (c .0) (c .1)) cells (λ c m h. has-of (round t f) (c .0) (c .1) (round-longer f .keeps (c .0) (c .1) (has-true f (c .0) (c .1) h))) (d .0, n .0) (place (d .0) (n .0) (g .top (d .0) (n .0) (n .1))) (has-no f _ _ (n .2)) (has-of (round t f) _ _ (n .1))
+      filter-less (λ c. has f (c .0) (c .1)) (λ c. has (round t f) (c .0) (c .1)) cells (λ c m h. has-of (round t f) (c .0) (c .1) (round-longer f .keeps (c .0) (c .1) (has-true f (c .0) (c .1) h))) (d .0, n .0) (place (d .0) (n .0) (g .top (d .0) (n .0) (n .1))) (has-no f _ _ (n .2)) (has-of (round t f) _ _ (n .1))
 
   record Settled (f g : List ℕ) : Type 0 where
     sound : Sound g
@@ -162,7 +162,7 @@ module _ {most : ℕ} {t : Table} (bounded : Bounded most t) where
 
   settled : (k : ℕ) (f : List ℕ) → Sound f → length cells < bits f + k → Settled f (rounds k t f)
   unfolding rounds bits
-  settled zero f s h = absurd (omega (arith, keep-le (λ c. has f (c .0) (c .1)) cells))
+  settled zero f s h = absurd (omega (arith, filter-le (λ c. has f (c .0) (c .1)) cells))
   settled (suc k) f s h = go (same (round t f) f) refl (λ l. settled k (round t f) (round-sound f s) l)
     where
       go : (b : Bool) → same (round t f) f ≡ b → (length cells < bits (round t f) + k → Settled (round t f) (rounds k t (round t f))) → Settled f (elim b [ true ↦ f | false ↦ rounds k t (round t f) ])

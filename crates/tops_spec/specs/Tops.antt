@@ -6,7 +6,7 @@ use Prim.Native.Nat.{ℕ, zero, suc, _-_, _*_, _^_}
 use lib.ListN.{getD, set, replicate}
 use lib.Dec.{eqb}
 use lib.Bits.{bitOr}
-use Rattle.lists.specs.Lists.{keep, same}
+use Rattle.lists.specs.Lists.{filter, same}
 use Rattle.lists.specs.Bits.{has, onesOver}
 use Rattle.limits.specs.declared.Limits.{Limits}
 use Rattle.limits.specs.Limits.{stateMost}
@@ -80,4 +80,4 @@ topsValues r = elim (eqb (r .number) 0) [ true ↦ r .words ++ (r .found ∷ [])
 
 -- the live returns, in file order
 unfoldable pub liveReturns : Table → List (List ℕ)
-liveReturns t = keep (live (topWords t)) (t .returns)
+liveReturns t = filter (live (topWords t)) (t .returns)

@@ -8,7 +8,7 @@ use lib.ListN.{length, getD, set, take, drop, replicate, length-set}
 use lib.Seq.{ext-getD, getD-set-same, getD-set-other}
 use lib.Dec.{eqb}
 use borrow.Author.Tests.{eqb-true, eqb-false}
-use Rattle.lists.specs.Lists.{keep, sum}
+use Rattle.lists.specs.Lists.{filter, sum}
 use Rattle.lists.proofs.Members.{zeros}
 use Rattle.limits.specs.Limits.{stateMost}
 use Rattle.table_spec.specs.File.{records}
@@ -114,7 +114,7 @@ module _ {m s : List ℕ} {at : ℕ} {sums : List ℕ} {total : ℕ} (w : Adding
 
   module _ (h : length s - at < 5) where
     pub added-all : record { number = 0; sums = sums; total = total } ≡ counted m s
-    unfolding counted usesIn sum classSum keep
+    unfolding counted usesIn sum classSum filter
     added-all =
         let f = lines-end s at h in
         let each : (c : ℕ) → c < length sums → getD sums c 0 ≡ getD (classSums m (linesOf s)) c 0 =

@@ -9,7 +9,7 @@ use borrow.Author.Tests.{eqb-true, eqb-false, ne-eqb}
 use lib.ListN.{length, getD, length-map}
 use Rattle.limits.specs.Limits.{stateMost}
 use Rattle.lists.proofs.Members.{getD-map, getD-upto, length-upto}
-use Rattle.lists.specs.Lists.{all, keep, upto, sum}
+use Rattle.lists.specs.Lists.{all, filter, upto, sum}
 use Rattle.uses_spec.specs.Uses.{Line, usesIn, classSum, classSums}
 
 -- a number that counts where a test passes
@@ -40,31 +40,31 @@ sum-none (q ∷ qs) = omega (arith, sum-none qs)
 -- ---- the elements that pass
 
 module _ {A : Type 0} (u : A → ℕ) (f : A → Bool) where
-  pub sum-first : (x : A) (xs : List A) → sum (map u (keep f (x ∷ xs))) ≡ weigh (f x) (u x) + sum (map u (keep f xs))
-  unfolding sum keep weigh
+  pub sum-first : (x : A) (xs : List A) → sum (map u (filter f (x ∷ xs))) ≡ weigh (f x) (u x) + sum (map u (filter f xs))
+  unfolding sum filter weigh
   sum-first x xs = go (f x)
     where
-      go : (t : Bool) → sum (map u (elim t as (λ _. List A) [ true ↦ x ∷ keep f xs | false ↦ keep f xs ])) ≡ weigh t (u x) + sum (map u (keep f xs))
+      go : (t : Bool) → sum (map u (elim t as (λ _. List A) [ true ↦ x ∷ filter f xs | false ↦ filter f xs ])) ≡ weigh t (u x) + sum (map u (filter f xs))
       go true = refl
       go false = omega arith
 
-  pub sum-weighed : (xs : List A) → sum (map u (keep f xs)) ≡ sum (map (λ x. weigh (f x) (u x)) xs)
-  unfolding sum keep
+  pub sum-weighed : (xs : List A) → sum (map u (filter f xs)) ≡ sum (map (λ x. weigh (f x) (u x)) xs)
+  unfolding sum filter
   sum-weighed [] = refl
   sum-weighed (x ∷ xs) = sum-first x xs ∙ ap (λ n. weigh (f x) (u x) + n) (sum-weighed xs)
 
   -- none passes
-  pub sum-no-part : (xs : List A) → ((x : A) → List·Memᴰ x xs → f x ≡ false) → sum (map u (keep f xs)) ≡ 0
-  unfolding sum keep weigh
+  pub sum-no-part : (xs : List A) → ((x : A) → List·Memᴰ x xs → f x ≡ false) → sum (map u (filter f xs)) ≡ 0
+  unfolding sum filter weigh
   sum-no-part [] h = refl
   sum-no-part (x ∷ xs) h =
       let e : weigh (f x) (u x) ≡ 0 = rw (h x (List·Memᴰ·head refl), weigh) in
       omega (arith, sum-first x xs, e, sum-no-part xs (λ y m. h y (List·Memᴰ·tail m)))
 
-pub keep-every : {A : Type 0} (xs : List A) → keep (λ x. true) xs ≡ xs
-unfolding keep
-keep-every [] = refl
-keep-every (x ∷ xs) = ap (λ ys. x ∷ ys) (keep-every xs)
+pub filter-every : {A : Type 0} (xs : List A) → filter (λ x. true) xs ≡ xs
+unfolding filter
+filter-every [] = refl
+filter-every (x ∷ xs) = ap (λ ys. x ∷ ys) (filter-every xs)
 
 -- ---- the numbers below n
 
@@ -102,26 +102,26 @@ module _ (p : ℕ → Bool) (v x : ℕ) where
 
 module _ (k : Line → ℕ) (n : ℕ) where
   pub by-key : (p : ℕ → Bool) (ls : List Line) → ((l : Line) → List·Memᴰ l ls → k l < n)
-      → sum (map (λ q. usesIn (keep (λ l. eqb (k l) q) ls)) (keep p (upto n))) ≡ usesIn (keep (λ l. p (k l)) ls)
-  unfolding usesIn sum keep
-  by-key p [] h = sum-none (keep p (upto n))
+      → sum (map (λ q. usesIn (filter (λ l. eqb (k l) q) ls)) (filter p (upto n))) ≡ usesIn (filter (λ l. p (k l)) ls)
+  unfolding usesIn sum filter
+  by-key p [] h = sum-none (filter p (upto n))
   by-key p (l ∷ ls) h =
       let u : Line → ℕ = λ y. y .uses in
-      let one : (q : ℕ) → usesIn (keep (λ y. eqb (k y) q) (l ∷ ls)) ≡ weigh (eqb (k l) q) (l .uses) + usesIn (keep (λ y. eqb (k y) q) ls) = λ q. sum-first u (λ y. eqb (k y) q) l ls in
-      ap (λ g. sum (map g (keep p (upto n)))) (λ i q. one q i)
-      ∙ sum-plus (λ q. weigh (eqb (k l) q) (l .uses)) (λ q. usesIn (keep (λ y. eqb (k y) q) ls)) (keep p (upto n))
+      let one : (q : ℕ) → usesIn (filter (λ y. eqb (k y) q) (l ∷ ls)) ≡ weigh (eqb (k l) q) (l .uses) + usesIn (filter (λ y. eqb (k y) q) ls) = λ q. sum-first u (λ y. eqb (k y) q) l ls in
+      ap (λ g. sum (map g (filter p (upto n)))) (λ i q. one q i)
+      ∙ sum-plus (λ q. weigh (eqb (k l) q) (l .uses)) (λ q. usesIn (filter (λ y. eqb (k y) q) ls)) (filter p (upto n))
       ∙ (λ i. (sum-weighed (λ q. weigh (eqb (k l) q) (l .uses)) p (upto n) ∙ once p (l .uses) (k l) n (h l (List·Memᴰ·head refl))) i + by-key p ls (λ y m. h y (List·Memᴰ·tail m)) i)
       ∙ sym (sum-first u (λ y. p (k y)) l ls)
 
   -- .. over all keys, all lines
-  pub by-every-key : (ls : List Line) → ((l : Line) → List·Memᴰ l ls → k l < n) → sum (map (λ q. usesIn (keep (λ l. eqb (k l) q) ls)) (upto n)) ≡ usesIn ls
+  pub by-every-key : (ls : List Line) → ((l : Line) → List·Memᴰ l ls → k l < n) → sum (map (λ q. usesIn (filter (λ l. eqb (k l) q) ls)) (upto n)) ≡ usesIn ls
   by-every-key ls h =
-      ap (λ qs. sum (map (λ q. usesIn (keep (λ l. eqb (k l) q) ls)) qs)) (sym (keep-every (upto n))) ∙ by-key (λ q. true) ls h ∙ ap usesIn (keep-every ls)
+      ap (λ qs. sum (map (λ q. usesIn (filter (λ l. eqb (k l) q) ls)) qs)) (sym (filter-every (upto n))) ∙ by-key (λ q. true) ls h ∙ ap usesIn (filter-every ls)
 
 -- ---- another order
 
 module _ (f : Line → Bool) where
-  pub any-order : {ls ks : List Line} → List·Permᴰ ls ks → usesIn (keep f ls) ≡ usesIn (keep f ks)
+  pub any-order : {ls ks : List Line} → List·Permᴰ ls ks → usesIn (filter f ls) ≡ usesIn (filter f ks)
   unfolding usesIn
   any-order List·Permᴰ·nil = refl
   any-order (List·Permᴰ·cons {a = a} {b = b} {l₁ = ls} {l₂ = ks} e d) =
@@ -151,7 +151,7 @@ module _ (f : Line → Bool) where
   all-any-order (List·Permᴰ·trans d e) = all-any-order d ∙ all-any-order e
 
 pub total-any-order : {ls ks : List Line} → List·Permᴰ ls ks → usesIn ls ≡ usesIn ks
-total-any-order {ls} {ks} d = ap usesIn (sym (keep-every ls)) ∙ any-order (λ l. true) d ∙ ap usesIn (keep-every ks)
+total-any-order {ls} {ks} d = ap usesIn (sym (filter-every ls)) ∙ any-order (λ l. true) d ∙ ap usesIn (filter-every ks)
 
 -- ---- the sums of all classes
 

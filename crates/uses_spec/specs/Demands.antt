@@ -5,7 +5,7 @@ use mathlib.Core.List.{List, map, List·Permᴰ}
 use Prim.Native.Nat.{ℕ, _*_, _<_, _≤_}
 use lib.ListN.{length, getD}
 use lib.Dec.{eqb}
-use Rattle.lists.specs.Lists.{keep, upto, sum}
+use Rattle.lists.specs.Lists.{filter, upto, sum}
 use Rattle.limits.specs.declared.Limits.{Limits}
 use Rattle.limits.specs.Limits.{stateMost}
 use Rattle.table_spec.specs.File.{tableOf}
@@ -20,7 +20,7 @@ AnyOrder L b m s r = (other : List ℕ) → length other ≡ length s → List·
 
 -- "Summing by state": where nothing is refused, a class has the sums of its states, and the total is that of all states
 pub record ByStates (b m s : List ℕ) (r : Counted) : Type 0 where
-  pub classes : r .number ≡ 0 → (c : ℕ) → c < stateMost → getD (r .sums) c 0 ≡ sum (map (stateSum (linesOf s)) (keep (λ q. eqb (classOf m q) c) (upto (count (tableOf b)))))
+  pub classes : r .number ≡ 0 → (c : ℕ) → c < stateMost → getD (r .sums) c 0 ≡ sum (map (stateSum (linesOf s)) (filter (λ q. eqb (classOf m q) c) (upto (count (tableOf b)))))
   pub total : r .number ≡ 0 → r .total ≡ sum (map (stateSum (linesOf s)) (upto (count (tableOf b))))
 
 -- "zero past the class count"

@@ -4,7 +4,7 @@ use mathlib.Core.List.{List, [], _∷_, _++_, map}
 use Prim.Native.Nat.{ℕ, _+_, _*_, _/_, _%_}
 use lib.ListN.{length, getD, replicate}
 use lib.Dec.{eqb, leb, ltb}
-use Rattle.lists.specs.Lists.{all, keep, upto, sum, firstFailed, stage}
+use Rattle.lists.specs.Lists.{all, filter, upto, sum, firstFailed, stage}
 use Rattle.limits.specs.declared.Limits.{Limits}
 use Rattle.limits.specs.Limits.{stateMost}
 use Rattle.table_spec.specs.File.{records, tableOf}
@@ -31,11 +31,11 @@ usesIn ls = sum (map (λ l. l .uses) ls)
 
 -- "the sum by class": the lines whose state has class c
 unfoldable pub classSum : List ℕ → List Line → ℕ → ℕ
-classSum m ls c = usesIn (keep (λ l. eqb (classOf m (l .state)) c) ls)
+classSum m ls c = usesIn (filter (λ l. eqb (classOf m (l .state)) c) ls)
 
 -- the sum by state: the lines of state q
 unfoldable pub stateSum : List Line → ℕ → ℕ
-stateSum ls q = usesIn (keep (λ l. eqb (l .state) q) ls)
+stateSum ls q = usesIn (filter (λ l. eqb (l .state) q) ls)
 
 -- "one number for each possible state": 40 with (xiii), whatever limits are in force
 unfoldable pub classSums : List ℕ → List Line → List ℕ

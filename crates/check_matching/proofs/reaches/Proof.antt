@@ -18,8 +18,8 @@ Inv-records section width wanted map target found at₀ at = Still (λ x. any (g
 abbrev μ-records : tie.MeasureT-records
 μ-records section width wanted map target found at₀ at = length found - at
 
-starting-requires : tie.Need-starting-requires Inv-records μ-records
-starting-requires c κs = search needs
+equal-range-requires : tie.Need-equal-range-requires Inv-records μ-records
+equal-range-requires c κs = search needs
 
 records-holds : tie.Need-records-holds Inv-records μ-records
 records-holds c = begin _ _
@@ -50,10 +50,10 @@ returns c =
     let c5 = c4 .before in
     let c6 = c5 .before in
     let c9 = c6 .before .before .before in
-    let the-starting = c6 .starting in
+    let the-equal-range = c6 .equal-range in
     let the-args = c9 .args in
     let the-pre = c9 .pre in
-    λ k d. over-targets (the-args .width) (the-args .section .now) k (the-starting .result .now) (the-args .map .now) (the-args .target) (d .long) (the-starting .ensures k d (the-pre .1)) (met (the-args .map .now) (the-args .target) (the-args .width - 1) (omega (arith, the-pre .0)) (c5 .records .inv) (c4 .records-test .taken) (sym (ap (joins (the-args .map .now) (the-args .target)) (c2 .wide .ensures)) ∙ sym (c1 .joined .ensures) ∙ c .if1 .taken))
+    λ k d. over-targets (the-args .width) (the-args .section .now) k (the-equal-range .result .now) (the-args .map .now) (the-args .target) (d .long) (the-equal-range .ensures k d (the-pre .1)) (met (the-args .map .now) (the-args .target) (the-args .width - 1) (omega (arith, the-pre .0)) (c5 .records .inv) (c4 .records-test .taken) (sym (ap (joins (the-args .map .now) (the-args .target)) (c2 .wide .ensures)) ∙ sym (c1 .joined .ensures) ∙ c .if1 .taken))
 
 records-less : tie.Need-records-less Inv-records μ-records
 records-less c =
@@ -76,10 +76,10 @@ returns-2 c =
     let c1 = c .before in
     let c2 = c1 .before in
     let c5 = c2 .before .before .before in
-    let the-starting = c2 .starting in
+    let the-equal-range = c2 .equal-range in
     let the-args = c5 .args in
     let the-pre = c5 .pre in
-    λ k d. over-targets (the-args .width) (the-args .section .now) k (the-starting .result .now) (the-args .map .now) (the-args .target) (d .long) (the-starting .ensures k d (the-pre .1)) (none-met (the-args .map .now) (the-args .target) (the-args .width - 1) (omega (arith, the-pre .0)) (c1 .records .inv) (c .records-test .left))
+    λ k d. over-targets (the-args .width) (the-args .section .now) k (the-equal-range .result .now) (the-args .map .now) (the-args .target) (d .long) (the-equal-range .ensures k d (the-pre .1)) (none-met (the-args .map .now) (the-args .target) (the-args .width - 1) (omega (arith, the-pre .0)) (c1 .records .inv) (c .records-test .left))
 
 pub reaches-spec : {M : Type 1} → statement M
 reaches-spec =
@@ -87,7 +87,7 @@ reaches-spec =
     (tie.spec
     Inv-records
     μ-records
-    starting-requires
+    equal-range-requires
     records-holds
     sub-records
     add-next

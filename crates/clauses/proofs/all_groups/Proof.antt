@@ -9,15 +9,15 @@ use Rattle.clauses.proofs.all_groups.Tie as tie
 cast-count : tie.Need-cast-count
 cast-count c = search needs
 
-looks-apart-requires : tie.Need-looks-apart-requires
-looks-apart-requires c κs = search needs
+labels-apart-requires : tie.Need-labels-apart-requires
+labels-apart-requires c κs = search needs
 
 closure-requires : tie.Need-closure-requires
 closure-requires c κs =
     let c3 = c .before .before .before in
     let c10 = c3 .before .before .before .before .before .before .before in
     let the-pre = c10 .pre in
-    (omega (arith, the-pre .0 .few), ordered-by _ _ (c3 .looks-apart .ensures) (the-pre .1))
+    (omega (arith, the-pre .0 .few), ordered-by _ _ (c3 .labels-apart .ensures) (the-pre .1))
 
 moves-requires : tie.Need-moves-requires
 moves-requires c κs =
@@ -25,7 +25,7 @@ moves-requires c κs =
     let c7 = c3 .before .before .before .before in
     let c14 = c7 .before .before .before .before .before .before .before in
     let the-pre = c14 .pre in
-    (the-pre .0 .internals-lent, omega (arith, the-pre .0 .few), ordered-by _ _ (c3 .closure .ensures) (ordered-by _ _ (c7 .looks-apart .ensures) (the-pre .1)))
+    (the-pre .0 .internals-lent, omega (arith, the-pre .0 .few), ordered-by _ _ (c3 .closure .ensures) (ordered-by _ _ (c7 .labels-apart .ensures) (the-pre .1)))
 
 moves-requires-2 : tie.Need-moves-requires-2
 moves-requires-2 c κs =
@@ -34,7 +34,7 @@ moves-requires-2 c κs =
     let c11 = c7 .before .before .before .before in
     let c18 = c11 .before .before .before .before .before .before .before in
     let the-pre = c18 .pre in
-    (the-pre .0 .calls-lent, omega (arith, the-pre .0 .few), ordered-by _ _ (c3 .moves .ensures) (ordered-by _ _ (c7 .closure .ensures) (ordered-by _ _ (c11 .looks-apart .ensures) (the-pre .1))))
+    (the-pre .0 .calls-lent, omega (arith, the-pre .0 .few), ordered-by _ _ (c3 .moves .ensures) (ordered-by _ _ (c7 .closure .ensures) (ordered-by _ _ (c11 .labels-apart .ensures) (the-pre .1))))
 
 live-returns-requires : tie.Need-live-returns-requires
 live-returns-requires c κs =
@@ -44,7 +44,7 @@ live-returns-requires c κs =
     let c15 = c11 .before .before .before .before in
     let c22 = c15 .before .before .before .before .before .before .before in
     let the-pre = c22 .pre in
-    (the-pre .0 .returns-lent, the-pre .0 .few, ordered-by _ _ (c3 .moves2 .ensures) (ordered-by _ _ (c7 .moves .ensures) (ordered-by _ _ (c11 .closure .ensures) (ordered-by _ _ (c15 .looks-apart .ensures) (the-pre .1)))))
+    (the-pre .0 .returns-lent, the-pre .0 .few, ordered-by _ _ (c3 .moves2 .ensures) (ordered-by _ _ (c7 .moves .ensures) (ordered-by _ _ (c11 .closure .ensures) (ordered-by _ _ (c15 .labels-apart .ensures) (the-pre .1)))))
 
 same-length : tie.Need-same-length
 same-length c = search needs
@@ -58,14 +58,14 @@ returns c =
     let c18 = c14 .before .before .before .before in
     let c25 = c18 .before .before .before .before .before .before .before in
     let the-args = c25 .args in
-    groups _ (the-args .states .now) (the-args .internals .now) (the-args .calls .now) (the-args .returns .now) (the-args .tops .now) _ (c18 .looks-apart .ensures) (c14 .closure .ensures) (c10 .moves .ensures) (c6 .moves2 .ensures) (c2 .live-returns .ensures)
+    groups _ (the-args .states .now) (the-args .internals .now) (the-args .calls .now) (the-args .returns .now) (the-args .tops .now) _ (c18 .labels-apart .ensures) (c14 .closure .ensures) (c10 .moves .ensures) (c6 .moves2 .ensures) (c2 .live-returns .ensures)
 
 pub all-groups-spec : {M : Type 1} → statement M
 all-groups-spec =
     tie.close
     (tie.spec
     cast-count
-    looks-apart-requires
+    labels-apart-requires
     closure-requires
     moves-requires
     moves-requires-2

@@ -1,7 +1,7 @@
 -- `clauses_states::close_from` meets its contract: the states so far have their clauses. Assumes nothing.
 use Prim.Native.Nat.{_-_}
 use borrow.Author.Needs.{needs}
-use Rattle.lists.specs.Lists.{gather}
+use Rattle.lists.specs.Lists.{concatMap}
 use Rattle.pairs.specs.Triangles.{triangle, past}
 use Rattle.clauses_emit.specs.Emit.{state}
 use Rattle.clauses_emit.proofs.Stepping.{Over, over-past, over-on, over-done}
@@ -9,7 +9,7 @@ use Rattle.clauses_states.proofs.close_from.Statement.{statement}
 use Rattle.clauses_states.proofs.close_from.Tie as tie
 
 abbrev Inv-states : tie.InvT-states
-Inv-states p count list₀ at₀ q₀ list at q = Over (λ q. gather (λ s. triangle p q s) (past count q)) count (gather (λ q. gather (λ s. triangle p q s) (past count q)) (past count p)) (state at₀ list₀) q (state at list)
+Inv-states p count list₀ at₀ q₀ list at q = Over (λ q. concatMap (λ s. triangle p q s) (past count q)) count (concatMap (λ q. concatMap (λ s. triangle p q s) (past count q)) (past count p)) (state at₀ list₀) q (state at list)
 
 abbrev μ-states : tie.MeasureT-states
 μ-states p count list₀ at₀ q₀ list at q = count - q

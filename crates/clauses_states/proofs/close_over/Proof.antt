@@ -1,7 +1,7 @@
 -- `clauses_states::close_over` meets its contract: the states so far have their clauses. Assumes nothing.
 use Prim.Native.Nat.{_-_}
 use borrow.Author.Needs.{needs}
-use Rattle.lists.specs.Lists.{gather}
+use Rattle.lists.specs.Lists.{concatMap}
 use Rattle.pairs.specs.Triangles.{triangle, past}
 use Rattle.clauses_emit.specs.Emit.{state}
 use Rattle.clauses_emit.proofs.Stepping.{Over, over-past, over-on, over-done}
@@ -9,7 +9,7 @@ use Rattle.clauses_states.proofs.close_over.Statement.{statement}
 use Rattle.clauses_states.proofs.close_over.Tie as tie
 
 abbrev Inv-states : tie.InvT-states
-Inv-states p q count list₀ at₀ s₀ list at s = Over (λ s. triangle p q s) count (gather (λ s. triangle p q s) (past count q)) (state at₀ list₀) s (state at list)
+Inv-states p q count list₀ at₀ s₀ list at s = Over (λ s. triangle p q s) count (concatMap (λ s. triangle p q s) (past count q)) (state at₀ list₀) s (state at list)
 
 abbrev μ-states : tie.MeasureT-states
 μ-states p q count list₀ at₀ s₀ list at s = count - s

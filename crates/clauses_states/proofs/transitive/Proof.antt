@@ -1,7 +1,7 @@
 -- `clauses_states::transitive` meets its contract: the states so far have their clauses. Assumes nothing.
 use Prim.Native.Nat.{_-_}
 use borrow.Author.Needs.{needs}
-use Rattle.lists.specs.Lists.{gather, upto}
+use Rattle.lists.specs.Lists.{concatMap, upto}
 use Rattle.pairs.specs.Triangles.{triangle, past, triangles}
 use Rattle.clauses_spec.specs.Clauses.{transitivity}
 use Rattle.clauses_emit.specs.Emit.{state}
@@ -10,7 +10,7 @@ use Rattle.clauses_states.proofs.transitive.Statement.{statement}
 use Rattle.clauses_states.proofs.transitive.Tie as tie
 
 abbrev Inv-states : tie.InvT-states
-Inv-states states list₀ count at₀ p₀ list at p = Over (λ p. gather (λ q. gather (λ s. triangle p q s) (past count q)) (past count p)) count (gather (λ p. gather (λ q. gather (λ s. triangle p q s) (past count q)) (past count p)) (upto count)) (state at₀ list₀) p (state at list)
+Inv-states states list₀ count at₀ p₀ list at p = Over (λ p. concatMap (λ q. concatMap (λ s. triangle p q s) (past count q)) (past count p)) count (concatMap (λ p. concatMap (λ q. concatMap (λ s. triangle p q s) (past count q)) (past count p)) (upto count)) (state at₀ list₀) p (state at list)
 
 abbrev μ-states : tie.MeasureT-states
 μ-states states list₀ count at₀ p₀ list at p = count - p

@@ -27,8 +27,8 @@ returns c =
     let the-copy = c3 .copy in
     (rw (c .if1 .taken, the-copy .ensures) (c12 .pre .1 .1), sym (the-copy .ensures))
 
-climb-requires : tie.Need-climb-requires
-climb-requires c κs =
+recount-requires : tie.Need-recount-requires
+recount-requires c κs =
     let c4 = c .before .before .before .before in
     let c13 = c4 .before .before .before .before .before .before .before .before .before in
     let the-pre = c13 .pre in
@@ -41,7 +41,7 @@ copy-requires-2 c κs =
     let c9 = c4 .before .before .before .before .before in
     let c18 = c9 .before .before .before .before .before .before .before .before .before in
     let the-pre = c18 .pre in
-    (omega (arith, c4 .climb .kept .1 .1 .1 .0, ap length (c9 .copy .ensures)), omega (arith, the-pre .0 .2, the-pre .0 .1 .small))
+    (omega (arith, c4 .recount .kept .1 .1 .1 .0, ap length (c9 .copy .ensures)), omega (arith, the-pre .0 .2, the-pre .0 .1 .small))
 
 same-length-3 : tie.Need-same-length-3
 same-length-3 c = search needs
@@ -53,7 +53,7 @@ returns-2 : tie.Need-returns-2
 returns-2 c =
     let c2 = c .before .before in
     let c7 = c2 .before .before .before .before .before in
-    (c7 .climb .ensures, c2 .copy2 .ensures)
+    (c7 .recount .ensures, c2 .copy2 .ensures)
 
 pub restore-spec : {M : Type 1} → statement M
-restore-spec = tie.close (tie.spec copy-requires same-length same-length-2 returns climb-requires copy-requires-2 same-length-3 same-length-4 returns-2)
+restore-spec = tie.close (tie.spec copy-requires same-length same-length-2 returns recount-requires copy-requires-2 same-length-3 same-length-4 returns-2)

@@ -9,7 +9,7 @@ use Rattle.cnf.specs.Clauses.{clausesIn}
 use Rattle.cnf.specs.Trials.{notFalse}
 use Rattle.sat_trail.specs.Conclusions.{withTriangles}
 use Rattle.sat_trail.specs.Rows.{Rows}
-use Rattle.sat_restore.specs.Restoring.{Lags}
+use Rattle.sat_restore.specs.Restoring.{CountersBeforeIf}
 use Rattle.sat_decide.specs.Turns.{DueAt}
 use Rattle.sat_decide.specs.declared.Due.{Due}
 use Rattle.sat_decide.specs.declared.Due.the-variants as due
@@ -20,7 +20,7 @@ use Rattle.sat_search.proofs.turns.Tie as tie
 
 abbrev Inv-turns : tie.InvT-turns
 Inv-turns list n table firsts clauses starts masks words₀ saved₀ noted₀ values₀ trail₀ joined₀ apart₀ budget start marks₀ at₀ count₀ depth₀ made₀ low₀ words saved noted values trail joined apart marks at count depth made low =
-    laws.Turning (withTriangles list n) (length values₀) budget (notFalse values₀) values trail marks at count depth made low × Rows n values joined apart × Lags list clauses values trail at count words × wording.Marked marks depth at
+    laws.Turning (withTriangles list n) (length values₀) budget (notFalse values₀) values trail marks at count depth made low × Rows n values joined apart × CountersBeforeIf list clauses values trail at count words × wording.Marked marks depth at
     × (length list ≤ length clauses → 0 < depth → saved ≡ words) × (length words ≡ length words₀) × (length saved ≡ length words₀) × (length noted ≡ length noted₀)
 
 abbrev μ-turns : tie.MeasureT-turns
@@ -38,10 +38,10 @@ head c = c .before .before .before .before .before .before .before
 abbrev closed : tie.After-slice-known9 Inv-turns μ-turns → tie.After-close Inv-turns μ-turns
 closed c = c .before .before .before .before .before .before .before .before
 
-abbrev undoing : tie.After-retreat-arg6 Inv-turns μ-turns → tie.After-wide Inv-turns μ-turns
+abbrev undoing : tie.After-backtrack-arg6 Inv-turns μ-turns → tie.After-wide Inv-turns μ-turns
 undoing c = c .before .before .before .before .before .before
 
-abbrev undone : tie.After-struct-known Inv-turns μ-turns → tie.After-retreat Inv-turns μ-turns
+abbrev undone : tie.After-struct-known Inv-turns μ-turns → tie.After-backtrack Inv-turns μ-turns
 undone c = c .before .before .before .before .before .before .before
 
 abbrev rested : tie.After-due-at Inv-turns μ-turns → tie.After-close Inv-turns μ-turns
@@ -157,8 +157,8 @@ array-read-wide c = omega (arith, c .if2 .left, depths (closed (c .before .befor
 wide-requires : tie.Need-wide-requires Inv-turns μ-turns
 wide-requires c κs = search needs
 
-retreat-requires : tie.Need-retreat-requires Inv-turns μ-turns
-retreat-requires c κs =
+backtrack-requires : tie.Need-backtrack-requires Inv-turns μ-turns
+backtrack-requires c κs =
     let w = undoing c in
     let q = closed (w .before .before .before) in
     let h = head q in
@@ -181,14 +181,14 @@ add-low c =
     let w = undoing (r .before) in
     let q = closed (w .before .before .before) in
     let i = head q .turns .inv .0 in
-    omega (arith, laws.inside i (q .close .ensures .0 .0) (w .before .before .if1 .taken) _ (stands (w .before)) (w .wide .ensures) (r .retreat .ensures .0 .0), i .most)
+    omega (arith, laws.inside i (q .close .ensures .0 .0) (w .before .before .if1 .taken) _ (stands (w .before)) (w .wide .ensures) (r .backtrack .ensures .0 .0), i .most)
 
 turns-less : tie.Need-turns-less Inv-turns μ-turns
 turns-less c = search needs
 
 turns-again : tie.Need-turns-again Inv-turns μ-turns
 turns-again c =
-    let r = undone c .retreat in
+    let r = undone c .backtrack in
     let w = undoing (undone c .before) in
     let q = closed (w .before .before .before) in
     let h = head q .turns in
@@ -329,4 +329,4 @@ turns-again-2 c =
     (laws.turn-guess (i .0) (s .0 .0) e (guess g .0) (guess g .1) refl f, f .assigned .rows, wording.lags-guess (a .list .now) (a .n) (i .0) (s .0 .0) (a .clauses .now) e (guess g .0) (s .1) refl f, wording.marked-guess (h .marks) (omega (arith, i .0 .marks, room g)), (λ _ _. o .ensures), lengths q .words, o .kept .1 .0 ∙ i .6, lengths q .noted)
 
 pub turns-spec : {M : Type 1} → statement M
-turns-spec = tie.close (tie.spec Inv-turns μ-turns places-requires turns-holds close-requires same-length same-length-2 same-length-3 same-length-4 same-length-5 returns sub-depth mul-wide array-read-wide wide-requires retreat-requires add-low turns-less turns-again due-at-requires enum-told same-length-6 same-length-7 same-length-8 same-length-9 same-length-10 returns-2 enum-told-2 walk-back-requires same-length-11 same-length-12 same-length-13 same-length-14 same-length-15 returns-3 enum-known-due copy-requires cast-marks mul-marks array-write-marks add-depth add-made mul-force cast-force force-requires add-low-2 turns-less-2 turns-again-2)
+turns-spec = tie.close (tie.spec Inv-turns μ-turns places-requires turns-holds close-requires same-length same-length-2 same-length-3 same-length-4 same-length-5 returns sub-depth mul-wide array-read-wide wide-requires backtrack-requires add-low turns-less turns-again due-at-requires enum-told same-length-6 same-length-7 same-length-8 same-length-9 same-length-10 returns-2 enum-told-2 walk-back-requires same-length-11 same-length-12 same-length-13 same-length-14 same-length-15 returns-3 enum-known-due copy-requires cast-marks mul-marks array-write-marks add-depth add-made mul-force cast-force force-requires add-low-2 turns-less-2 turns-again-2)

@@ -5,8 +5,8 @@ use Prim.Native.Nat.{_-_}
 use mathlib.Core.Path.{sym, _∙_}
 use lib.ListN.{length}
 use Rattle.lists.proofs.Members.{getD-mem}
-use Rattle.sat_literal.proofs.Asking.{holds-at}
-use Rattle.sat_simplify.proofs.Lightening as laws
+use Rattle.sat_literal.proofs.Literals.{holds-at}
+use Rattle.sat_simplify.proofs.Simplifying as laws
 use Rattle.sat_simplify.proofs.holds.Statement.{statement}
 use Rattle.sat_simplify.proofs.holds.Tie as tie
 
@@ -19,17 +19,17 @@ abbrev μ-literals : tie.MeasureT-literals
 literals-holds : tie.Need-literals-holds Inv-literals μ-literals
 literals-holds c = laws.unheld-start _ _
 
-mul-is-right : tie.Need-mul-is-right Inv-literals μ-literals
-mul-is-right c = search needs
+mul-is-true : tie.Need-mul-is-true Inv-literals μ-literals
+mul-is-true c = search needs
 
-shared-slice-read-is-right : tie.Need-shared-slice-read-is-right Inv-literals μ-literals
-shared-slice-read-is-right c = search needs
+shared-slice-read-is-true : tie.Need-shared-slice-read-is-true Inv-literals μ-literals
+shared-slice-read-is-true c = search needs
 
-is-right-requires : tie.Need-is-right-requires Inv-literals μ-literals
-is-right-requires c κs = c .before .before .before .before .before .pre _ (getD-mem _ _ _ (c .before .literals-test .taken))
+is-true-requires : tie.Need-is-true-requires Inv-literals μ-literals
+is-true-requires c κs = c .before .before .before .before .before .pre _ (getD-mem _ _ _ (c .before .literals-test .taken))
 
 returns : tie.Need-returns Inv-literals μ-literals
-returns c = sym (holds-at _ _ _ (c .before .before .before .literals-test .taken) (sym (c .before .is-right .ensures) ∙ c .if1 .taken))
+returns c = sym (holds-at _ _ _ (c .before .before .before .literals-test .taken) (sym (c .before .is-true .ensures) ∙ c .if1 .taken))
 
 add-i : tie.Need-add-i Inv-literals μ-literals
 add-i c = search needs
@@ -42,7 +42,7 @@ literals-again c =
     let c1 = c .before in
     let c3 = c1 .before .before in
     let c4 = c3 .before in
-    laws.unheld-on (c4 .literals .inv) (c3 .literals-test .taken) (sym (c1 .is-right .ensures) ∙ c .if1 .left)
+    laws.unheld-on (c4 .literals .inv) (c3 .literals-test .taken) (sym (c1 .is-true .ensures) ∙ c .if1 .left)
 
 returns-2 : tie.Need-returns-2 Inv-literals μ-literals
 returns-2 c = sym (laws.unheld-all (c .before .literals .inv) (omega (arith, c .literals-test .left)))
@@ -54,9 +54,9 @@ holds-spec =
     Inv-literals
     μ-literals
     literals-holds
-    mul-is-right
-    shared-slice-read-is-right
-    is-right-requires
+    mul-is-true
+    shared-slice-read-is-true
+    is-true-requires
     returns
     add-i
     literals-less

@@ -5,7 +5,7 @@ use Prim.Native.Nat.{_-_}
 use mathlib.Core.Path.{_≡_}
 use lib.ListN.{length}
 use Rattle.lists.proofs.Members.{getD-any}
-use Rattle.sat_simplify.proofs.Lightening as laws
+use Rattle.sat_simplify.proofs.Simplifying as laws
 use Rattle.sat_simplify.proofs.put_set.Statement.{statement}
 use Rattle.sat_simplify.proofs.put_set.Tie as tie
 

@@ -3,7 +3,7 @@ use borrow.Author.Needs.{needs}
 use native.Mathlib.Omega.{arith}
 use Prim.Native.Nat.{_-_}
 use lib.ListN.{length}
-use Rattle.sat_simplify.proofs.Lightening as laws
+use Rattle.sat_simplify.proofs.Simplifying as laws
 use Rattle.sat_simplify.proofs.put_words.Statement.{statement}
 use Rattle.sat_simplify.proofs.put_words.Tie as tie
 

@@ -1,7 +1,7 @@
 -- `sat_simplify::right_literal` meets its contract. Assumes nothing.
 use borrow.Author.Needs.{needs}
 use native.Mathlib.Omega.{arith}
-use Rattle.sat_simplify.proofs.Lightening as laws
+use Rattle.sat_simplify.proofs.Simplifying as laws
 use Rattle.sat_simplify.proofs.right_literal.Statement.{statement}
 use Rattle.sat_simplify.proofs.right_literal.Tie as tie
 

@@ -13,14 +13,14 @@ own-rows-requires c κs = search needs
 places-requires : tie.Need-places-requires
 places-requires c κs = search needs
 
-slice-aggregate-solve-sifted : tie.Need-slice-aggregate-solve-sifted
-slice-aggregate-solve-sifted c = search needs
+slice-aggregate-solve-scanned : tie.Need-slice-aggregate-solve-scanned
+slice-aggregate-solve-scanned c = search needs
 
-slice-aggregate-solve-sifted-2 : tie.Need-slice-aggregate-solve-sifted-2
-slice-aggregate-solve-sifted-2 c = search needs
+slice-aggregate-solve-scanned-2 : tie.Need-slice-aggregate-solve-scanned-2
+slice-aggregate-solve-scanned-2 c = search needs
 
-solve-sifted-requires : tie.Need-solve-sifted-requires
-solve-sifted-requires c κs =
+solve-scanned-requires : tie.Need-solve-scanned-requires
+solve-scanned-requires c κs =
     let c5 = c .before .before .before .before .before in
     let c6 = c5 .before in
     let c7 = c6 .before in
@@ -64,9 +64,9 @@ solve-spec =
     pair-table-requires
     own-rows-requires
     places-requires
-    slice-aggregate-solve-sifted
-    slice-aggregate-solve-sifted-2
-    solve-sifted-requires
+    slice-aggregate-solve-scanned
+    slice-aggregate-solve-scanned-2
+    solve-scanned-requires
     same-length
     returns
     slice-aggregate-finish

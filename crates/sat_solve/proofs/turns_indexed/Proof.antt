@@ -23,8 +23,8 @@ index-requires c κs =
     let the-args = c11 .args in
     (laws.listed (the-pre .0 .0) (laws.short-list (the-pre .0 .1)) (formed-part (clausesIn (the-args .list .now)) _ (to-cs _ (triangles (the-args .n))) (the-pre .1 .0 .formed)) (the-pre .1 .0 .most), laws.index-room (the-pre .0 .1), c2 .no-firsts .ensures)
 
-tally-requires : tie.Need-tally-requires
-tally-requires c κs =
+count-literals-requires : tie.Need-count-literals-requires
+count-literals-requires c κs =
     let c16 = c .before .before .before .before .before .before .before .before .before .before .before .before .before .before .before .before in
     let the-args = c16 .args in
     let the-pre = c16 .pre in
@@ -42,8 +42,8 @@ slice-relend-prefix-turns c = search needs
 
 slice-aggregate-turns-3 : tie.Need-slice-aggregate-turns-3
 slice-aggregate-turns-3 c =
-    let the-tally = c .before .before .before .before .before .before .before .tally in
-    sym (length-take-le _ _ (omega (arith, the-tally .ensures .1, the-tally .ensures .0 .room)))
+    let the-count-literals = c .before .before .before .before .before .before .before .count-literals in
+    sym (length-take-le _ _ (omega (arith, the-count-literals .ensures .1, the-count-literals .ensures .0 .room)))
 
 slice-relend-prefix-turns-2 : tie.Need-slice-relend-prefix-turns-2
 slice-relend-prefix-turns-2 c = search needs
@@ -55,7 +55,7 @@ slice-aggregate-turns-4 c =
     let the-args = c25 .args in
     let the-pre = c25 .pre in
     let half = laws.few-clauses (the-args .list .now) (the-args .n) (the-pre .0 .0) (the-pre .1 .0) in
-    sym (length-take-le _ _ (omega (arith, c8 .tally .ensures .1, half, the-pre .0 .1 .words-room, the-pre .0 .1 .same)))
+    sym (length-take-le _ _ (omega (arith, c8 .count-literals .ensures .1, half, the-pre .0 .1 .words-room, the-pre .0 .1 .same)))
 
 turns-requires : tie.Need-turns-requires
 turns-requires c κs =
@@ -64,11 +64,11 @@ turns-requires c κs =
     let c30 = c18 .before .before .before .before .before .before .before .before .before .before .before .before in
     let the-args = c30 .args in
     let the-pre = c30 .pre in
-    let the-tally = c13 .tally in
+    let the-count-literals = c13 .count-literals in
     let the-index = c18 .index in
     let half = laws.few-clauses (the-args .list .now) (the-args .n) (the-pre .0 .0) (the-pre .1 .0) in
-    let kept = length-take-le (the-tally .result) (the-args .saved .now) (omega (arith, the-tally .ensures .1, half, the-pre .0 .1 .words-room, the-pre .0 .1 .same)) in
-    (laws.prepared (the-pre .0 .1) (the-pre .0 .0) (the-index .kept .1 .1 .0) (the-tally .result) (length-take-le _ _ (omega (arith, the-tally .ensures .1, the-tally .ensures .0 .room))) (omega (arith, the-tally .ensures .1, half, the-pre .0 .1 .words-room)) refl (the-index .ensures), (((λ _. laws.tallied-part (the-tally .ensures .0) (the-tally .ensures .1)), kept ∙ sym (length-take-le _ _ (omega (arith, the-tally .ensures .1, the-tally .ensures .0 .room)))), the-pre .1))
+    let kept = length-take-le (the-count-literals .result) (the-args .saved .now) (omega (arith, the-count-literals .ensures .1, half, the-pre .0 .1 .words-room, the-pre .0 .1 .same)) in
+    (laws.prepared (the-pre .0 .1) (the-pre .0 .0) (the-index .kept .1 .1 .0) (the-count-literals .result) (length-take-le _ _ (omega (arith, the-count-literals .ensures .1, the-count-literals .ensures .0 .room))) (omega (arith, the-count-literals .ensures .1, half, the-pre .0 .1 .words-room)) refl (the-index .ensures), (((λ _. laws.tallied-part (the-count-literals .ensures .0) (the-count-literals .ensures .1)), kept ∙ sym (length-take-le _ _ (omega (arith, the-count-literals .ensures .1, the-count-literals .ensures .0 .room)))), the-pre .1))
 
 same-length : tie.Need-same-length
 same-length c = search needs
@@ -92,4 +92,4 @@ returns : tie.Need-returns
 returns c = search needs
 
 pub turns-indexed-spec : {M : Type 1} → statement M
-turns-indexed-spec = tie.close (tie.spec no-firsts-requires index-requires tally-requires slice-aggregate-turns slice-aggregate-turns-2 slice-relend-prefix-turns slice-aggregate-turns-3 slice-relend-prefix-turns-2 slice-aggregate-turns-4 turns-requires same-length same-length-2 same-length-3 same-length-4 same-length-5 same-length-6 returns)
+turns-indexed-spec = tie.close (tie.spec no-firsts-requires index-requires count-literals-requires slice-aggregate-turns slice-aggregate-turns-2 slice-relend-prefix-turns slice-aggregate-turns-3 slice-relend-prefix-turns-2 slice-aggregate-turns-4 turns-requires same-length same-length-2 same-length-3 same-length-4 same-length-5 same-length-6 returns)

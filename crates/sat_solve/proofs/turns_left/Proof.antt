@@ -6,8 +6,8 @@ use borrow.Author.Needs.{needs}
 use Rattle.sat_solve.proofs.turns_left.Statement.{statement}
 use Rattle.sat_solve.proofs.turns_left.Tie as tie
 
-worth-lightening-requires : tie.Need-worth-lightening-requires
-worth-lightening-requires c κs = search needs
+worth-simplifying-requires : tie.Need-worth-simplifying-requires
+worth-simplifying-requires c κs = search needs
 
 turns-any-requires : tie.Need-turns-any-requires
 turns-any-requires c κs = search needs
@@ -21,11 +21,11 @@ same-length-2 c = search needs
 returns : tie.Need-returns
 returns c = search needs
 
-slice-aggregate-lighten-all : tie.Need-slice-aggregate-lighten-all
-slice-aggregate-lighten-all c = search needs
+slice-aggregate-simplify-all : tie.Need-slice-aggregate-simplify-all
+slice-aggregate-simplify-all c = search needs
 
-lighten-all-requires : tie.Need-lighten-all-requires
-lighten-all-requires c κs =
+simplify-all-requires : tie.Need-simplify-all-requires
+simplify-all-requires c κs =
     let c8 = c .before .before .before .before .before .before .before .before in
     laws.rest-lightens (c8 .args .list .now) (c8 .args .n) (c8 .pre .1 .0) (c8 .pre .0)
 
@@ -41,7 +41,7 @@ turns-any-requires-2 c κs =
     let c7 = c5 .before .before in
     let c16 = c7 .before .before .before .before .before .before .before .before .before in
     let s = c16 in
-    let written = c7 .lighten-all .ensures (omega (arith, c5 .if2 .taken)) in
+    let written = c7 .simplify-all .ensures (omega (arith, c5 .if2 .taken)) in
     (laws.rest-whole (s .args .list .now) (s .args .n) (s .pre .1 .0) written, (laws.rest-rested (s .args .list .now) (s .args .n) (s .pre .1 .0) written, s .pre .1 .1))
 
 same-length-3 : tie.Need-same-length-3
@@ -57,7 +57,7 @@ returns-2 c =
     let c12 = c10 .before .before in
     let c21 = c12 .before .before .before .before .before .before .before .before .before in
     let s = c21 in
-    let written = c12 .lighten-all .ensures (omega (arith, c10 .if2 .taken)) in
+    let written = c12 .simplify-all .ensures (omega (arith, c10 .if2 .taken)) in
     laws.rest-ends (s .args .list .now) (s .args .n) (s .pre .1 .0) written (s .args .budget) (c4 .turns-any2 .result) _ _ (c4 .turns-any2 .ensures)
 
 turns-any-requires-3 : tie.Need-turns-any-requires-3
@@ -76,13 +76,13 @@ pub turns-left-spec : {M : Type 1} → statement M
 turns-left-spec =
     tie.close
     (tie.spec
-    worth-lightening-requires
+    worth-simplifying-requires
     turns-any-requires
     same-length
     same-length-2
     returns
-    slice-aggregate-lighten-all
-    lighten-all-requires
+    slice-aggregate-simplify-all
+    simplify-all-requires
     array-share-prefix-rest
     slice-aggregate-turns-any
     turns-any-requires-2

@@ -6,7 +6,7 @@ use lib.ListN.{length}
 use borrow.Author.Tests.{not-true, not-false}
 use Rattle.cnf.specs.Trials.{onlyTrue}
 use Rattle.sat_literal.proofs.Walking.{end-inside}
-use Rattle.sat_literal.proofs.Asking.{lent-over}
+use Rattle.sat_literal.proofs.Literals.{lent-over}
 use Rattle.sat_trial.proofs.Trying as laws
 use Rattle.sat_trial.proofs.trial_holds.Statement.{statement}
 use Rattle.sat_trial.proofs.trial_holds.Tie as tie

@@ -73,8 +73,8 @@ element-copy-out-wide c = omega (arith, c .before .before .before .before .guess
 wide-requires : tie.Need-wide-requires Inv-guesses μ-guesses
 wide-requires c κs = search needs
 
-unwind-requires : tie.Need-unwind-requires Inv-guesses μ-guesses
-unwind-requires c κs =
+undo-to-requires : tie.Need-undo-to-requires Inv-guesses μ-guesses
+undo-to-requires c κs =
     let c3 = c .before .before .before in
     let c5 = c3 .before .before in
     let c6 = c5 .before in
@@ -95,9 +95,9 @@ guesses-again c =
     let c9 = c8 .before in
     let c10 = c9 .before in
     let c12 = c10 .before .before in
-    let the-unwind = c2 .unwind in
+    let the-undo-to = c2 .undo-to in
     let the-guesses = c12 .guesses in
-    (laws.retrace-on (the-guesses .inv .0) (sym (c10 .trial-holds .ensures) ∙ c9 .if1 .left) (the-guesses .depth - 1) (omega (arith, c8 .if2 .left)) (c6 .wide .ensures) (the-unwind .ensures .values), the-unwind .ensures .rows)
+    (laws.retrace-on (the-guesses .inv .0) (sym (c10 .trial-holds .ensures) ∙ c9 .if1 .left) (the-guesses .depth - 1) (omega (arith, c8 .if2 .left)) (c6 .wide .ensures) (the-undo-to .ensures .values), the-undo-to .ensures .rows)
 
 pub walk-back-spec : {M : Type 1} → statement M
 walk-back-spec =
@@ -117,6 +117,6 @@ walk-back-spec =
     mul-wide
     element-copy-out-wide
     wide-requires
-    unwind-requires
+    undo-to-requires
     guesses-less
     guesses-again)

@@ -6,14 +6,14 @@ use mathlib.Core.Path.{ap, _∙_}
 use Prim.Native.Nat.{_-_}
 use native.Mathlib.Omega.{arith}
 use lib.ListN.{length}
-use Rattle.lists.specs.Lists.{gather, over}
+use Rattle.lists.specs.Lists.{concatMap, over}
 use Rattle.lists.proofs.Copying.{length-over}
 use borrow.Author.Needs.{needs}
 use Rattle.table_write.proofs.put_keys.Statement.{statement}
 use Rattle.table_write.proofs.put_keys.Tie as tie
 
 abbrev Inv-keys : tie.InvT-keys
-Inv-keys width keys out₀ at₀ i₀ out at i = Listing (recordOf width) keys (over (gather (recordOf width) keys) out₀) out at i
+Inv-keys width keys out₀ at₀ i₀ out at i = Listing (recordOf width) keys (over (concatMap (recordOf width) keys) out₀) out at i
 
 abbrev μ-keys : tie.MeasureT-keys
 μ-keys width keys out₀ at₀ i₀ out at i = length keys - i
@@ -48,7 +48,7 @@ add-at c =
     let a = c9 in
     let h = key-room (the-keys .inv) (λ k. length-last (a .args .width) k (a .pre .0)) (c5 .keys-test .taken) in
     let k = same-long (the-keys .inv .rest) in
-    omega (arith, h, k, length-over (gather (recordOf (a .args .width)) (a .args .keys .now)) (a .args .out .now) (a .pre .1), a .good .1 .1 .0 .0)
+    omega (arith, h, k, length-over (concatMap (recordOf (a .args .width)) (a .args .keys .now)) (a .args .out .now) (a .pre .1), a .good .1 .1 .0 .0)
 
 add-i : tie.Need-add-i Inv-keys μ-keys
 add-i c = search needs

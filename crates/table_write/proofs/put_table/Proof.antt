@@ -1,12 +1,12 @@
 -- `table_write::put_table` meets its contract: what is still to be written behind each section. Assumes nothing.
 use Rattle.table_write.specs.Keys.{recordOf}
 use Rattle.table_write.specs.Tables.{keyedTable, trailerFrom}
-use Rattle.table_write.proofs.Whole.{gather-long, behindReturns, behindCalls, behindInternals, behindStates, behindSymbols, bytes-apart, length-trailer, bytes-long}
+use Rattle.table_write.proofs.Whole.{concatMap-long, behindReturns, behindCalls, behindInternals, behindStates, behindSymbols, bytes-apart, length-trailer, bytes-long}
 use Rattle.table_write.proofs.Writing.{Writing, begun, written, part-room, finished, part-put, same-long}
 use Rattle.table_write.proofs.Keys.{length-last}
 use Rattle.lists.proofs.Copying.{length-over}
 use Rattle.table_spec.specs.File.{bytesOf}
-use Rattle.lists.specs.Lists.{gather, over}
+use Rattle.lists.specs.Lists.{concatMap, over}
 use lib.ListN.{length, take, drop}
 use native.Mathlib.Omega.{arith}
 use Prim.Native.Nat.{ℕ, _+_, _-_, _*_, _^_, _<_}
@@ -84,7 +84,7 @@ out4 c =
 internals-put : (c : tie.After-slice-known4) → Writing (behind (start4 c) behindInternals) (end (start4 c)) (out4 c) (at4 c)
 internals-put c =
     let the-before = c .before .before .before .before in
-    let a = start4 c in written (gather (recordOf 3) (a .args .internals .now)) (states-put (the-before)) refl (gather-long 3 (recordOf 3) (λ k. length-last 3 k (omega arith)) (a .args .internals .now)) (part-put _ _ (at3 (the-before)) (c .before .before .put-keys .ensures))
+    let a = start4 c in written (concatMap (recordOf 3) (a .args .internals .now)) (states-put (the-before)) refl (concatMap-long 3 (recordOf 3) (λ k. length-last 3 k (omega arith)) (a .args .internals .now)) (part-put _ _ (at3 (the-before)) (c .before .before .put-keys .ensures))
 
 abbrev start5 : tie.After-slice-known5 → tie.Start
 start5 c = c .before .before .before .before .before .before .before .before .before .before .before .before .before .before .before .before .before .before .before .before .before .before
@@ -100,7 +100,7 @@ out5 c =
 calls-put : (c : tie.After-slice-known5) → Writing (behind (start5 c) behindCalls) (end (start5 c)) (out5 c) (at5 c)
 calls-put c =
     let the-before = c .before .before .before .before in
-    let a = start5 c in written (gather (recordOf 3) (a .args .calls .now)) (internals-put (the-before)) refl (gather-long 3 (recordOf 3) (λ k. length-last 3 k (omega arith)) (a .args .calls .now)) (part-put _ _ (at4 (the-before)) (c .before .before .put-keys2 .ensures))
+    let a = start5 c in written (concatMap (recordOf 3) (a .args .calls .now)) (internals-put (the-before)) refl (concatMap-long 3 (recordOf 3) (λ k. length-last 3 k (omega arith)) (a .args .calls .now)) (part-put _ _ (at4 (the-before)) (c .before .before .put-keys2 .ensures))
 
 abbrev start6 : tie.After-slice-known6 → tie.Start
 start6 c = c .before .before .before .before .before .before .before .before .before .before .before .before .before .before .before .before .before .before .before .before .before .before .before .before .before .before
@@ -116,7 +116,7 @@ out6 c =
 returns-put : (c : tie.After-slice-known6) → Writing (behind (start6 c) behindReturns) (end (start6 c)) (out6 c) (at6 c)
 returns-put c =
     let the-before = c .before .before .before .before in
-    let a = start6 c in written (gather (recordOf 4) (a .args .returns .now)) (calls-put (the-before)) refl (gather-long 4 (recordOf 4) (λ k. length-last 4 k (omega arith)) (a .args .returns .now)) (part-put _ _ (at5 (the-before)) (c .before .before .put-keys3 .ensures))
+    let a = start6 c in written (concatMap (recordOf 4) (a .args .returns .now)) (calls-put (the-before)) refl (concatMap-long 4 (recordOf 4) (λ k. length-last 4 k (omega arith)) (a .args .returns .now)) (part-put _ _ (at5 (the-before)) (c .before .before .put-keys3 .ensures))
 
 abbrev start7 : tie.After-slice-known7 → tie.Start
 start7 c = c .before .before .before .before .before .before .before .before .before .before .before .before .before .before .before .before .before .before .before .before .before .before .before .before .before .before .before .before .before .before
@@ -172,7 +172,7 @@ put-keys-requires : tie.Need-put-keys-requires
 put-keys-requires c κs =
     let c1 = c .before in
     let c15 = c1 .before .before .before .before .before .before .before .before .before .before .before .before .before .before in
-    let a = c15 in (omega arith, part-room (gather (recordOf 3) (a .args .internals .now)) (behind a behindInternals) (states-put (c1)) refl)
+    let a = c15 in (omega arith, part-room (concatMap (recordOf 3) (a .args .internals .now)) (behind a behindInternals) (states-put (c1)) refl)
 
 mul-at : tie.Need-mul-at
 mul-at c = omega (arith, internals-put c .room, same-long (internals-put c), end-long (start4 c))
@@ -193,7 +193,7 @@ put-keys-requires-2 : tie.Need-put-keys-requires-2
 put-keys-requires-2 c κs =
     let c1 = c .before in
     let c19 = c1 .before .before .before .before .before .before .before .before .before .before .before .before .before .before .before .before .before .before in
-    let a = c19 in (omega arith, part-room (gather (recordOf 3) (a .args .calls .now)) (behind a behindCalls) (internals-put (c1)) refl)
+    let a = c19 in (omega arith, part-room (concatMap (recordOf 3) (a .args .calls .now)) (behind a behindCalls) (internals-put (c1)) refl)
 
 mul-at-2 : tie.Need-mul-at-2
 mul-at-2 c = omega (arith, calls-put c .room, same-long (calls-put c), end-long (start5 c))
@@ -214,7 +214,7 @@ put-keys-requires-3 : tie.Need-put-keys-requires-3
 put-keys-requires-3 c κs =
     let c1 = c .before in
     let c23 = c1 .before .before .before .before .before .before .before .before .before .before .before .before .before .before .before .before .before .before .before .before .before .before in
-    let a = c23 in (omega arith, part-room (gather (recordOf 4) (a .args .returns .now)) (behind a behindReturns) (calls-put (c1)) refl)
+    let a = c23 in (omega arith, part-room (concatMap (recordOf 4) (a .args .returns .now)) (behind a behindReturns) (calls-put (c1)) refl)
 
 mul-at-3 : tie.Need-mul-at-3
 mul-at-3 c = omega (arith, returns-put c .room, same-long (returns-put c), end-long (start6 c))

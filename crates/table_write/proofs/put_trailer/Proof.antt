@@ -1,7 +1,7 @@
 -- `table_write::put_trailer` meets its contract. Assumes nothing.
 use Rattle.table_write.specs.Tables.{trailerFrom}
 use Rattle.table_spec.specs.File.{bytes16}
-use Rattle.lists.specs.Lists.{gather}
+use Rattle.lists.specs.Lists.{concatMap}
 use borrow.Author.Needs.{needs}
 use Rattle.table_write.proofs.put_trailer.Statement.{statement}
 use Rattle.table_write.proofs.put_trailer.Tie as tie
@@ -31,7 +31,7 @@ slice-aggregate-put-words : tie.Need-slice-aggregate-put-words
 slice-aggregate-put-words c = search needs
 
 put-words-requires : tie.Need-put-words-requires
-unfolding gather bytes16
+unfolding concatMap bytes16
 put-words-requires c κs = search needs
 
 same-length : tie.Need-same-length

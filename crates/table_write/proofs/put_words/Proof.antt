@@ -2,7 +2,7 @@
 use Rattle.lists.proofs.Copying.{length-over}
 use Rattle.table_write.proofs.Writing.{Listing, listing, length-word, key-room, key-listed, listed, part-put, same-long}
 use Rattle.table_spec.specs.File.{bytes16}
-use Rattle.lists.specs.Lists.{gather, over}
+use Rattle.lists.specs.Lists.{concatMap, over}
 use lib.ListN.{length}
 use native.Mathlib.Omega.{arith}
 use Prim.Native.Nat.{_-_}
@@ -12,7 +12,7 @@ use Rattle.table_write.proofs.put_words.Statement.{statement}
 use Rattle.table_write.proofs.put_words.Tie as tie
 
 abbrev Inv-words : tie.InvT-words
-Inv-words words out₀ at₀ i₀ out at i = Listing bytes16 words (over (gather bytes16 words) out₀) out at i
+Inv-words words out₀ at₀ i₀ out at i = Listing bytes16 words (over (concatMap bytes16 words) out₀) out at i
 
 abbrev μ-words : tie.MeasureT-words
 μ-words words out₀ at₀ i₀ out at i = length words - i
@@ -47,7 +47,7 @@ add-at c =
     let a = c9 in
     let h = key-room (the-words .inv) length-word (c5 .words-test .taken) in
     let k = same-long (the-words .inv .rest) in
-    omega (arith, h, k, length-over (gather bytes16 (a .args .words .now)) (a .args .out .now) (a .pre), a .good .1 .0 .0)
+    omega (arith, h, k, length-over (concatMap bytes16 (a .args .words .now)) (a .args .out .now) (a .pre), a .good .1 .0 .0)
 
 add-i : tie.Need-add-i Inv-words μ-words
 add-i c = search needs

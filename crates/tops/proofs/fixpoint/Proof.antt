@@ -8,13 +8,13 @@ use lib.ListN.{length}
 use Rattle.tops_spec.specs.Tops.{rounds}
 use Rattle.table_view.specs.Sections.{sectioned}
 use Rattle.tops.proofs.Loops.{resting, rounded, spent, few-rounds, section-within}
-use Rattle.tops.proofs.Sums.{Told, told-small, told-on, told-end}
+use Rattle.tops.proofs.Sums.{SumKnown, told-small, told-on, told-end}
 use Rattle.tops.proofs.fixpoint.Statement.{statement}
 use Rattle.tops.proofs.fixpoint.Tie as tie
 
 abbrev Inv-rounds : tie.InvT-rounds
 Inv-rounds states internals calls returns words₀ n left₀ sum₀ words left sum =
-    Told (sectioned 0 [] states internals calls returns) (rounds (suc (length states * suc (length states))) (sectioned 0 [] states internals calls returns) words₀) words left sum
+    SumKnown (sectioned 0 [] states internals calls returns) (rounds (suc (length states * suc (length states))) (sectioned 0 [] states internals calls returns) words₀) words left sum
 
 abbrev μ-rounds : tie.MeasureT-rounds
 μ-rounds states internals calls returns words₀ n left₀ sum₀ words left sum = left

@@ -2,7 +2,7 @@
 use Prim.Native.Nat.{_-_}
 use native.Mathlib.Omega.{arith}
 use borrow.Author.Needs.{needs}
-use Rattle.lists.specs.Lists.{gather, upto}
+use Rattle.lists.specs.Lists.{concatMap, upto}
 use Rattle.table_spec.specs.File.{records}
 use Rattle.clauses_spec.specs.Clauses.{moveClause}
 use Rattle.clauses_emit.specs.Emit.{state}
@@ -12,7 +12,7 @@ use Rattle.clauses_records.proofs.internals.move_record.Statement.{stat
 use Rattle.clauses_records.proofs.internals.move_record.Tie as tie
 
 abbrev Inv-states : tie.InvT-states
-Inv-states section starts p a target count list₀ at₀ q₀ list at q = Over (λ q. moveClause (records 3 section) p a target q) count (gather (λ q. moveClause (records 3 section) p a target q) (upto count)) (state at₀ list₀) q (state at list)
+Inv-states section starts p a target count list₀ at₀ q₀ list at q = Over (λ q. moveClause (records 3 section) p a target q) count (concatMap (λ q. moveClause (records 3 section) p a target q) (upto count)) (state at₀ list₀) q (state at list)
 
 abbrev μ-states : tie.MeasureT-states
 μ-states section starts p a target count list₀ at₀ q₀ list at q = count - q

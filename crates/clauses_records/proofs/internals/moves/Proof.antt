@@ -3,7 +3,7 @@ use Prim.Native.Nat.{_-_}
 use native.Mathlib.Omega.{arith}
 use lib.ListN.{length, getD}
 use borrow.Author.Needs.{needs}
-use Rattle.lists.specs.Lists.{gather, upto}
+use Rattle.lists.specs.Lists.{concatMap, upto}
 use Rattle.table_spec.specs.File.{records}
 use Rattle.clauses_spec.specs.Clauses.{moveClause, moveClauses}
 use Rattle.clauses_emit.specs.Emit.{state}
@@ -16,7 +16,7 @@ use Rattle.clauses_records.proofs.internals.moves.Statement.{statement}
 use Rattle.clauses_records.proofs.internals.moves.Tie as tie
 
 abbrev Inv-records : tie.InvT-records
-Inv-records section count list₀ starts so-far₀ at₀ list so-far at = Along (λ r. gather (λ q. moveClause (records 3 section) (getD r 0 0) (getD r 1 0) (getD r 2 0) q) (upto count)) 3 section (moveClauses (records 3 section) count) (state so-far₀ list₀) at (state so-far list)
+Inv-records section count list₀ starts so-far₀ at₀ list so-far at = Along (λ r. concatMap (λ q. moveClause (records 3 section) (getD r 0 0) (getD r 1 0) (getD r 2 0) q) (upto count)) 3 section (moveClauses (records 3 section) count) (state so-far₀ list₀) at (state so-far list)
 
 abbrev μ-records : tie.MeasureT-records
 μ-records section count list₀ starts so-far₀ at₀ list so-far at = length section - at

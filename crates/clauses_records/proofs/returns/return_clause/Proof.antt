@@ -1,7 +1,7 @@
 -- `clauses_records::returns::return_clause` meets its contract. Assumes nothing.
 use native.Mathlib.Omega.{arith}
 use Rattle.clauses_records.proofs.Moving.{premise-more}
-use Rattle.clauses_records.proofs.Walking.{starting-all}
+use Rattle.clauses_records.proofs.Walking.{equal-range-all}
 use Rattle.clauses_records.proofs.Returning.{return-self, return-premised, return-other}
 use borrow.Author.Needs.{needs}
 use Rattle.clauses_records.proofs.returns.return_clause.Statement.{statement}
@@ -33,7 +33,7 @@ matched-requires c κs =
     let c3 = c2 .before in
     let a = c3 .before .before .before .before .before in
     let s = a .args .found .now in
-    (return-premised s (a .args .x) (a .args .q) (a .args .u) s (starting-all (a .pre .0)) (c3 .no-literals .ensures) (c2 .with-premise .ensures) (c1 .with-premise2 .ensures) (a .pre .0 .lent), a .pre .1)
+    (return-premised s (a .args .x) (a .args .q) (a .args .u) s (equal-range-all (a .pre .0)) (c3 .no-literals .ensures) (c2 .with-premise .ensures) (c1 .with-premise2 .ensures) (a .pre .0 .lent), a .pre .1)
 
 same-length : tie.Need-same-length
 same-length c = search needs
@@ -48,7 +48,7 @@ returns-2 c =
     let c8 = c7 .before in
     let a = c8 .before .before .before in
     let s = a .args .found .now in
-    return-other s (a .args .x) (a .args .q) (a .args .u) s (starting-all (a .pre .0)) (c6 .no-literals .ensures) (c5 .with-premise .ensures) (c4 .with-premise2 .ensures) _ (c8 .same-place .ensures) (c7 .if1 .left) (c2 .matched .ensures)
+    return-other s (a .args .x) (a .args .q) (a .args .u) s (equal-range-all (a .pre .0)) (c6 .no-literals .ensures) (c5 .with-premise .ensures) (c4 .with-premise2 .ensures) _ (c8 .same-place .ensures) (c7 .if1 .left) (c2 .matched .ensures)
 
 pub return-clause-spec : {M : Type 1} → statement M
 return-clause-spec =

@@ -2,20 +2,20 @@
 use Prim.Native.Nat.{_-_}
 use native.Mathlib.Omega.{arith}
 use borrow.Author.Needs.{needs}
-use Rattle.lists.specs.Lists.{gather, upto}
+use Rattle.lists.specs.Lists.{concatMap, upto}
 use Rattle.table_spec.specs.File.{records}
 use Rattle.clauses_spec.specs.Clauses.{topStates}
 use Rattle.clauses_emit.specs.Emit.{state}
 use Rattle.clauses_records.specs.Returns.{returnOf}
 use Rattle.clauses_emit.proofs.Stepping.{Over, over-all, over-on, over-done}
 use Rattle.table_index.proofs.Blocks.{placed}
-use Rattle.clauses_records.proofs.Walking.{starting-kept}
+use Rattle.clauses_records.proofs.Walking.{equal-range-kept}
 use Rattle.clauses_records.proofs.Returning.{of-word}
 use Rattle.clauses_records.proofs.returns.return_record.Statement.{statement}
 use Rattle.clauses_records.proofs.returns.return_record.Tie as tie
 
 abbrev Inv-states : tie.InvT-states
-Inv-states section starts tops x count list₀ at₀ q₀ list at q = Over (λ q. gather (λ u. returnOf (records 4 section) x q u) (topStates tops count q)) count (gather (λ q. gather (λ u. returnOf (records 4 section) x q u) (topStates tops count q)) (upto count)) (state at₀ list₀) q (state at list)
+Inv-states section starts tops x count list₀ at₀ q₀ list at q = Over (λ q. concatMap (λ u. returnOf (records 4 section) x q u) (topStates tops count q)) count (concatMap (λ q. concatMap (λ u. returnOf (records 4 section) x q u) (topStates tops count q)) (upto count)) (state at₀ list₀) q (state at list)
 
 abbrev μ-states : tie.MeasureT-states
 μ-states section starts tops x count list₀ at₀ q₀ list at q = count - q
@@ -42,7 +42,7 @@ return-tops-requires : tie.Need-return-tops-requires Inv-states μ-states
 return-tops-requires c κs =
     let c1 = c .before in
     let r = c1 .before .before .before .before in
-    (starting-kept _ (c1 .block .result .now) (r .before .before .before .pre .0) (c1 .block .ensures), r .states .inv .coming .ordered)
+    (equal-range-kept _ (c1 .block .result .now) (r .before .before .before .pre .0) (c1 .block .ensures), r .states .inv .coming .ordered)
 
 add-q : tie.Need-add-q Inv-states μ-states
 add-q c = search needs

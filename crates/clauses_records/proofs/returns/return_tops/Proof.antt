@@ -5,20 +5,20 @@ use Prim.Native.Nat.{_-_, _*_, _^_}
 use native.Mathlib.Omega.{arith}
 use lib.ListN.{take, drop}
 use borrow.Author.Needs.{needs}
-use Rattle.lists.specs.Lists.{gather, keep, upto}
+use Rattle.lists.specs.Lists.{concatMap, filter, upto}
 use Rattle.lists.specs.Bits.{hasBit}
 use Rattle.lists.proofs.Lowest.{LowestBit}
 use Rattle.table_spec.specs.File.{records}
 use Rattle.table_find.specs.Spans.{startsWith}
 use Rattle.clauses_emit.specs.Emit.{state}
 use Rattle.clauses_records.specs.Returns.{returnOf}
-use Rattle.clauses_records.proofs.Walking.{Walked, walked, walk-on, walk-starts, walk-ends, walk-found, starting-kept}
+use Rattle.clauses_records.proofs.Walking.{Walked, walked, walk-on, walk-starts, walk-ends, walk-found, equal-range-kept}
 use Rattle.clauses_records.proofs.Returning.{Toward, toward, low, toward-less, toward-on, toward-past, toward-done, of-top}
 use Rattle.clauses_records.proofs.returns.return_tops.Statement.{statement}
 use Rattle.clauses_records.proofs.returns.return_tops.Tie as tie
 
 abbrev Inv-tops : tie.InvT-tops
-Inv-tops block x q word count list₀ so-far₀ rest₀ at₀ list so-far rest at = Toward (λ u. returnOf (records 4 block) x q u) count (gather (λ u. returnOf (records 4 block) x q u) (keep (hasBit word) (upto count))) (state so-far₀ list₀) rest (state so-far list) × Walked block rest at
+Inv-tops block x q word count list₀ so-far₀ rest₀ at₀ list so-far rest at = Toward (λ u. returnOf (records 4 block) x q u) count (concatMap (λ u. returnOf (records 4 block) x q u) (filter (hasBit word) (upto count))) (state so-far₀ list₀) rest (state so-far list) × Walked block rest at
 
 abbrev μ-tops : tie.MeasureT-tops
 μ-tops block x q word count list₀ so-far₀ rest₀ at₀ list so-far rest at = rest
@@ -38,7 +38,7 @@ lowest : (c : tie.After-reached2 Inv-tops μ-tops) → LowestBit (now c .tops .r
 lowest c = low (now c .tops .inv .0) (there c .before .tops-test .taken) (there c .next-state .ensures)
 
 found : (c : tie.After-reached2 Inv-tops μ-tops)
-    → records 4 (take (c .reached2 .result * 4 - c .before .reached .result * 4) (drop (c .before .reached .result * 4) (start c .args .block .now))) ≡ keep (startsWith (start c .args .q ∷ start c .args .x .symbol ∷ there c .next-state .result ∷ [])) (records 4 (start c .args .block .now))
+    → records 4 (take (c .reached2 .result * 4 - c .before .reached .result * 4) (drop (c .before .reached .result * 4) (start c .args .block .now))) ≡ filter (startsWith (start c .args .q ∷ start c .args .x .symbol ∷ there c .next-state .result ∷ [])) (records 4 (start c .args .block .now))
 found c = walk-found (now c .tops .inv .1) (lowest c) (c .before .reached .ensures) (c .reached2 .ensures) (start c .pre .0)
 
 -- ---- the needs
@@ -83,7 +83,7 @@ part-return-clause-end : tie.Need-part-return-clause-end Inv-tops μ-tops
 part-return-clause-end c = walk-ends (now c .tops .inv .1) (lowest c) (c .before .reached .ensures) (c .reached2 .ensures)
 
 return-clause-requires : tie.Need-return-clause-requires Inv-tops μ-tops
-return-clause-requires c κs = let r = c .before .before in (starting-kept _ _ (start r .pre .0 .lent) (found r), now r .tops .inv .0 .coming .ordered)
+return-clause-requires c κs = let r = c .before .before in (equal-range-kept _ _ (start r .pre .0 .lent) (found r), now r .tops .inv .0 .coming .ordered)
 
 later-states-requires : tie.Need-later-states-requires Inv-tops μ-tops
 later-states-requires c κs = search needs

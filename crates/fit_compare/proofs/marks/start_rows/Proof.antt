@@ -1,6 +1,6 @@
 -- `fit_compare::marks::start_rows` meets its contract. The invariant: the pairs below u have their words, the others none. Assumes nothing.
 use borrow.Author.Needs.{needs}
-use Rattle.fit_compare.proofs.Marking.{Starting, starting, starting-on, started}
+use Rattle.fit_compare.proofs.Marking.{Starting, equal-range, equal-range-on, started}
 use Rattle.fit_rounds.proofs.Passing.{few-pairs}
 use Prim.Native.Nat.{_-_}
 use native.Mathlib.Omega.{arith}
@@ -22,7 +22,7 @@ mul-bottom c =
     let h = few-pairs (the-pre .0) (the-pre .1) in search needs
 
 pairs-holds : tie.Need-pairs-holds Inv-pairs μ-pairs
-pairs-holds c = starting _ _ _
+pairs-holds c = equal-range _ _ _
 
 div-byte-at : tie.Need-div-byte-at Inv-pairs μ-pairs
 div-byte-at c = search needs
@@ -57,7 +57,7 @@ pairs-again c =
     let c3 = c2 .before in
     let c4 = c3 .before in
     let c5 = c4 .before in
-    starting-on (c5 .pairs .inv) (c4 .pairs-test .taken) (c3 .byte-at .ensures) (c2 .byte-at2 .ensures) (c .start-at .ensures)
+    equal-range-on (c5 .pairs .inv) (c4 .pairs-test .taken) (c3 .byte-at .ensures) (c2 .byte-at2 .ensures) (c .start-at .ensures)
 
 returns : tie.Need-returns Inv-pairs μ-pairs
 returns c = started (c .before .pairs .inv) (c .pairs-test .left)

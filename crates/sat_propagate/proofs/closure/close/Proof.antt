@@ -3,7 +3,7 @@ use borrow.Author.Needs.{needs}
 use native.Mathlib.Omega.{arith}
 use Rattle.sat_trail.proofs.Working.{drained-settles}
 use Rattle.equality_propagate.proofs.Queueing.{queueing, queue-end}
-use Rattle.sat_counters.proofs.Lagging.{rested-behind}
+use Rattle.sat_counters.proofs.Earlier.{rested-behind}
 use Rattle.sat_propagate.proofs.closure.close.Statement.{statement}
 use Rattle.sat_propagate.proofs.closure.close.Tie as tie
 
@@ -13,8 +13,8 @@ returns c =
     let r = the-pre .1 .1 .0 in
     ((drained-settles r (queue-end (queueing r (the-pre .1 .1 .1 .0 .0)) (omega (arith, c .if1 .taken))), the-pre .1 .1 .1 .1 .1), λ h _. rested-behind (r .counted) (omega (arith, r .counted, r .room)) (c .if1 .taken) (the-pre .1 .0 h))
 
-settle-indexed-requires : tie.Need-settle-indexed-requires
-settle-indexed-requires c κs =
+propagate-indexed-requires : tie.Need-propagate-indexed-requires
+propagate-indexed-requires c κs =
     let c6 = c .before .before .before .before .before .before in
     let c17 = c6 .before .before .before .before .before .before .before .before .before .before .before in
     let the-pre = c17 .pre in
@@ -35,11 +35,11 @@ same-length-4 c = search needs
 
 returns-2 : tie.Need-returns-2
 returns-2 c =
-    let the-settle-indexed = c .before .before .before .before .before .before .before .before .settle-indexed in
-    (the-settle-indexed .ensures .0, λ _. the-settle-indexed .ensures .1)
+    let the-propagate-indexed = c .before .before .before .before .before .before .before .before .propagate-indexed in
+    (the-propagate-indexed .ensures .0, λ _. the-propagate-indexed .ensures .1)
 
-settle-marked-requires : tie.Need-settle-marked-requires
-settle-marked-requires c κs =
+propagate-segments-requires : tie.Need-propagate-segments-requires
+propagate-segments-requires c κs =
     let c4 = c .before .before .before .before in
     let c15 = c4 .before .before .before .before .before .before .before .before .before .before .before in
     let the-pre = c15 .pre in
@@ -56,7 +56,7 @@ returns-3 : tie.Need-returns-3
 returns-3 c =
     let c4 = c .before .before .before .before in
     let c9 = c4 .before .before .before .before .before in
-    (c4 .settle-marked .ensures, λ h. absurd (omega (arith, h, c9 .if2 .left)))
+    (c4 .propagate-segments .ensures, λ h. absurd (omega (arith, h, c9 .if2 .left)))
 
 pub close-spec : {M : Type 1} → statement M
-close-spec = tie.close (tie.spec returns settle-indexed-requires same-length same-length-2 same-length-3 same-length-4 returns-2 settle-marked-requires same-length-5 same-length-6 returns-3)
+close-spec = tie.close (tie.spec returns propagate-indexed-requires same-length same-length-2 same-length-3 same-length-4 returns-2 propagate-segments-requires same-length-5 same-length-6 returns-3)

@@ -4,7 +4,7 @@ use mathlib.Core.Path.{sym, _∙_}
 use Prim.Native.Nat.{_-_}
 use native.Mathlib.Omega.{arith}
 use lib.ListN.{length}
-use Rattle.tops.proofs.Starts.{Starting, starting, start-on, start-long, started}
+use Rattle.tops.proofs.Starts.{Starting, equal-range, start-on, start-long, started}
 use Rattle.tops.proofs.initial.start_words.Statement.{statement}
 use Rattle.tops.proofs.initial.start_words.Tie as tie
 
@@ -21,7 +21,7 @@ states-holds : tie.Need-states-holds Inv-states μ-states
 states-holds c =
     let c2 = c .before .before in
     let c6 = c2 .before .before .before .before in
-    starting _ (c6 .pre .0) (c2 .clear .ensures)
+    equal-range _ (c6 .pre .0) (c2 .clear .ensures)
 
 shared-slice-read-start-word : tie.Need-shared-slice-read-start-word Inv-states μ-states
 shared-slice-read-start-word c = search needs
