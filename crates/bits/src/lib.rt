@@ -1,4 +1,4 @@
-// 64-bit words as sets of states: the states of a word one after the other.
+// A byte as an index and as a long number, and 64-bit words as sets of states: the states of a word one after the other.
 ghost use mathlib.Core.Path.{_≡_};
 ghost use Prim.Native.Nat.{_-_, _^_};
 ghost use lib.Count.{trailingZeros};

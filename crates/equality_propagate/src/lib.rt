@@ -1,4 +1,4 @@
-// Conclusions from pairs that are set, and from those that they set.
+// The equality solver: conclusions from pairs that are set, and from those that they set.
 ghost use mathlib.Core.Logic.{_≢_};
 ghost use Prim.Native.Nat.{_<_};
 ghost use lib.ListN.{length};

@@ -1,4 +1,4 @@
-// What a pair that is joined or apart says of every third state.
+// The equality solver: what a pair that is joined or apart says of every third state.
 ghost use mathlib.Core.Path.{_≡_};
 ghost use Prim.Native.Nat.{_<_};
 ghost use Rattle.cnf.specs.Clauses.{valueOf};

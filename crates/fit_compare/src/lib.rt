@@ -1,4 +1,4 @@
-// The comparison of two tables that were read: the tops of their pairs, and whether a pair accepts where it must not.
+// The comparison of two tables that were read: 38, the tops of their pairs, and whether a pair accepts where it must not.
 mod choice;
 mod marks;
 mod nexts;

@@ -1,4 +1,4 @@
-// The first three lines that the program prints, put into a buffer behind each other.
+// The lines that the program prints, put into a buffer one after the other.
 ghost use Prim.Native.Nat.{_+_, _*_, _≤_};
 ghost use lib.ListN.{length};
 ghost use Rattle.print_spec.specs.Lines.{Put, spentText, countsText, mapText, tableText};

@@ -1,4 +1,4 @@
-// A guess is undone, and the words of the clauses go back with the values.
+// Backtracking: a guess is undone, and the counters of the clauses go back with the values.
 ghost use mathlib.Core.Path.{_≡_};
 ghost use Prim.Native.Nat.{_+_};
 ghost use lib.ListN.{length};

@@ -1,4 +1,4 @@
-// What each clause has left: a word with the weights of its literals that are not false.
+// A counter for each clause: the weights of its literals that are not false.
 ghost use mathlib.Core.Path.{_≡_};
 ghost use mathlib.Core.Bool.{true};
 ghost use Prim.Native.Nat.{_≤_};

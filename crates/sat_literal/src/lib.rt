@@ -1,4 +1,4 @@
-// Asking whether a literal is right or unset.
+// Whether a literal is true or unset under the values.
 ghost use mathlib.Core.Path.{_≡_};
 ghost use Prim.Native.Nat.{_+_, _/_, _%_, _<_};
 ghost use lib.ListN.{length};

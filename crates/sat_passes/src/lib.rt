@@ -1,4 +1,4 @@
-// Closing the values: every literal that a clause forces is set, until none is left or a clause is broken.
+// Unit propagation by passes over the whole list, until a pass sets nothing or a clause is in conflict.
 ghost use mathlib.Core.Path.{_≡_};
 ghost use mathlib.Core.Bool.{true};
 ghost use Rattle.cnf.specs.Clauses.{whole};

@@ -13,7 +13,7 @@ use sat_segments::propagate_segments;
 
 // Closes the values, where clauses wait for the trail's variables from `from` on: by the clauses of each literal where the list is indexed so, else by passes
 // over the segments of each variable.
-pub fn close(
+pub fn propagate(
     list: &[u16],
     n: u8,
     table: &[u16],

@@ -1,4 +1,4 @@
-// A variable that is set leads to the clauses in which its falsified literal stands, and to no others.
+// Unit propagation: a variable that is set leads to the clauses in which its falsified literal stands, and to no others; without an index, to its segments.
 ghost use mathlib.Core.Path.{_≡_};
 ghost use Prim.Native.Nat.{_≤_};
 ghost use lib.ListN.{length};
@@ -18,7 +18,7 @@ use sat_units::propagate_units;
 
 mod closure;
 
-pub use closure::close;
+pub use closure::propagate;
 
 // Sees to the variables of the trail from `from` on, and to those that it sets itself: first what the pair says, then the clauses of the list.
 pub fn propagate_indexed(

@@ -1,4 +1,4 @@
-// The words of the clauses, as they were before a guess.
+// The counters of the clauses, as they were before a guess.
 ghost use mathlib.Core.Path.{_≡_};
 ghost use Prim.Native.Nat.{_≤_};
 ghost use lib.ListN.{length};

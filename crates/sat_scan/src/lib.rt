@@ -1,4 +1,4 @@
-// The scan of the clauses of a list.
+// One scan of the clauses of a list: the literals of unit clauses are set, until the end or a conflict.
 ghost use mathlib.Core.Path.{_≡_};
 ghost use mathlib.Core.Bool.{true};
 ghost use Prim.Native.Nat.{_≤_, _<_};

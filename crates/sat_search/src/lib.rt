@@ -1,4 +1,4 @@
-// The turns of the search: the values are closed, and then a guess is undone or made.
+// The turns of the search: unit propagation, then a guess is undone or made.
 ghost use mathlib.Core.Path.{_≡_};
 ghost use lib.ListN.{length};
 ghost use Rattle.cnf.specs.Trials.{notFalse, searchTried};
@@ -11,7 +11,7 @@ use sat_backtrack::backtrack;
 use sat_decide::Due;
 use sat_decide::Ending;
 use sat_decide::due_at;
-use sat_propagate::close;
+use sat_propagate::propagate;
 use sat_restore::copy;
 use sat_trail::force;
 use sat_trail::wide;
@@ -58,7 +58,7 @@ pub fn turns(
     let mut made: u64 = 0;
     let mut low: usize = 0;
     'turns: loop {
-        let r = close(
+        let r = propagate(
             list,
             n,
             table,

@@ -1,4 +1,4 @@
-// A long list of clauses in segments: where variables were set, only the segments in which one of them stands are passed over.
+// Unit propagation over a long list by segments: where variables were set, only the segments in which one of them stands are scanned.
 ghost use mathlib.Core.Path.{_≡_};
 ghost use mathlib.Core.Bool.{true};
 ghost use Prim.Native.Nat.{_%_, _/_, _^_, _≤_, _<_};

@@ -1,4 +1,4 @@
-// What is left of a list behind the first pass: a clause with a right literal holds for good, since nothing was guessed yet.
+// What is left of a list after the first scan: a clause with a true literal holds for good, since nothing was guessed yet.
 ghost use mathlib.Core.Path.{_≡_};
 ghost use mathlib.Core.List.{_++_};
 ghost use Prim.Native.Nat.{ℕ, _+_, _*_, _≤_};

@@ -1,4 +1,4 @@
-// Variables that are set: their values, and the words of joined and apart states.
+// Variables that are set, and unset again along the trail: their values, and the words of joined and apart states.
 ghost use mathlib.Core.Path.{_≡_};
 ghost use Prim.Native.Nat.{_-_, _%_};
 

@@ -1,4 +1,4 @@
-// Clauses that have at most one literal left are seen to, by their words.
+// Clauses that have at most one literal left, by their counters: unit clauses are propagated, an empty one is a conflict.
 ghost use Prim.Native.Nat.{_≤_};
 ghost use lib.ListN.{length};
 ghost use Rattle.cnf.specs.Clauses.{clausesIn};

@@ -32,10 +32,10 @@ abbrev μ-turns : tie.MeasureT-turns
 abbrev entry : tie.At-turns Inv-turns μ-turns → tie.Start Inv-turns μ-turns
 entry c = c .before .before .before .before .before .before .before .before .before .before .before .before
 
-abbrev head : tie.After-close Inv-turns μ-turns → tie.At-turns Inv-turns μ-turns
+abbrev head : tie.After-propagate Inv-turns μ-turns → tie.At-turns Inv-turns μ-turns
 head c = c .before .before .before .before .before .before .before
 
-abbrev closed : tie.After-slice-known9 Inv-turns μ-turns → tie.After-close Inv-turns μ-turns
+abbrev closed : tie.After-slice-known9 Inv-turns μ-turns → tie.After-propagate Inv-turns μ-turns
 closed c = c .before .before .before .before .before .before .before .before
 
 abbrev undoing : tie.After-backtrack-arg6 Inv-turns μ-turns → tie.After-wide Inv-turns μ-turns
@@ -44,7 +44,7 @@ undoing c = c .before .before .before .before .before .before
 abbrev undone : tie.After-struct-known Inv-turns μ-turns → tie.After-backtrack Inv-turns μ-turns
 undone c = c .before .before .before .before .before .before .before
 
-abbrev rested : tie.After-due-at Inv-turns μ-turns → tie.After-close Inv-turns μ-turns
+abbrev rested : tie.After-due-at Inv-turns μ-turns → tie.After-propagate Inv-turns μ-turns
 rested c = closed (c .before .before .before)
 
 abbrev spending : tie.After-marks Inv-turns μ-turns → tie.After-enum-told2 Inv-turns μ-turns
@@ -62,26 +62,26 @@ forced c = c .before .before .before .before
 -- ---- what holds there
 
 -- what is lent keeps its length while the values are closed
-record Lengths (c : tie.After-close Inv-turns μ-turns) : Type 0 where
-  words : length (c .close .last .1 .1 .1 .1 .1 .1 .1 .0) ≡ length (entry (head c) .args .words .now)
+record Lengths (c : tie.After-propagate Inv-turns μ-turns) : Type 0 where
+  words : length (c .propagate .last .1 .1 .1 .1 .1 .1 .1 .0) ≡ length (entry (head c) .args .words .now)
   saved : length (head c .turns .saved) ≡ length (entry (head c) .args .saved .now)
-  noted : length (c .close .last .1 .1 .1 .1 .1 .1 .1 .1 .0) ≡ length (entry (head c) .args .noted .now)
-  values : length (c .close .last .1 .1 .1 .1 .1 .1 .1 .1 .1 .0) ≡ length (entry (head c) .args .values .now)
-  trail : length (c .close .last .1 .1 .1 .1 .1 .1 .1 .1 .1 .1 .0) ≡ length (entry (head c) .args .trail .now)
+  noted : length (c .propagate .last .1 .1 .1 .1 .1 .1 .1 .1 .0) ≡ length (entry (head c) .args .noted .now)
+  values : length (c .propagate .last .1 .1 .1 .1 .1 .1 .1 .1 .1 .0) ≡ length (entry (head c) .args .values .now)
+  trail : length (c .propagate .last .1 .1 .1 .1 .1 .1 .1 .1 .1 .1 .0) ≡ length (entry (head c) .args .trail .now)
 
-lengths : (c : tie.After-close Inv-turns μ-turns) → Lengths c
+lengths : (c : tie.After-propagate Inv-turns μ-turns) → Lengths c
 lengths c =
     let i = head c .turns .inv in
-    let k = c .close .kept .1 .1 .1 .1 .1 .1 .1 in
-    let s = c .close .ensures .0 .0 in
+    let k = c .propagate .kept .1 .1 .1 .1 .1 .1 .1 in
+    let s = c .propagate .ensures .0 .0 in
     let p = entry (head c) .pre .1 in
     record { words = k .0 ∙ i .5; saved = i .6 ∙ sym (p .0 .1); noted = k .1 .0 ∙ i .7; values = laws.after-size (i .0) s; trail = laws.after-long (i .0) s ∙ sym (p .1 .0 .long) }
 
 -- the guesses that stand are no more than the variables set
-depths : (c : tie.After-close Inv-turns μ-turns) → (head c .turns .depth ≤ c .close .result .count) × (c .close .result .count ≤ 780)
+depths : (c : tie.After-propagate Inv-turns μ-turns) → (head c .turns .depth ≤ c .propagate .result .count) × (c .propagate .result .count ≤ 780)
 depths c =
     let i = head c .turns .inv .0 in
-    let s = c .close .ensures .0 .0 in
+    let s = c .propagate .ensures .0 .0 in
     (laws.after-depth i s, omega (arith, laws.after-count i s, i .most))
 
 -- a guess stands
@@ -89,8 +89,8 @@ stands : (c : tie.Else2 Inv-turns μ-turns) → let d = head (closed (c .before 
 stands c = omega (arith, c .if2 .left)
 
 -- what is due there
-abbrev DueThen : tie.After-close Inv-turns μ-turns → Due → Type 0
-DueThen c r = DueAt (c .close .last .1 .1 .1 .1 .1 .1 .1 .1 .1 .0) (head c .turns .low) (head c .turns .made) (entry (head c) .args .budget) r
+abbrev DueThen : tie.After-propagate Inv-turns μ-turns → Due → Type 0
+DueThen c r = DueAt (c .propagate .last .1 .1 .1 .1 .1 .1 .1 .1 .1 .0) (head c .turns .low) (head c .turns .made) (entry (head c) .args .budget) r
 
 spent : (c : tie.After-enum-told2 Inv-turns μ-turns) → DueThen (rested (c .before .before)) due.Spent
 spent c = rw (c .enum-told2 .given .1) at (c .before .before .due-at .ensures)
@@ -99,12 +99,12 @@ guess : (c : tie.After-due Inv-turns μ-turns) → DueThen (rested (c .before .b
 guess c = rw (c .due .given .1) at (c .before .before .due-at .ensures)
 
 -- a guess has its place
-room : (c : tie.After-due Inv-turns μ-turns) → let q = rested (c .before .before) in (head q .turns .depth < 780) × (q .close .result .count < 780) × (c .due .given .0 .0 < 780)
+room : (c : tie.After-due Inv-turns μ-turns) → let q = rested (c .before .before) in (head q .turns .depth < 780) × (q .propagate .result .count < 780) × (c .due .given .0 .0 < 780)
 room c =
     let q = rested (c .before .before) in
     let i = head q .turns .inv .0 in
-    let l = laws.room-left i (q .close .ensures .0 .0) (c .before .before .before .before .if1 .left) (guess c .0) in
-    (omega (arith, l, i .most, depths q), omega (arith, l, i .most), omega (arith, guess c .0 .inside, laws.after-size i (q .close .ensures .0 .0), i .most))
+    let l = laws.room-left i (q .propagate .ensures .0 .0) (c .before .before .before .before .if1 .left) (guess c .0) in
+    (omega (arith, l, i .most, depths q), omega (arith, l, i .most), omega (arith, guess c .0 .inside, laws.after-size i (q .propagate .ensures .0 .0), i .most))
 
 -- ---- the needs
 
@@ -118,8 +118,8 @@ turns-holds c =
     let r = p .1 .0 in
     (laws.turning _ _ r (c .places .ensures), p .1 .1 .1, wording.lags-first (c11 .args .clauses .now) (p .0 .0) (r .counted) (omega (arith, r .counted, r .size, r .most, r .long)), wording.marked-none, (λ _ h. absurd (omega (arith, h))), refl, p .0 .1, refl)
 
-close-requires : tie.Need-close-requires Inv-turns μ-turns
-close-requires c κs =
+propagate-requires : tie.Need-propagate-requires Inv-turns μ-turns
+propagate-requires c κs =
     let h = c .before .before .before .before .before .before in
     let p = entry h .pre in
     let i = h .turns .inv in
@@ -143,7 +143,7 @@ same-length-5 c = lengths (closed (c .before .before)) .trail
 returns : tie.Need-returns Inv-turns μ-turns
 returns c =
     let q = closed (c .before .before) in
-    laws.turn-absent (head q .turns .inv .0) (q .close .ensures .0 .0) (c .before .if1 .taken) (c .if2 .taken)
+    laws.turn-absent (head q .turns .inv .0) (q .propagate .ensures .0 .0) (c .before .if1 .taken) (c .if2 .taken)
 
 sub-depth : tie.Need-sub-depth Inv-turns μ-turns
 sub-depth c = search needs
@@ -165,7 +165,7 @@ backtrack-requires c κs =
     let p = entry h .pre in
     let a = entry h .args in
     let i = h .turns .inv in
-    let s = q .close .ensures .0 in
+    let s = q .propagate .ensures .0 in
     let t = w .before .before .if1 .taken in
     let d = h .turns .depth - 1 in
     let z = stands (w .before) in
@@ -181,7 +181,7 @@ add-low c =
     let w = undoing (r .before) in
     let q = closed (w .before .before .before) in
     let i = head q .turns .inv .0 in
-    omega (arith, laws.inside i (q .close .ensures .0 .0) (w .before .before .if1 .taken) _ (stands (w .before)) (w .wide .ensures) (r .backtrack .ensures .0 .0), i .most)
+    omega (arith, laws.inside i (q .propagate .ensures .0 .0) (w .before .before .if1 .taken) _ (stands (w .before)) (w .wide .ensures) (r .backtrack .ensures .0 .0), i .most)
 
 turns-less : tie.Need-turns-less Inv-turns μ-turns
 turns-less c = search needs
@@ -193,12 +193,12 @@ turns-again c =
     let q = closed (w .before .before .before) in
     let h = head q .turns in
     let i = h .inv in
-    let s = q .close .ensures .0 .0 in
+    let s = q .propagate .ensures .0 .0 in
     let t = w .before .before .if1 .taken in
     let d = h .depth - 1 in
     let z = stands (w .before) in
     let m = w .wide .ensures in
-    rw (r .ensures .1 .0) (laws.turn-undo (i .0) s t d z m (r .ensures .0 .0), r .ensures .0 .1, r .ensures .1 .1 .lags, record { before = laws.earlier-mark (i .0) s t d z m }, (λ k _. r .ensures .1 .1 .kept k), r .kept .1 .1 .1 .1 .1 .0 ∙ q .close .kept .1 .1 .1 .1 .1 .1 .1 .0 ∙ i .5, r .kept .1 .1 .1 .1 .1 .1 .0 ∙ i .6, lengths q .noted)
+    rw (r .ensures .1 .0) (laws.turn-undo (i .0) s t d z m (r .ensures .0 .0), r .ensures .0 .1, r .ensures .1 .1 .lags, record { before = laws.earlier-mark (i .0) s t d z m }, (λ k _. r .ensures .1 .1 .kept k), r .kept .1 .1 .1 .1 .1 .0 ∙ q .propagate .kept .1 .1 .1 .1 .1 .1 .1 .0 ∙ i .5, r .kept .1 .1 .1 .1 .1 .1 .0 ∙ i .6, lengths q .noted)
 
 due-at-requires : tie.Need-due-at-requires Inv-turns μ-turns
 due-at-requires c κs =
@@ -227,7 +227,7 @@ returns-2 : tie.Need-returns-2 Inv-turns μ-turns
 returns-2 c =
     let d = c .before .before in
     let q = rested d in
-    laws.turn-solved (head q .turns .inv .0) (q .close .ensures .0 .0) (d .before .before .if1 .left) (rw (c .enum-told .given .1) at (d .due-at .ensures))
+    laws.turn-solved (head q .turns .inv .0) (q .propagate .ensures .0 .0) (d .before .before .if1 .left) (rw (c .enum-told .given .1) at (d .due-at .ensures))
 
 enum-told-2 : tie.Need-enum-told-2 Inv-turns μ-turns
 enum-told-2 c = search needs
@@ -239,7 +239,7 @@ walk-back-requires c κs =
     let a = entry (head q) .args in
     let p = entry (head q) .pre in
     let i = head q .turns .inv .0 in
-    let s = q .close .ensures .0 in
+    let s = q .propagate .ensures .0 in
     ((p .0 .all-there, rw (lengths q .values) (laws.list-formed (a .list .now) (a .n) (p .1 .1 .0 .formed))), ((p .1 .1 .1 .0, s .1), laws.can-retrace i (s .0)))
 
 same-length-11 : tie.Need-same-length-11 Inv-turns μ-turns
@@ -265,7 +265,7 @@ returns-3 c =
     let p = entry (head q) .pre .1 .1 .0 in
     let a = entry (head q) .args in
     let f = spent e in
-    laws.turn-spent (head q .turns .inv .0) (q .close .ensures .0 .0) (d .before .before .if1 .left) (f .0 .lowest) (clausesIn (a .list .now)) (laws.short-trial (a .list .now) (a .n) (p .formed)) (f .1) (c .before .before .walk-back .ensures)
+    laws.turn-spent (head q .turns .inv .0) (q .propagate .ensures .0 .0) (d .before .before .if1 .left) (f .0 .lowest) (clausesIn (a .list .now)) (laws.short-trial (a .list .now) (a .n) (p .formed)) (f .1) (c .before .before .walk-back .ensures)
 
 enum-known-due : tie.Need-enum-known-due Inv-turns μ-turns
 enum-known-due c = search needs
@@ -303,7 +303,7 @@ force-requires : tie.Need-force-requires Inv-turns μ-turns
 force-requires c κs =
     let g = guessing (forcing c) in
     let q = rested (g .before .before) in
-    let s = q .close .ensures .0 in
+    let s = q .propagate .ensures .0 in
     (entry (head q) .pre .1 .1 .1 .0, laws.can-guess (head q .turns .inv .0) (s .0) (g .before .before .before .before .if1 .left) (guess g .0) refl (s .1))
 
 add-low-2 : tie.Need-add-low-2 Inv-turns μ-turns
@@ -322,11 +322,11 @@ turns-again-2 c =
     let h = head q .turns in
     let a = entry (head q) .args in
     let i = h .inv in
-    let s = q .close .ensures in
+    let s = q .propagate .ensures in
     let e = g .before .before .before .before .if1 .left in
     let f = forced c .force .ensures in
     let o = k .before .before .copy in
     (laws.turn-guess (i .0) (s .0 .0) e (guess g .0) (guess g .1) refl f, f .assigned .rows, wording.lags-guess (a .list .now) (a .n) (i .0) (s .0 .0) (a .clauses .now) e (guess g .0) (s .1) refl f, wording.marked-guess (h .marks) (omega (arith, i .0 .marks, room g)), (λ _ _. o .ensures), lengths q .words, o .kept .1 .0 ∙ i .6, lengths q .noted)
 
 pub turns-spec : {M : Type 1} → statement M
-turns-spec = tie.close (tie.spec Inv-turns μ-turns places-requires turns-holds close-requires same-length same-length-2 same-length-3 same-length-4 same-length-5 returns sub-depth mul-wide array-read-wide wide-requires backtrack-requires add-low turns-less turns-again due-at-requires enum-told same-length-6 same-length-7 same-length-8 same-length-9 same-length-10 returns-2 enum-told-2 walk-back-requires same-length-11 same-length-12 same-length-13 same-length-14 same-length-15 returns-3 enum-known-due copy-requires cast-marks mul-marks array-write-marks add-depth add-made mul-force cast-force force-requires add-low-2 turns-less-2 turns-again-2)
+turns-spec = tie.close (tie.spec Inv-turns μ-turns places-requires turns-holds propagate-requires same-length same-length-2 same-length-3 same-length-4 same-length-5 returns sub-depth mul-wide array-read-wide wide-requires backtrack-requires add-low turns-less turns-again due-at-requires enum-told same-length-6 same-length-7 same-length-8 same-length-9 same-length-10 returns-2 enum-told-2 walk-back-requires same-length-11 same-length-12 same-length-13 same-length-14 same-length-15 returns-3 enum-known-due copy-requires cast-marks mul-marks array-write-marks add-depth add-made mul-force cast-force force-requires add-low-2 turns-less-2 turns-again-2)

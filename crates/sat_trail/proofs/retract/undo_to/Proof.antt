@@ -3,8 +3,8 @@ use borrow.Author.Needs.{needs}
 use mathlib.Core.Path.{refl}
 use Rattle.sat_trail.proofs.Undoing.{same-length as undone-length}
 use Rattle.sat_trail.proofs.UndoingTo as laws
-use Rattle.sat_trail.proofs.retract.undo-to.Statement.{statement}
-use Rattle.sat_trail.proofs.retract.undo-to.Tie as tie
+use Rattle.sat_trail.proofs.retract.undo_to.Statement.{statement}
+use Rattle.sat_trail.proofs.retract.undo_to.Tie as tie
 
 abbrev Inv-trail : tie.InvT-trail
 Inv-trail n table values₀ trail joined₀ apart₀ mark count i₀ values joined apart i = laws.Unwinding n values₀ trail mark count values joined apart i

@@ -1,11 +1,11 @@
--- `sat_propagate::closure::close` meets its contract: the queue is empty, or one of the two ways closes the values. Assumes nothing.
+-- `sat_propagate::closure::propagate` meets its contract: the queue is empty, or one of the two ways closes the values. Assumes nothing.
 use borrow.Author.Needs.{needs}
 use native.Mathlib.Omega.{arith}
 use Rattle.sat_trail.proofs.Working.{drained-settles}
 use Rattle.equality_propagate.proofs.Queueing.{queueing, queue-end}
 use Rattle.sat_counters.proofs.Earlier.{rested-behind}
-use Rattle.sat_propagate.proofs.closure.close.Statement.{statement}
-use Rattle.sat_propagate.proofs.closure.close.Tie as tie
+use Rattle.sat_propagate.proofs.closure.propagate.Statement.{statement}
+use Rattle.sat_propagate.proofs.closure.propagate.Tie as tie
 
 returns : tie.Need-returns
 returns c =
@@ -58,5 +58,5 @@ returns-3 c =
     let c9 = c4 .before .before .before .before .before in
     (c4 .propagate-segments .ensures, λ h. absurd (omega (arith, h, c9 .if2 .left)))
 
-pub close-spec : {M : Type 1} → statement M
-close-spec = tie.close (tie.spec returns propagate-indexed-requires same-length same-length-2 same-length-3 same-length-4 returns-2 propagate-segments-requires same-length-5 same-length-6 returns-3)
+pub propagate-spec : {M : Type 1} → statement M
+propagate-spec = tie.close (tie.spec returns propagate-indexed-requires same-length same-length-2 same-length-3 same-length-4 returns-2 propagate-segments-requires same-length-5 same-length-6 returns-3)
