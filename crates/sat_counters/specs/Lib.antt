@@ -1,2 +1,2 @@
 pub mod Counters
-pub mod CountersBefore
+pub mod Earlier

@@ -138,7 +138,7 @@ clauses-again-2 c =
     let w = l .before .before in
     let k = clause w in
     let i = l .literals .inv in
-    let holds = asking.holds-by (i .0) (c1 .before .before .before .before .if4 .left) (sym (c1 .is-right2 .ensures) ∙ c .if6 .taken) in
+    let holds = asking.holds-by (i .0) (c1 .before .before .before .before .if4 .left) (sym (c1 .is-true2 .ensures) ∙ c .if6 .taken) in
     (rw (w .wide .ensures) (laws.scan-clauses-holding (entry k .pre .1 .0) (laws.scan-clauses-same (k .clauses .inv .0) (i .2) (i .3)) (w .before .before .clauses-test .taken) (rw (w .wide .ensures) at holds)), i .1, k .clauses .inv .2, ap length (i .3) ∙ k .clauses .inv .3)
 
 is-unset-requires-2 : tie.Need-is-unset-requires-2 Inv-literals μ-literals Inv-clauses μ-clauses
@@ -202,7 +202,7 @@ literals-again c =
     let u = c1 .is-unset2 .ensures in (
       ⊎-elim
           (λ a. rw (a .2, a .3) (asking.step-unset (i .0) more (a .1 .left) (sym u ∙ a .0 .taken)))
-          (λ a. rw (a .1, a .2) (asking.step-wrong (i .0) more (sym (c4 .is-right2 .ensures) ∙ c1 .before .before .if6 .left) (sym u ∙ a .0 .left)))
+          (λ a. rw (a .1, a .2) (asking.step-wrong (i .0) more (sym (c4 .is-true2 .ensures) ∙ c1 .before .before .if6 .left) (sym u ∙ a .0 .left)))
           (c .if7 .came),
       i .1,
       i .2,
