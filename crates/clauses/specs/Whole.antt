@@ -1,5 +1,5 @@
 -- What the code that writes the whole clause list is stated with. Assumes nothing.
-use mathlib.Core.Bool.{Bool, true, false}
+use mathlib.Core.Bool.{Bool, true, false, _&&_}
 use mathlib.Core.List.{List, [], _++_}
 use Prim.Native.Nat.{ℕ}
 use lib.ListN.{length}
@@ -29,6 +29,10 @@ listBy whole states internals calls returns tops =
     ++ moveClauses (records 3 internals) (length states)
     ++ moveClauses (records 3 calls) (length states)
     ++ returnClausesBy tops (records 4 returns) (length states)
+
+-- up to 4 states and 3 records of each kind: a short room is enough
+unfoldable pub isSmall : List ℕ → List ℕ → List ℕ → List ℕ → Bool
+isSmall states internals calls returns = leb (length states) 4 && leb (length internals) 9 && leb (length calls) 9 && leb (length returns) 12
 
 -- the answer and the buffer for a list
 unfoldable pub listedBy : List (List ℕ) → List ℕ → ClausesDone

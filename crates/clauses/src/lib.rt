@@ -10,7 +10,7 @@ ghost use Rattle.clauses_spec.specs.Clauses.{clausesOf, ClausesSays};
 ghost use Rattle.clauses_spec.specs.Demands.{ListSound};
 ghost use Rattle.clauses_emit.specs.Emit.{state, Ordered, emit};
 ghost use Rattle.table_index.specs.Index.{LentParts};
-ghost use Rattle.clauses.specs.Whole.{closureFor, listFor, listBy, listedBy};
+ghost use Rattle.clauses.specs.Whole.{closureFor, isSmall, listFor, listBy, listedBy};
 use clauses_emit::Tally;
 use clauses_records::live_returns;
 use clauses_records::moves;
@@ -184,6 +184,59 @@ fn no_words() -> [u16; 32768]
     [0u16; 32768]
 }
 
+// Room for 512 words, which takes less time to clear.
+fn few_words() -> [u16; 512]
+    ensures { λ r. ⌜ length r ≡ 512 ⌝ }
+{
+    [0u16; 512]
+}
+
+// Up to 4 states and 3 records of each kind: 512 words are enough for the list.
+fn is_small(states: &[u8], internals: &[u8], calls: &[u8], returns: &[u8]) -> bool
+    ensures { λ r. ⌜ r ≡ isSmall (now (states .entry)) (now (internals .entry)) (now (calls .entry)) (now (returns .entry)) ⌝ }
+{
+    if states.len() > 4 {
+        return false;
+    }
+    if internals.len() > 9 {
+        return false;
+    }
+    if calls.len() > 9 {
+        return false;
+    }
+    returns.len() <= 12
+}
+
+// The list by as much of a room as the buffer is long.
+fn list_by(
+    whole: bool,
+    states: &[u8],
+    internals: &[u8],
+    calls: &[u8],
+    returns: &[u8],
+    tops: &[u64; 40],
+    room: &mut [u16],
+    list: &mut [u16],
+) -> Listed
+    requires { ⌜ LentParts (now states) (now internals) (now calls) (now returns) ⌝ }
+    ensures { λ r. ⌜
+        record { answer = r; list = now (list .exit) }
+        ≡ listedBy (listBy whole (now (states .entry)) (now (internals .entry)) (now (calls .entry)) (now (returns .entry)) (now (tops .entry)))
+        (now (list .entry)) ⌝ }
+{
+    let most = least(list.len(), room.len());
+    list_in(
+        whole,
+        states,
+        internals,
+        calls,
+        returns,
+        tops,
+        &mut room[..most],
+        list,
+    )
+}
+
 // The list of the sections: up to 32,768 words in one walk.
 fn list_sections(
     whole: bool,
@@ -200,16 +253,28 @@ fn list_sections(
         ≡ listedBy (listBy whole (now (states .entry)) (now (internals .entry)) (now (calls .entry)) (now (returns .entry)) (now (tops .entry)))
         (now (list .entry)) ⌝ }
 {
+    if is_small(states, internals, calls, returns) {
+        let mut few = few_words();
+        return list_by(
+            whole,
+            states,
+            internals,
+            calls,
+            returns,
+            tops,
+            &mut few,
+            list,
+        );
+    }
     let mut room = no_words();
-    let most = least(list.len(), 32768);
-    list_in(
+    list_by(
         whole,
         states,
         internals,
         calls,
         returns,
         tops,
-        &mut room[..most],
+        &mut room,
         list,
     )
 }

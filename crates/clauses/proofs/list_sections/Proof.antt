@@ -1,57 +1,53 @@
--- `clauses::list_sections` meets its contract: the room is no longer than the list. Assumes nothing.
-use mathlib.Core.Path.{_≡_, _∙_, sym}
-use Prim.Native.Nat.{_≤_}
-use native.Mathlib.Omega.{arith}
-use native.Mathlib.Nat.{min-le-left, min-le-right}
-use lib.ListN.{length, take}
-use lib.Seq.{length-take-le}
+-- `clauses::list_sections` meets its contract: in either room. Assumes nothing.
 use borrow.Author.Needs.{needs}
 use Rattle.clauses.proofs.list_sections.Statement.{statement}
 use Rattle.clauses.proofs.list_sections.Tie as tie
 
-abbrev start : tie.After-least → tie.Start
-start c = c .before .before .before .before .before .before .before
+is-small-requires : tie.Need-is-small-requires
+is-small-requires c κs = search needs
 
-within : (c : tie.After-least) → c .least .result ≤ length (start c .args .list .now)
-within c = omega (arith, c .least .ensures, min-le-left (length (start c .args .list .now)) 32768)
+few-words-requires : tie.Need-few-words-requires
+few-words-requires c κs = search needs
 
-fits : (c : tie.After-least) → c .least .result ≤ 32768
-fits c = omega (arith, c .least .ensures, min-le-right (length (start c .args .list .now)) 32768)
+slice-aggregate-list-by : tie.Need-slice-aggregate-list-by
+slice-aggregate-list-by c = search needs
 
-room : (c : tie.After-least) → length (take (c .least .result) (c .before .no-words .result)) ≡ c .least .result
-room c = length-take-le _ _ (omega (arith, fits c, c .before .no-words .ensures))
-
-no-words-requires : tie.Need-no-words-requires
-no-words-requires c κs = search needs
-
-least-requires : tie.Need-least-requires
-least-requires c κs = search needs
-
-array-borrow-prefix-room : tie.Need-array-borrow-prefix-room
-array-borrow-prefix-room c = let h = fits c in search needs
-
-slice-aggregate-list-in : tie.Need-slice-aggregate-list-in
-slice-aggregate-list-in c = sym (room (c .before))
-
-list-in-requires : tie.Need-list-in-requires
-list-in-requires c κs =
-    let l = c .before .before in
-    (start l .pre, omega (arith, room l, within l))
+list-by-requires : tie.Need-list-by-requires
+list-by-requires c κs = search needs
 
 same-length : tie.Need-same-length
 same-length c = search needs
 
 returns : tie.Need-returns
-returns c = c .before .before .before .list-in .ensures
+returns c = c .before .before .before .list-by .ensures
+
+no-words-requires : tie.Need-no-words-requires
+no-words-requires c κs = search needs
+
+slice-aggregate-list-by-2 : tie.Need-slice-aggregate-list-by-2
+slice-aggregate-list-by-2 c = search needs
+
+list-by-requires-2 : tie.Need-list-by-requires-2
+list-by-requires-2 c κs = search needs
+
+same-length-2 : tie.Need-same-length-2
+same-length-2 c = search needs
+
+returns-2 : tie.Need-returns-2
+returns-2 c = c .before .before .before .list-by2 .ensures
 
 pub list-sections-spec : {M : Type 1} → statement M
 list-sections-spec =
     tie.close
     (tie.spec
-    no-words-requires
-    least-requires
-    array-borrow-prefix-room
-    slice-aggregate-list-in
-    list-in-requires
+    is-small-requires
+    few-words-requires
+    slice-aggregate-list-by
+    list-by-requires
     same-length
-    returns)
+    returns
+    no-words-requires
+    slice-aggregate-list-by-2
+    list-by-requires-2
+    same-length-2
+    returns-2)
