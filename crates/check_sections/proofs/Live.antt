@@ -57,23 +57,23 @@ pub gathering : (f s : List ℕ) {live : List ℕ} → length live ≡ 16384 →
 gathering f s e l = record { inside = omega arith; long = e; room = omega arith; meets = refl }
 
 module _ {f s live : List ℕ} {n at : ℕ} (g : Gathering f s live n at) where
-  pub concatMap-full : n ≤ length live
-  concatMap-full = omega (arith, g .room, g .long)
+  pub filter-live-full : n ≤ length live
+  filter-live-full = omega (arith, g .room, g .long)
 
   module _ (h : 4 ≤ length s - at) where
     on : records 4 (drop at s) ≡ take (at + 4 - at) (drop at s) ∷ records 4 (drop (at + 4) s)
     on = record-on 4 s at (omega arith) h
 
-    pub concatMap-room : n + 4 ≤ 16384
-    concatMap-room = omega (arith, g .room, ap length on)
+    pub filter-live-room : n + 4 ≤ 16384
+    filter-live-room = omega (arith, g .room, ap length on)
 
-    pub concatMap-past : kept f (take (at + 4 - at) (drop at s)) ≡ false → Gathering f s live n (at + 4)
+    pub filter-live-past : kept f (take (at + 4 - at) (drop at s)) ≡ false → Gathering f s live n (at + 4)
     unfolding filter
-    concatMap-past e = record { inside = omega arith; long = g .long; room = omega (arith, g .room, ap length on); meets = g .meets ∙ ap (λ (rs : List (List ℕ)). take n live ++ concat (filter (kept f) rs)) on ∙ rw (e, filter) }
+    filter-live-past e = record { inside = omega arith; long = g .long; room = omega (arith, g .room, ap length on); meets = g .meets ∙ ap (λ (rs : List (List ℕ)). take n live ++ concat (filter (kept f) rs)) on ∙ rw (e, filter) }
 
-    pub concatMap-on : kept f (take (at + 4 - at) (drop at s)) ≡ true → Gathering f s (set (set (set (set live n (getD s at 0)) (n + 1) (getD s (at + 1) 0)) (n + 2) (getD s (at + 2) 0)) (n + 3) (getD s (at + 3) 0)) (n + 4) (at + 4)
+    pub filter-live-on : kept f (take (at + 4 - at) (drop at s)) ≡ true → Gathering f s (set (set (set (set live n (getD s at 0)) (n + 1) (getD s (at + 1) 0)) (n + 2) (getD s (at + 2) 0)) (n + 3) (getD s (at + 3) 0)) (n + 4) (at + 4)
     unfolding filter concat
-    concatMap-on e = record {
+    filter-live-on e = record {
       inside = omega arith;
       long = four-long live n (getD s at 0) (getD s (at + 1) 0) (getD s (at + 2) 0) (getD s (at + 3) 0) fits ∙ g .long;
       room = omega (arith, g .room, ap length on);
@@ -81,7 +81,7 @@ module _ {f s live : List ℕ} {n at : ℕ} (g : Gathering f s live n at) where
     }
       where
         fits : n + 4 ≤ length live
-        fits = omega (arith, g .long, concatMap-room)
+        fits = omega (arith, g .long, filter-live-room)
 
         rest : List ℕ
         rest = concat (filter (kept f) (records 4 (drop (at + 4) s)))

@@ -58,8 +58,8 @@ module _ {m : List ℕ} {c w q : ℕ} (g : Gathered m c w q) where
   gathered l = record { only = λ x b. (omega (arith, g .only x b .0, g .inside), g .only x b .1); every = λ x h e. g .every x (omega arith) e }
 
   module _ (l : q < length m) where
-    concatMap-not : (c ≡ classOf m q → ⊥) → Gathered m c w (q + 1)
-    concatMap-not n = record { inside = omega arith; only = λ x b. (omega (arith, g .only x b .0), g .only x b .1); every = λ x h e. g .every x (below x h e) e }
+    filter-live-not : (c ≡ classOf m q → ⊥) → Gathered m c w (q + 1)
+    filter-live-not n = record { inside = omega arith; only = λ x b. (omega (arith, g .only x b .0), g .only x b .1); every = λ x h e. g .every x (below x h e) e }
       where
         below : (x : ℕ) → x < q + 1 → c ≡ classOf m x → x < q
         below x h e = go (ℕ-discrete x q)
@@ -68,8 +68,8 @@ module _ {m : List ℕ} {c w q : ℕ} (g : Gathered m c w q) where
             go (yes d) = absurd (n (subst (λ (y : ℕ). c ≡ classOf m y) d e))
             go (no d) = omega arith
 
-    concatMap-one : c ≡ classOf m q → Gathered m c (bitOr w (2 ^ q)) (q + 1)
-    concatMap-one e = record { inside = omega arith; only = λ x b. one x (or-bit w (2 ^ q) x b); every = λ x h d. there x h d (ℕ-discrete x q) }
+    filter-live-one : c ≡ classOf m q → Gathered m c (bitOr w (2 ^ q)) (q + 1)
+    filter-live-one e = record { inside = omega arith; only = λ x b. one x (or-bit w (2 ^ q) x b); every = λ x h d. there x h d (ℕ-discrete x q) }
       where
         one : (x : ℕ) → Bit w x ⊎ Bit (2 ^ q) x → (x < q + 1) × (c ≡ classOf m x)
         one x (inl b) = (omega (arith, g .only x b .0), g .only x b .1)
@@ -95,8 +95,8 @@ module _ {m words : List ℕ} {q : ℕ} (g : Classing m words q) where
       go : (d : ℕ) → d < 256 → Dec (d ≡ c) → Gathered m d (getD (set words c (bitOr (getD words c 0) y)) d 0) (q + 1)
       go d h (yes s) =
           subst (λ (v : ℕ). Gathered m v (getD (set words c (bitOr (getD words c 0) y)) v 0) (q + 1)) (sym s)
-          (subst (λ (w : ℕ). Gathered m c w (q + 1)) (sym (getD-set-same words c (bitOr (getD words c 0) y) 0 (omega (arith, g .long)) ∙ ap (bitOr (getD words c 0)) z)) (concatMap-one (g .classes c k) l e))
-      go d h (no s) = subst (λ (w : ℕ). Gathered m d w (q + 1)) (sym (getD-set-other words c d (bitOr (getD words c 0) y) 0 s)) (concatMap-not (g .classes d h) l (λ t. s (t ∙ sym e)))
+          (subst (λ (w : ℕ). Gathered m c w (q + 1)) (sym (getD-set-same words c (bitOr (getD words c 0) y) 0 (omega (arith, g .long)) ∙ ap (bitOr (getD words c 0)) z)) (filter-live-one (g .classes c k) l e))
+      go d h (no s) = subst (λ (w : ℕ). Gathered m d w (q + 1)) (sym (getD-set-other words c d (bitOr (getD words c 0) y) 0 s)) (filter-live-not (g .classes d h) l (λ t. s (t ∙ sym e)))
 
   pub all-classed : length m ≤ q → Classed m words
   all-classed l = record { classes = λ c h. gathered (g .classes c h) l }

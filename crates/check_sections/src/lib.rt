@@ -236,7 +236,7 @@ pub fn records_matched(section: &[u8], width: usize, words: &[u64], map: &[u8]) 
 }
 
 // The returns that are live, one after the other; how many bytes they take.
-fn concatMap(section: &[u8], words: &[u64], live: &mut [u8; 16384]) -> usize
+fn filter_live(section: &[u8], words: &[u64], live: &mut [u8; 16384]) -> usize
     requires { ⌜ (length (records 4 (now section)) ≤ 4096) × (length (now live) ≡ 16384) ⌝ }
     ensures { λ r. ⌜ (r ≤ length (now (live .exit))) × (records 4 (take r (now (live .exit))) ≡ filter (kept (now (words .entry))) (records 4 (now (section .entry)))) ⌝ }
 {
@@ -256,7 +256,7 @@ fn concatMap(section: &[u8], words: &[u64], live: &mut [u8; 16384]) -> usize
     n
 }
 
-// (iv): where there are many returns the live ones are gathered first, for the dead ask nothing.
+// (iv): where there are many returns the dead ones are left out first, for the dead ask nothing.
 pub fn live_matched(section: &[u8], words: &[u64], map: &[u8]) -> bool
     requires { ⌜ Lent 4 (now section) (length (now map)) ⌝ }
     ensures { λ r. ⌜ r ≡ recordsMatched 4 (now (words .entry)) (records 4 (now (section .entry))) (length (now (map .entry))) (now (map .entry)) ⌝ }
@@ -265,6 +265,6 @@ pub fn live_matched(section: &[u8], words: &[u64], map: &[u8]) -> bool
         return records_matched(section, 4, words, map);
     }
     let mut live = [0u8; 16384];
-    let n = concatMap(section, words, &mut live);
+    let n = filter_live(section, words, &mut live);
     records_matched(&live[..n], 4, words, map)
 }

@@ -71,17 +71,18 @@ module _ {ws starts set v₀ t₀ : List ℕ} {start : ℕ} (ready : Ready (clau
         pub scan-broken : OnePass (clausesIn (segmentOf ws starts k)) v t count w r true more → OnePass (clausesIn ws) v₀ t₀ start w r true more
         scan-broken p = record { worked = segment-worked p; waiting = λ b. absurd (true≢false b) }
 
-        pub scan-on : OnePass (clausesIn (segmentOf ws starts k)) v t count w r false more → Scanning ws starts set v₀ t₀ start w r more (k + 1)
+        -- the set may gain segments
+        pub scan-on : {more-set : List ℕ} → ((n : ℕ) → n < 1024 → Bit (getD set (n / 64) 0) (n % 64) → Bit (getD more-set (n / 64) 0) (n % 64)) → OnePass (clausesIn (segmentOf ws starts k)) v t count w r false more → Scanning ws starts more-set v₀ t₀ start w r more (k + 1)
         unfolding worked-trans worked-part grown-trans
-        scan-on p = record {
+        scan-on {more-set} kept p = record {
           worked = worked-trans (i .worked) (worked-part (clausesIn (segmentOf ws starts k)) (clausesIn ws) (u .each k h .part) (p .worked));
           passed = λ c m. go c (i .passed c m);
         }
           where
-            pick : (c : List ℕ) (d : Due ws starts set k c) → Dec (d .number ≡ k) → SettledOr w (i .worked .grown .new ++ p .worked .grown .new) c ⊎ Due ws starts set (k + 1) c
+            pick : (c : List ℕ) (d : Due ws starts set k c) → Dec (d .number ≡ k) → SettledOr w (i .worked .grown .new ++ p .worked .grown .new) c ⊎ Due ws starts more-set (k + 1) c
             pick c d (yes q) = inl (settled-or-behind (i .worked .grown .new) (p .waiting refl c (subst (λ (n : ℕ). List·Memᴰ c (clausesIn (segmentOf ws starts n))) q (d .has))))
-            pick c d (no q) = inr (record { number = d .number; later = omega (arith, d .later); few = d .few; has = d .has; due = d .due })
+            pick c d (no q) = inr (record { number = d .number; later = omega (arith, d .later); few = d .few; has = d .has; due = kept (d .number) (d .few) (d .due) })
 
-            go : (c : List ℕ) → SettledOr v (i .worked .grown .new) c ⊎ Due ws starts set k c → SettledOr w (i .worked .grown .new ++ p .worked .grown .new) c ⊎ Due ws starts set (k + 1) c
+            go : (c : List ℕ) → SettledOr v (i .worked .grown .new) c ⊎ Due ws starts set k c → SettledOr w (i .worked .grown .new ++ p .worked .grown .new) c ⊎ Due ws starts more-set (k + 1) c
             go c (inl s) = inl (settled-or-more (p .worked .grown .new) (grown-same (p .worked .grown)) s)
             go c (inr d) = pick c d (ℕ-discrete (d .number) k)

@@ -74,8 +74,10 @@ unfoldable pub wordOver : List ℕ → ℕ → List ℕ → ℕ
 wordOver masks j [] = 0
 wordOver masks j (x ∷ xs) = bitOr (getD masks (x * 16 + j) 0) (wordOver masks j xs)
 
-pub record Gathered (masks xs set : List ℕ) : Type 0 where
-  pub each : (j : ℕ) → j < 16 → getD set j 0 ≡ wordOver masks j xs
+-- a set gains them
+pub record Gained (masks xs before after : List ℕ) : Type 0 where
+  pub long : length after ≡ 16
+  pub each : (j : ℕ) → j < 16 → getD after j 0 ≡ bitOr (getD before j 0) (wordOver masks j xs)
 
 -- the clause stands in a segment of the set, from k on
 pub record Due (ws starts set : List ℕ) (k : ℕ) (c : List ℕ) : Type 0 where

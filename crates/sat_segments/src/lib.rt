@@ -12,7 +12,7 @@ ghost use Rattle.pairs.specs.Entries.{PairTable};
 ghost use Rattle.sat_trail.specs.Conclusions.{withTriangles};
 ghost use Rattle.sat_trail.specs.Rows.{Rows};
 ghost use Rattle.sat_trail.specs.Trail.{Ready, Queue, OnePass, Settles};
-ghost use Rattle.sat_segments.specs.Segments.{limitOf, Cut, Noted, Marked, wordOver, Gathered, SettledOrDue, Lookup};
+ghost use Rattle.sat_segments.specs.Segments.{limitOf, Cut, Noted, Marked, wordOver, Gained, SettledOrDue, Lookup};
 use equality_propagate::drain;
 use equality_spread::Reached;
 use sat_scan::scan_clauses;
@@ -100,27 +100,34 @@ fn word_over(masks: &[u64], trail: &[u16], from: usize, to: usize, j: usize) -> 
     word
 }
 
-// The segments in which a variable of the trail's part stands.
-fn segments_of(masks: &[u64], trail: &[u16], from: usize, to: usize) -> [u64; 16]
-    requires { ⌜ Lookup (now masks) (now trail) from to ⌝ }
-    ensures { λ r. ⌜ Gathered (now (masks .entry)) (slice from to (now (trail .entry))) r ⌝ }
+// No segments.
+fn no_segments() -> [u64; 16]
+    ensures { λ r. ⌜ length r ≡ 16 ⌝ }
 {
-    let mut set = [0u64; 16];
-    let mut j: usize = 0;
-    'words: while j < 16 {
-        set[j] = word_over(masks, trail, from, to, j);
-        j += 1;
-    }
-    set
+    [0u64; 16]
 }
 
-// One pass over the segments of the set, where every clause elsewhere is settled: what is forced is set as it is met, up to a clause that is broken.
+// The set gains the segments in which a variable of the trail's part stands.
+fn add_segments(masks: &[u64], trail: &[u16], from: usize, to: usize, set: &mut [u64; 16])
+    requires { ⌜ Lookup (now masks) (now trail) from to × (length (now set) ≡ 16) ⌝ }
+    ensures { λ _. ⌜ Gained (now (masks .entry)) (slice from to (now (trail .entry))) (now (set .entry)) (now (set .exit)) ⌝ }
+{
+    let mut j: usize = 0;
+    'words: while j < 16 {
+        set[j] = set[j] | word_over(masks, trail, from, to, j);
+        j += 1;
+    }
+}
+
+// One pass over the segments of the set, where every clause elsewhere is settled: what is forced is set as it is met, up to a clause that is broken. The set gains
+// the segments of what is set.
 fn pass_segments(
     list: &[u16],
     n: u8,
     table: &[u16],
     starts: &[usize],
-    set: &[u64; 16],
+    masks: &[u64],
+    set: &mut [u64; 16],
     values: &mut [u8],
     trail: &mut [u16],
     joined: &mut [u64; 40],
@@ -128,6 +135,7 @@ fn pass_segments(
     start: usize,
 ) -> Reached
     requires { ⌜ Cut (now list) (now starts) × SettledOrDue (now list) (now starts) (now set) (now values) ⌝ }
+    requires { ⌜ (length (now masks) ≡ 12480) × (length (now set) ≡ 16) × (length (now values) ≤ 780) ⌝ }
     requires { ⌜ Ready (clausesIn (now list)) (now values) (now trail) start ⌝ }
     requires { ⌜ PairTable (now table) × Rows n (now values) (now joined) (now apart) ⌝ }
     ensures { λ r. ⌜
@@ -156,13 +164,15 @@ fn pass_segments(
             count,
             &mut none,
         );
-        count = s.count;
+        let more = s.count;
         if s.broken {
             return Reached {
                 broken: true,
-                count,
+                count: more,
             };
         }
+        add_segments(masks, trail, count, more, set);
+        count = more;
     }
     Reached {
         broken: false,
@@ -201,14 +211,16 @@ pub fn propagate_segments(
             return d;
         }
         let mid = d.count;
-        let set = segments_of(masks, trail, at, mid);
+        let mut set = no_segments();
+        add_segments(masks, trail, at, mid, &mut set);
         at = mid;
         let p = pass_segments(
             list,
             n,
             table,
             starts,
-            &set,
+            masks,
+            &mut set,
             values,
             trail,
             joined,

@@ -1,5 +1,6 @@
 -- `sat_segments::propagate_segments` meets its contract. The loop's invariant: what was set so far are unit steps, and every clause waits for the queue only; each pass
 -- but the last sets a variable. Assumes nothing.
+use borrow.Author.Needs.{needs}
 use native.Mathlib.Omega.{arith}
 use Prim.Native.Nat.{_-_}
 use lib.ListN.{length}
@@ -33,10 +34,10 @@ head c = c .before .before .before .before .before
 abbrev drained : tie.Else1 Inv-passes μ-passes → tie.After-drain Inv-passes μ-passes
 drained c = c .before .before .before .before .before
 
-abbrev quiet : tie.After-segments-of Inv-passes μ-passes → tie.Else1 Inv-passes μ-passes
-quiet c = c .before .before
+abbrev quiet : tie.After-add-segments Inv-passes μ-passes → tie.Else1 Inv-passes μ-passes
+quiet c = c .before .before .before .before
 
-abbrev gathered : tie.After-pass-segments Inv-passes μ-passes → tie.After-segments-of Inv-passes μ-passes
+abbrev gathered : tie.After-pass-segments Inv-passes μ-passes → tie.After-add-segments Inv-passes μ-passes
 gathered c = c .before .before .before .before .before .before
 
 abbrev passed : tie.Else2 Inv-passes μ-passes → tie.After-pass-segments Inv-passes μ-passes
@@ -73,14 +74,18 @@ returns c =
     let d = c .before .before .before .before .before in
     (passing.drain-broken (head d .passes .inv .0) (d .drain .ensures .0) (c .if1 .taken), d .drain .ensures .1)
 
-segments-of-requires : tie.Need-segments-of-requires Inv-passes μ-passes
-segments-of-requires c κs =
-    let d = drained (c .before) in
+no-segments-requires : tie.Need-no-segments-requires Inv-passes μ-passes
+no-segments-requires c κs = search needs
+
+add-segments-requires : tie.Need-add-segments-requires Inv-passes μ-passes
+add-segments-requires c κs =
+    let n = c .before .before in
+    let d = drained (n .before) in
     let i = head d .passes .inv .0 in
     let e = d .drain .ensures .0 in
     let p = entry (head d) .pre .0 in
     let o = laws.drain-ordered i e in
-    laws.lookup i e (p .0 .long) (p .1) (omega arith) (omega (arith, o)) (omega (arith, o))
+    (laws.lookup i e (p .0 .long) (p .1) (omega arith) (omega (arith, o)) (omega (arith, o)), n .no-segments .ensures)
 
 pass-segments-requires : tie.Need-pass-segments-requires Inv-passes μ-passes
 pass-segments-requires c κs =
@@ -89,7 +94,10 @@ pass-segments-requires c κs =
     let i = head d .passes .inv in
     let e = d .drain .ensures in
     let p = entry (head d) .pre in
-    ((p .0 .0 .cut, laws.settled-or-due (p .0 .0) (g .segments-of .ensures) (laws.drained-waiting (i .0) (e .0) (i .1))), (passing.pass-ready (i .0) (e .0), (p .1 .1 .0, e .1)))
+    let s = g .add-segments .ensures in (
+      (p .0 .0 .cut, laws.settled-or-due (p .0 .0) s (laws.drained-waiting (i .0) (e .0) (i .1))),
+      ((p .0 .0 .long, s .long, omega (arith, passing.drained-values (i .0) (e .0), p .0 .1)), (passing.pass-ready (i .0) (e .0), (p .1 .1 .0, e .1))),
+    )
 
 same-length-3 : tie.Need-same-length-3 Inv-passes μ-passes
 same-length-3 c =
@@ -162,7 +170,7 @@ passes-again c =
     let i = head d .passes .inv in
     let e = d .drain .ensures in
     let p = s .pass-segments .ensures in
-    (passing.propagate-passes-more (i .0) (e .0) (q .if1 .left) (p .0) (c .before .if2 .left), laws.passed-waiting (i .0) (e .0) (told (c .before .if2 .left) (p .0)), p .1)
+    (passing.propagate-passes-more (i .0) (e .0) (q .if1 .left) (p .0) (c .before .if2 .left), laws.pass-waiting (passing.pass-ready (i .0) (e .0)) (told (c .before .if2 .left) (p .0)), p .1)
 
 pub propagate-segments-spec : {M : Type 1} → statement M
 propagate-segments-spec =
@@ -175,7 +183,8 @@ propagate-segments-spec =
     same-length
     same-length-2
     returns
-    segments-of-requires
+    no-segments-requires
+    add-segments-requires
     pass-segments-requires
     same-length-3
     same-length-4

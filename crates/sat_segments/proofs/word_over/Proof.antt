@@ -60,10 +60,10 @@ variables-again : tie.Need-variables-again Inv-variables μ-variables
 variables-again c =
     let w = c .before in
     let h = head w in
-    laws.concatMap-on (entry h .pre .0) (h .variables .inv) (w .before .before .variables-test .taken) (w .wide .ensures)
+    laws.gather-on (entry h .pre .0) (h .variables .inv) (w .before .before .variables-test .taken) (w .wide .ensures)
 
 returns : tie.Need-returns Inv-variables μ-variables
-returns c = laws.concatMap-all (entry (c .before) .pre .0) (c .before .variables .inv) (c .variables-test .left)
+returns c = laws.gather-all (entry (c .before) .pre .0) (c .before .variables .inv) (c .variables-test .left)
 
 pub word-over-spec : {M : Type 1} → statement M
 word-over-spec =

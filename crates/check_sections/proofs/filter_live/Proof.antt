@@ -1,12 +1,12 @@
--- `check_sections::concatMap` meets its contract: the live returns before this one. Assumes nothing.
-use Rattle.check_sections.proofs.Live.{Gathering, gathering, concatMap-full, concatMap-room, concatMap-past, concatMap-on, all-gathered}
+-- `check_sections::filter_live` meets its contract: the live returns before this one. Assumes nothing.
+use Rattle.check_sections.proofs.Live.{Gathering, gathering, filter-live-full, filter-live-room, filter-live-past, filter-live-on, all-gathered}
 use mathlib.Core.Path.{sym, _∙_}
 use Prim.Native.Nat.{_-_}
 use native.Mathlib.Omega.{arith}
 use lib.ListN.{length}
 use borrow.Author.Needs.{needs}
-use Rattle.check_sections.proofs.concatMap.Statement.{statement}
-use Rattle.check_sections.proofs.concatMap.Tie as tie
+use Rattle.check_sections.proofs.filter_live.Statement.{statement}
+use Rattle.check_sections.proofs.filter_live.Tie as tie
 
 abbrev Inv-records : tie.InvT-records
 Inv-records section words live₀ n₀ at₀ live n at = Gathering words section live n at
@@ -44,7 +44,7 @@ element-write-live : tie.Need-element-write-live Inv-records μ-records
 element-write-live c =
     let c4 = c .before .before .before .before in
     let c5 = c4 .before in
-    omega (arith, concatMap-room (c5 .records .inv) (c4 .records-test .taken))
+    omega (arith, filter-live-room (c5 .records .inv) (c4 .records-test .taken))
 
 add-live : tie.Need-add-live Inv-records μ-records
 add-live c = search needs
@@ -56,13 +56,13 @@ add-live-2 : tie.Need-add-live-2 Inv-records μ-records
 add-live-2 c =
     let c5 = c .before .before .before .before .before in
     let c6 = c5 .before in
-    omega (arith, concatMap-room (c6 .records .inv) (c5 .records-test .taken))
+    omega (arith, filter-live-room (c6 .records .inv) (c5 .records-test .taken))
 
 element-write-live-2 : tie.Need-element-write-live-2 Inv-records μ-records
 element-write-live-2 c =
     let c5 = c .before .before .before .before .before in
     let c6 = c5 .before in
-    omega (arith, concatMap-room (c6 .records .inv) (c5 .records-test .taken))
+    omega (arith, filter-live-room (c6 .records .inv) (c5 .records-test .taken))
 
 add-live-3 : tie.Need-add-live-3 Inv-records μ-records
 add-live-3 c = search needs
@@ -74,13 +74,13 @@ add-live-4 : tie.Need-add-live-4 Inv-records μ-records
 add-live-4 c =
     let c6 = c .before .before .before .before .before .before in
     let c7 = c6 .before in
-    omega (arith, concatMap-room (c7 .records .inv) (c6 .records-test .taken))
+    omega (arith, filter-live-room (c7 .records .inv) (c6 .records-test .taken))
 
 element-write-live-3 : tie.Need-element-write-live-3 Inv-records μ-records
 element-write-live-3 c =
     let c6 = c .before .before .before .before .before .before in
     let c7 = c6 .before in
-    omega (arith, concatMap-room (c7 .records .inv) (c6 .records-test .taken))
+    omega (arith, filter-live-room (c7 .records .inv) (c6 .records-test .taken))
 
 add-live-5 : tie.Need-add-live-5 Inv-records μ-records
 add-live-5 c = search needs
@@ -92,19 +92,19 @@ add-live-6 : tie.Need-add-live-6 Inv-records μ-records
 add-live-6 c =
     let c7 = c .before .before .before .before .before .before .before in
     let c8 = c7 .before in
-    omega (arith, concatMap-room (c8 .records .inv) (c7 .records-test .taken))
+    omega (arith, filter-live-room (c8 .records .inv) (c7 .records-test .taken))
 
 element-write-live-4 : tie.Need-element-write-live-4 Inv-records μ-records
 element-write-live-4 c =
     let c7 = c .before .before .before .before .before .before .before in
     let c8 = c7 .before in
-    omega (arith, concatMap-room (c8 .records .inv) (c7 .records-test .taken))
+    omega (arith, filter-live-room (c8 .records .inv) (c7 .records-test .taken))
 
 add-n : tie.Need-add-n Inv-records μ-records
 add-n c =
     let c7 = c .before .before .before .before .before .before .before in
     let c8 = c7 .before in
-    omega (arith, concatMap-room (c8 .records .inv) (c7 .records-test .taken))
+    omega (arith, filter-live-room (c8 .records .inv) (c7 .records-test .taken))
 
 records-less : tie.Need-records-less Inv-records μ-records
 records-less c =
@@ -117,7 +117,7 @@ records-again c =
     let c5 = c4 .before in
     let c7 = c5 .before .before in
     let c8 = c7 .before in
-    concatMap-on (c8 .records .inv) (c7 .records-test .taken) (sym (c5 .keeps .ensures) ∙ c4 .if1 .taken)
+    filter-live-on (c8 .records .inv) (c7 .records-test .taken) (sym (c5 .keeps .ensures) ∙ c4 .if1 .taken)
 
 records-less-2 : tie.Need-records-less-2 Inv-records μ-records
 records-less-2 c =
@@ -129,15 +129,15 @@ records-again-2 c =
     let c1 = c .before in
     let c3 = c1 .before .before in
     let c4 = c3 .before in
-    concatMap-past (c4 .records .inv) (c3 .records-test .taken) (sym (c1 .keeps .ensures) ∙ c .if1 .left)
+    filter-live-past (c4 .records .inv) (c3 .records-test .taken) (sym (c1 .keeps .ensures) ∙ c .if1 .left)
 
 returns : tie.Need-returns Inv-records μ-records
 returns c =
     let c1 = c .before in
-    (concatMap-full (c1 .records .inv), all-gathered (c1 .records .inv) (c .records-test .left))
+    (filter-live-full (c1 .records .inv), all-gathered (c1 .records .inv) (c .records-test .left))
 
-pub concatMap-spec : {M : Type 1} → statement M
-concatMap-spec =
+pub filter-live-spec : {M : Type 1} → statement M
+filter-live-spec =
     tie.close
     (tie.spec
     Inv-records
