@@ -21,7 +21,7 @@ pub stored-none : (values : List ℕ) → stored [] values ≡ values
 unfolding over
 stored-none values = stored-all [] values (omega arith)
 
--- words, and one number behind them
+-- words, and one number after them
 module _ (words values : List ℕ) (last : ℕ) (l : length words ≡ 40) where
   long : length (words ++ (last ∷ [])) ≡ 41
   long = omega (arith, length-append words (last ∷ []), l)

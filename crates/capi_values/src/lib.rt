@@ -19,7 +19,7 @@ pub fn store(answer: &[u64], values: &mut [u64])
     }
 }
 
-// Stores words and one number behind them, where there is room for all.
+// Stores words and one number after them, where there is room for all.
 pub fn store_words(words: &[u64; 40], last: u64, values: &mut [u64])
     requires { ⌜ length (now words) ≡ 40 ⌝ }
     ensures { λ _. ⌜ now (values .exit) ≡ stored (now (words .entry) ++ (last ∷ [])) (now (values .entry)) ⌝ }

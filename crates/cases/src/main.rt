@@ -19,8 +19,8 @@
 //   13 fit      the first table; nothing; the second
 //   14 choose   the first map; the second; the table
 //
-// A line is the name, the refusal's number or 0, the answer's values and, each behind a bar, the buffers at exit, which are filled with 7
-// beforehand. Choose prints which map it is, 1 or 2, or 0 with a refusal, and behind the bar the map that is handed back.
+// A line is the name, the refusal's number or 0, the answer's values and, each after a bar, the buffers at exit, which are filled with 7
+// beforehand. Choose prints which map it is, 1 or 2, or 0 with a refusal, and after the bar the map that is handed back.
 ghost use mathlib.Core.Path.{_≡_};
 ghost use Prim.Native.Nat.{_<_};
 ghost use lib.ListN.{length, take};
@@ -43,7 +43,7 @@ fn number(n: u64) -> bool {
     io::print_decimal(STDOUT_FILENO, n)
 }
 
-// Numbers, each behind a space.
+// Numbers, each after a space.
 fn say_values(values: &[u64]) {
     let mut i: usize = 0;
     'values: while i < values.len() {
@@ -60,7 +60,7 @@ fn say_answer(refused: u32, values: &[u64]) {
     }
 }
 
-// A buffer of bytes, behind a bar.
+// A buffer of bytes, after a bar.
 fn say_bytes(bytes: &[u8]) {
     say(b" |");
     let mut i: usize = 0;
@@ -77,7 +77,7 @@ fn of_word(x: u16) -> u64
     x as u64
 }
 
-// A buffer of words, behind a bar.
+// A buffer of words, after a bar.
 fn say_words(words: &[u16]) {
     say(b" |");
     let mut i: usize = 0;

@@ -18,7 +18,7 @@ unfolding any
 any-map f g [] = refl
 any-map f g (r ∷ rs) = ap (λ (b : Bool). f (g r) || b) (any-map f g rs)
 
--- the record's target, behind a key of k bytes, is joined to this one
+-- the record's target, after a key of k bytes, is joined to this one
 abbrev pub goes : List ℕ → ℕ → ℕ → List ℕ → Bool
 goes m target k r = joins m target (getD r k 0)
 

@@ -1,4 +1,4 @@
--- The clause list of a table that was read: its groups one behind the other, its sections as parts of the file, and its answer. Assumes nothing.
+-- The clause list of a table that was read: its groups one after the other, its sections as parts of the file, and its answer. Assumes nothing.
 use mathlib.Core.Path.{_≡_, refl, sym, ap, _∙_}
 use mathlib.Core.Logic.{_≢_}
 use mathlib.Core.Bool.{Bool, true, false}

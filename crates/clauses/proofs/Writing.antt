@@ -27,7 +27,7 @@ words-cons c cs = refl
 length-words : (c : List ℕ) (cs : List (List ℕ)) → length (wordsOf (c ∷ cs)) ≡ 1 + length c + length (wordsOf cs)
 length-words c cs = ap length (words-cons c cs) ∙ omega (arith, length-append (length c ∷ c) (wordsOf cs))
 
--- ---- words put behind words
+-- ---- words put after words
 
 place-none : (k : ℕ) (list : List ℕ) → place k [] list ≡ list
 unfolding place over

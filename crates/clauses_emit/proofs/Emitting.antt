@@ -1,4 +1,4 @@
--- Clauses counted and written one behind the other: one clause, several, what is still to come in a loop, and what has come out in the end.
+-- Clauses counted and written one after the other: one clause, several, what is still to come in a loop, and what has come out in the end.
 -- Assumes nothing.
 use mathlib.Core.Path.{_≡_, refl, sym, ap, _∙_}
 use mathlib.Core.Bool.{Bool, true, false, _&&_}

@@ -1,4 +1,4 @@
--- What the code that writes the clause list is stated with: the literals of one clause, and clauses counted and written one behind the
+-- What the code that writes the clause list is stated with: the literals of one clause, and clauses counted and written one after the
 -- other. Only contracts of functions that write clauses cite it. Assumes nothing.
 use mathlib.Core.Path.{_≡_}
 use mathlib.Core.Bool.{Bool, true, false, _&&_, _||_}
@@ -72,7 +72,7 @@ state t list = record { tally = t; list = list }
 abbrev pub Ordered : Tally → Type 0
 Ordered t = t .clauses ≤ t .words
 
--- the counts behind a clause of n literals more, where the buffer has room for so many words; nothing changes once there are more
+-- the counts after a clause of n literals more, where the buffer has room for so many words; nothing changes once there are more
 unfoldable pub countedBy : Tally → ℕ → ℕ → Tally
 countedBy t n room = elim (ltb room (t .words)) [ true ↦ t | false ↦ record { write = t .write; clauses = t .clauses + 1; words = t .words + 1 + n } ]
 
@@ -80,7 +80,7 @@ countedBy t n room = elim (ltb room (t .words)) [ true ↦ t | false ↦ record 
 unfoldable pub place : ℕ → List ℕ → List ℕ → List ℕ
 place k xs list = take k list ++ over xs (drop k list)
 
--- the buffer behind one clause more: its words are written where they are to be and where they fit
+-- the buffer after one clause more: its words are written where they are to be and where they fit
 unfoldable pub written : Tally → List ℕ → List ℕ → List ℕ
 written t c list = elim (t .write && leb (t .words + 1 + length c) (length list)) [ true ↦ place (t .words) (length c ∷ c) list | false ↦ list ]
 

@@ -1,4 +1,4 @@
-// Clauses counted and written, one behind the other.
+// Clauses counted and written, one after the other.
 ghost use mathlib.Core.Path.{_≡_};
 ghost use mathlib.Core.List.{[], _∷_};
 ghost use mathlib.Core.Bool.{_&&_};

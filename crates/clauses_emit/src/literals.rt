@@ -60,7 +60,7 @@ pub fn contains(words: &[u16; 3], n: usize, l: u16) -> bool
     false
 }
 
-// "A repeated literal is written once, at its first place": one literal more behind the first n words, and how many there are then.
+// "A repeated literal is written once, at its first place": one literal more after the first n words, and how many there are then.
 pub fn add_literal(words: &mut [u16; 3], n: usize, l: u16) -> usize
     requires { ⌜ (n < 3) × (length (now words) ≡ 3) ⌝ }
     ensures { λ r. ⌜ Holds (record { words = now (words .exit); n = r }) (withLiteral (take n (now (words .entry))) l) × (length (now (words .exit)) ≡ 3) ⌝ }

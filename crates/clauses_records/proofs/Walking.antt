@@ -1,4 +1,4 @@
--- The returns of a state by a symbol, walked along as the tops ascend: those over a top stand one behind the other. Assumes nothing.
+-- The returns of a state by a symbol, walked along as the tops ascend: those over a top stand one after the other. Assumes nothing.
 use mathlib.Core.Path.{_≡_, refl, sym, ap, _∙_, subst}
 use mathlib.Core.Logic.{_≢_, _⊎_, inl, inr}
 use mathlib.Core.Bool.{Bool, true, false}

@@ -15,7 +15,7 @@ use Rattle.pairs.specs.Triangles.{triangles}
 use Rattle.clauses_spec.specs.Clauses.{lookClauses, transitivity, moveClauses, returnClauses, clauseList, shortList}
 
 module _ {A : Type 0} (c : A) where
-  -- what is behind both lists
+  -- what is after both lists
   behind : {xs ys : List A} (zs : List A) → (List·Memᴰ c xs → List·Memᴰ c ys) → List·Memᴰ c (xs ++ zs) → List·Memᴰ c (ys ++ zs)
   behind {xs} {ys} zs f h = go (append-cases xs h)
     where

@@ -1,4 +1,4 @@
--- The clause of premises and targets: the targets of the records found are looked through, then stored behind the premises. Assumes nothing.
+-- The clause of premises and targets: the targets of the records found are looked through, then stored after the premises. Assumes nothing.
 use mathlib.Core.Path.{_≡_, refl, sym, ap, _∙_, subst}
 use mathlib.Core.Logic.{_≢_}
 use mathlib.Core.Bool.{Bool, true, false}
@@ -111,7 +111,7 @@ module _ {w : ℕ} {found : List ℕ} {count : ℕ} (h : Counted w found count) 
 
 -- ---- premises and targets
 
--- words stored behind others, in the part of the buffer behind them
+-- words stored after others, in the part of the buffer after them
 over-behind : (xs ys rest : List ℕ) (m : ℕ) {first out : List ℕ} → length xs ≡ m → first ≡ over xs rest → out ≡ over ys (take (length first - m) (drop m first)) → take m first ++ (out ++ drop (length first - m) (drop m first)) ≡ over (xs ++ ys) rest
 unfolding over
 over-behind xs ys rest m {first} {out} k e f =

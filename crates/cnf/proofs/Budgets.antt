@@ -45,7 +45,7 @@ module _ (gs : List Guess) (k : ℕ) where
   turn-made b breaks = omega (arith, undo-made gs)
   turn-made b (rests w) = guess-made b w (lowestUnset w 0)
 
-  -- a turn that is not spent under b is the same under a, where the guesses made behind it are at most a
+  -- a turn that is not spent under b is the same under a, where the guesses made after it are at most a
   guess-same : (a b : ℕ) (w : List ℕ) (x : Option ℕ) → endsSpent (decide b (stateOf w gs k) x) ≡ false → madeBy (decide b (stateOf w gs k) x) ≤ a
       → decide b (stateOf w gs k) x ≡ decide a (stateOf w gs k) x
   unfolding decide

@@ -1,4 +1,4 @@
--- Laws for the loop that sets the pairs of one state with those of a word, and for such a loop behind another. Assumes nothing.
+-- Laws for the loop that sets the pairs of one state with those of a word, and for such a loop after another. Assumes nothing.
 use mathlib.Core.Path.{_≡_, sym, ap, _∙_, subst}
 use mathlib.Core.Logic.{_⊎_, inl, inr, _≢_}
 use mathlib.Core.Bool.{Bool, true, false, true≢false}
@@ -180,7 +180,7 @@ module _ {n : ℕ} {v t : List ℕ} {start q todo x : ℕ} {w s : List ℕ} {cou
       j .rows,
     )
 
--- ---- a spread behind a spread
+-- ---- a spread after a spread
 
 module _ {n p q todo back x : ℕ} {v t w s : List ℕ} {start more : ℕ} {isBroken : Bool} (i : Ready (triangles n) v t start) (k : Spread n v t start q todo x w s isBroken more) where
   pub both-then : Spreads n v p back x → Spreads n w p back x

@@ -80,7 +80,7 @@ fits s t = not (ends (pairCount s t) (pairTable s t) (pairTops s t))
 
 -- ---- the refusals
 
--- "at most one target for a move": no two records of one section differ in their target alone, which stands behind w bytes
+-- "at most one target for a move": no two records of one section differ in their target alone, which stands after w bytes
 unfoldable pub oneTarget : ℕ → List (List ℕ) → Bool
 oneTarget w rs = all (λ r. all (λ s. not (same (take w r) (take w s)) || same r s) rs) rs
 

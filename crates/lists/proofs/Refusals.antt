@@ -38,7 +38,7 @@ pub none-failed : (n : ℕ) → firstFailed [] ≤ n
 unfolding firstFailed
 none-failed n = zero-le
 
--- ---- behind an earlier stage, whose number is k
+-- ---- after an earlier stage, whose number is k
 
 module _ (k : ℕ) (ts : List (ℕ × Bool)) where
   pub stage-passes : k ≡ 0 → firstFailed (stage k ∷ ts) ≡ firstFailed ts
@@ -55,7 +55,7 @@ module _ (k : ℕ) (ts : List (ℕ × Bool)) where
       go true p f = (eqb-true k 0 p, f)
       go false p f = absurd (eqb-false k 0 p f)
 
--- with nothing behind it, the stage's number is the first
+-- with nothing after it, the stage's number is the first
 pub last-stage : (k : ℕ) → firstFailed (stage k ∷ []) ≡ k
 last-stage k = go (ℕ-discrete k 0)
   where

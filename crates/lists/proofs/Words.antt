@@ -82,7 +82,7 @@ same-false (x ∷ xs) (y ∷ ys) l e = go (eqb x y) refl e (same-false xs ys (om
     go true e f r = let k = r f in (suc (k .0), k .1)
     go false e f r = (0, eqb-false x y e)
 
--- zeros behind the words change none
+-- zeros after the words change none
 pub getD-padded : (f : List ℕ) (k q : ℕ) → getD (f ++ replicate k 0) q 0 ≡ getD f q 0
 getD-padded [] zero q = refl
 getD-padded [] (suc k) zero = refl

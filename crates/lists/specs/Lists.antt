@@ -22,7 +22,7 @@ module _ {A : Type 0} where
   filter f [] = []
   filter f (x ∷ xs) = elim (f x) [ true ↦ x ∷ filter f xs | false ↦ filter f xs ]
 
--- the lists that the elements give, one behind the other
+-- the lists that the elements give, one after the other
 unfoldable pub concatMap : {A B : Type 0} → (A → List B) → List A → List B
 concatMap f [] = []
 concatMap f (x ∷ xs) = f x ++ concatMap f xs
@@ -52,7 +52,7 @@ unfoldable pub parts : ℕ → ℕ → List ℕ → List (List ℕ)
 parts zero w xs = []
 parts (suc k) w xs = take w xs ∷ parts k w (drop w xs)
 
--- the lists, one behind the other
+-- the lists, one after the other
 unfoldable pub concat : List (List ℕ) → List ℕ
 concat [] = []
 concat (x ∷ xs) = x ++ concat xs
@@ -71,7 +71,7 @@ unfoldable pub firstFailed : List (ℕ × Bool) → ℕ
 firstFailed [] = 0
 firstFailed (t ∷ ts) = elim (t .1) [ true ↦ firstFailed ts | false ↦ t .0 ]
 
--- the number that an earlier operation gives, as the first of the tests behind it: 0 passes, any other is given
+-- the number that an earlier operation gives, as the first of the tests after it: 0 passes, any other is given
 abbrev pub stage : ℕ → ℕ × Bool
 stage k = (k, eqb k 0)
 

@@ -1,4 +1,4 @@
--- Laws for the map's line: the classes of the states, one behind the other. Assumes nothing.
+-- Laws for the map's line: the classes of the states, one after the other. Assumes nothing.
 use mathlib.Core.Path.{_≡_, sym, ap, _∙_}
 use mathlib.Core.List.{List, [], _∷_, _++_, append-assoc, append-nil}
 use Prim.Native.Nat.{ℕ, _+_, _*_, _≤_, _<_}

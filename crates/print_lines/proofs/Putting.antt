@@ -12,7 +12,7 @@ use Rattle.io.specs.Counts.{Counts}
 use Rattle.print_spec.specs.Lines.{Put, hexText}
 use Rattle.print_lines.proofs.Text.{hex-length}
 
--- a piece over what stood behind the place
+-- a piece over what stood after the place
 put-over : (x old : List ℕ) (at : ℕ) {new : List ℕ} → at + length x ≤ length old → new ≡ take at old ++ over x (drop at old) → Put x at old (at + length x) new
 unfolding over
 put-over x old at {new} h e = record {
@@ -49,7 +49,7 @@ put-hexed bytes old at {ys} h e =
 pub put-none : (at : ℕ) (old : List ℕ) → at ≤ length old → Put [] at old at old
 put-none at old h = record { place = omega arith; inside = h; long = refl; front = sym (append-nil (take at old)) }
 
--- one piece behind another
+-- one piece after another
 pub put-on : {xs ys a b c : List ℕ} {at r k : ℕ} → Put xs at a r b → Put ys r b k c → Put (xs ++ ys) at a k c
 put-on {xs} {ys} {a} {b} {c} {at} {r} {k} p q = record {
   place = omega (arith, p .place, q .place, length-append xs ys);

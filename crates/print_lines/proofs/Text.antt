@@ -17,13 +17,13 @@ low-digit d h = rw (lt-ltb d 10 h) refl
 pub high-digit : (d : ℕ) → 10 ≤ d → 87 + d ≡ glyph d
 high-digit d h = rw (le-ltb d 10 h) refl
 
--- a store behind the first elements
+-- a store after the first elements
 set-behind : (xs ys : List ℕ) (k n v : ℕ) → n ≡ length xs + k → set (xs ++ ys) n v ≡ xs ++ set ys k v
 set-behind [] ys k n v e = ap (λ (m : ℕ). set ys m v) (omega arith)
 set-behind (x ∷ xs) ys k zero v e = absurd (omega arith)
 set-behind (x ∷ xs) ys k (suc n) v e = ap (λ (zs : List ℕ). x ∷ zs) (set-behind xs ys k n v (omega arith))
 
--- three stores behind the first elements
+-- three stores after the first elements
 put-three : (t : List ℕ) (a b c : ℕ) (r : List ℕ) (n u x y : ℕ) → length t ≡ n → set (set (set (t ++ (a ∷ b ∷ c ∷ r)) n u) (n + 1) x) (n + 2) y ≡ t ++ (u ∷ x ∷ y ∷ r)
 put-three t a b c r n u x y e =
     ap (λ (zs : List ℕ). set (set zs (n + 1) x) (n + 2) y) (set-behind t (a ∷ b ∷ c ∷ r) 0 n u (omega (arith, e)))

@@ -1,4 +1,4 @@
-// Text that is put into a buffer behind what is there: bytes as they are, numbers in decimal, bytes in hexadecimal.
+// Text that is put into a buffer after what is there: bytes as they are, numbers in decimal, bytes in hexadecimal.
 ghost use mathlib.Core.Path.{_≡_};
 ghost use mathlib.Core.List.{_++_};
 ghost use Prim.Native.Nat.{_+_, _*_, _≤_, _<_};
@@ -7,7 +7,7 @@ ghost use Rattle.io.specs.Digits.{glyph};
 ghost use Rattle.lists.specs.Lists.{over};
 ghost use Rattle.print_spec.specs.Lines.{Put, decimalText, hexText};
 
-// Bytes at a place of the text; the place behind them.
+// Bytes at a place of the text; the place after them.
 pub fn put(bytes: &[u8], text: &mut [u8], at: usize) -> usize
     requires { ⌜ at + length (now bytes) ≤ length (now text) ⌝ }
     ensures { λ r. ⌜ Put (now (bytes .entry)) at (now (text .entry)) r (now (text .exit)) ⌝ }
@@ -16,7 +16,7 @@ pub fn put(bytes: &[u8], text: &mut [u8], at: usize) -> usize
     at + bytes.len()
 }
 
-// A number behind its name.
+// A number after its name.
 pub fn put_number(name: &[u8], number: u64, text: &mut [u8], at: usize) -> usize
     requires { ⌜ at + length (now name) + 20 ≤ length (now text) ⌝ }
     ensures { λ r. ⌜ Put (now (name .entry) ++ decimalText number) at (now (text .entry)) r (now (text .exit)) ⌝ }

@@ -7,7 +7,7 @@ use lib.ListN.{length, take}
 use lib.Dec.{ltb}
 use Rattle.io.specs.Digits.{glyph, digits}
 
--- bytes were put behind the first `at` bytes of a text, which r bytes then are: what stood before them is as it was
+-- bytes were put after the first `at` bytes of a text, which r bytes then are: what stood before them is as it was
 pub record Put (xs : List ℕ) (at : ℕ) (old : List ℕ) (r : ℕ) (new : List ℕ) : Type 0 where
   pub place : r ≡ at + length xs
   pub inside : r ≤ length new

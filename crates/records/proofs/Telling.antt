@@ -1,4 +1,4 @@
--- The sections of a table marked one behind the other, and their counts. Assumes nothing.
+-- The sections of a table marked one after the other, and their counts. Assumes nothing.
 use mathlib.Core.Path.{_≡_, refl, sym, ap, _∙_, subst}
 use mathlib.Core.List.{List, [], _++_, append-nil}
 use Prim.Native.Nat.{ℕ, _+_, _-_, _/_, _<_, _≤_}
@@ -49,7 +49,7 @@ module _ (i c r f m : List ℕ) where
     unfolding toldFor
     short h = sym (rw (lt-leb (length (partedFates i c r f m)) (length out) (omega (arith, parted-long)), toldFor))
 
-    -- each section is written behind the one before it: what is still to be written
+    -- each section is written after the one before it: what is still to be written
     pub internals-told : length i / 3 + length c / 3 + length r / 4 ≤ length out → {out' : List ℕ} → out' ≡ over (sectionFates (kept f) m (records 3 i)) out
         → Writing behindInternals (over (partedFates i c r f m) out) out' (length i / 3)
     internals-told h {out'} e =

@@ -17,7 +17,7 @@ use records_spec::Recorded;
 use table_spec::Starts;
 use table_view::Section;
 
-// The marks of the parts' records, one section behind the other.
+// The marks of the parts' records, one section after the other.
 fn mark_parts(
     internals: &[u8],
     calls: &[u8],

@@ -22,7 +22,7 @@ pub record Placed (m r : List ℕ) : Type 0 where
   pub symbol : getD r 1 0 < symbolMost
   pub class : (q : ℕ) → classOf m q < stateMost
 
--- a record's mark, and the room behind it: an image that is met first is stamped
+-- a record's mark, and the room after it: an image that is met first is stamped
 pub data Stamped (f m : List ℕ) (stamp : ℕ) (r room : List ℕ) : ℕ → List ℕ → Type 0 where
   dead : kept f r ≡ false → Stamped f m stamp r room deadMark room
   again : kept f r ≡ true → getD room (placeOf m r) 0 ≡ stamp → Stamped f m stamp r room foldedMark room
@@ -53,7 +53,7 @@ pub record Fitting (w : ℕ) (s m : List ℕ) : Type 0 where
   pub few-states : length m ≤ stateMost
   pub few-classes : classes m ≤ stateMost
 
--- for each state the index behind its last record, 0 where it has none
+-- for each state the index after its last record, 0 where it has none
 pub record Ends (w : ℕ) (s ends : List ℕ) : Type 0 where
   pub behind : (j : ℕ) → j < recordsIn w s → j < getD ends (stateAt w s j) 0
   pub inside : (p : ℕ) → getD ends p 0 ≤ recordsIn w s

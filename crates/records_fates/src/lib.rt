@@ -48,7 +48,7 @@ fn mark_of(fields: &[u8], words: &[u64], map: &[u8], stamp: u8, room: &mut [u8; 
     0
 }
 
-// For each state the index behind its last record, 0 where it has none.
+// For each state the index after its last record, 0 where it has none.
 fn ends_of(section: &[u8], width: usize, map: &[u8]) -> [usize; 40]
     requires { ⌜ Fitting width (now section) (now map) ⌝ }
     ensures { λ r. ⌜ Ends width (now (section .entry)) r ⌝ }
@@ -95,7 +95,7 @@ fn mark_class(
     }
 }
 
-// The marks of a section's records, by a stamp for each class behind the first.
+// The marks of a section's records, by a stamp for each class after the first.
 pub fn mark_section(
     width: usize,
     section: &[u8],

@@ -128,7 +128,7 @@ module _ (alive : List ℕ → Bool) (m : List ℕ) where
   unfolding shown filter
   alive-on earlier r a = ap (images m) (filter-append alive earlier (r ∷ []) ∙ rw (a, filter)) ∙ images-snoc m (filter alive earlier) r
 
-  -- "K equals the quotient's record count", of one section behind earlier records
+  -- "K equals the quotient's record count", of one section after earlier records
   kept-behind : (earlier rs : List (List ℕ)) → having keptMark (fatesBehind alive m earlier rs) + length (shown earlier) ≡ length (shown (earlier ++ rs))
   unfolding fatesBehind having filter shown
   kept-behind earlier [] = omega (arith, ap (λ xs. length (shown xs)) (append-nil earlier))

@@ -33,7 +33,7 @@ answers =
     going (T-with pans ((0 ∷ 1 ∷ 1 ∷ []) ∷ []) ((1 ∷ 2 ∷ 0 ∷ 3 ∷ []) ∷ [])) (0 ∷ 1 ∷ 1 ∷ 2 ∷ []) 7
     ∷ going (T-with pans ((0 ∷ 1 ∷ 1 ∷ []) ∷ []) ((1 ∷ 2 ∷ 0 ∷ 3 ∷ []) ∷ [])) (0 ∷ 1 ∷ 2 ∷ 3 ∷ []) 7
     ∷ going (T-with pans ((0 ∷ 1 ∷ 1 ∷ []) ∷ []) ((1 ∷ 2 ∷ 0 ∷ 3 ∷ []) ∷ [])) (0 ∷ 1 ∷ 1 ∷ 2 ∷ []) 4
-    -- T with a dead return behind: it is dead, though the return before it has its image
+    -- T with a dead return after: it is dead, though the return before it has its image
     ∷ going (T-with pans ((0 ∷ 1 ∷ 1 ∷ []) ∷ []) ((1 ∷ 2 ∷ 0 ∷ 3 ∷ []) ∷ (2 ∷ 2 ∷ 0 ∷ 3 ∷ []) ∷ [])) (0 ∷ 1 ∷ 1 ∷ 2 ∷ []) 7
     -- a dead return before a live one with its image, which is kept: a dead record folds nothing
     ∷ going (T-with [] ((0 ∷ 1 ∷ 2 ∷ []) ∷ []) ((1 ∷ 2 ∷ 0 ∷ 3 ∷ []) ∷ (2 ∷ 2 ∷ 0 ∷ 3 ∷ []) ∷ [])) (0 ∷ 1 ∷ 1 ∷ 2 ∷ []) 7

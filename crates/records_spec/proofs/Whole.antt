@@ -25,7 +25,7 @@ abbrev Differ : List ℕ → List (List ℕ) → List (List ℕ) → Type 0
 Differ m xs rs = (x r : List ℕ) → List·Memᴰ x xs → List·Memᴰ r rs → same (image m x) (image m r) ≡ false
 
 module _ (alive : List ℕ → Bool) (m : List ℕ) where
-  -- records behind others
+  -- records after others
   fates-append : (e xs ys : List (List ℕ)) → fatesBehind alive m e (xs ++ ys) ≡ fatesBehind alive m e xs ++ fatesBehind alive m (e ++ xs) ys
   unfolding fatesBehind
   fates-append e [] ys = ap (λ k. fatesBehind alive m k ys) (sym (append-nil e))

@@ -34,7 +34,7 @@ fate alive m earlier r = elim (alive r) [
   | false ↦ deadMark
 ]
 
--- the fates of records that stand behind earlier ones of their section, "one byte a record in file order"
+-- the fates of records that stand after earlier ones of their section, "one byte a record in file order"
 unfoldable pub fatesBehind : (List ℕ → Bool) → List ℕ → List (List ℕ) → List (List ℕ) → List ℕ
 fatesBehind alive m earlier [] = []
 fatesBehind alive m earlier (r ∷ rs) = fate alive m earlier r ∷ fatesBehind alive m (earlier ++ (r ∷ [])) rs

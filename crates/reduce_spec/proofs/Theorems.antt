@@ -198,7 +198,7 @@ module _ (L : Limits) (b : List ℕ) (budget : ℕ) (list map out : List ℕ) wh
   pub numbers : Number (reductionNumber (reduceOf L b budget list map out .answer))
   numbers = number-ways (reduce-ways L b budget list map out)
 
-  -- the number and the values of a delivery, or of a refusal behind the search
+  -- the number and the values of a delivery, or of a refusal after the search
   delivery-says : (m : List ℕ) (g u : ℕ) (z : Bool) → let r = deliver L b list map out m g u z .answer in
       Says (reductionNumber r) (reductionValues r) (quotientNumber L b m out)
       (classes m ∷ g ∷ length (shortWords (tableOf b)) ∷ length (quotientBytes b m) ∷ joinedPairs (count (tableOf b)) m ∷ u ∷ yesValue z ∷ [])

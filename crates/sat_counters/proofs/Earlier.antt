@@ -75,7 +75,7 @@ module _ (v t : List ℕ) {count : ℕ} (all : count + unsetCount v ≡ length v
     pub counted-next : at + 1 + unsetCount (earlier v t (at + 1) count) ≡ length v
     counted-next = omega (arith, all, h, counted, ap unsetCount earlier-next, unset-two (earlier v t (at + 1) count) (getD t at 0), unset-most v (slice (at + 1) count t), length-slice (at + 1) count t room)
 
-    -- is set behind it
+    -- is set after it
     pub set-next : valueOf (earlier v t (at + 1) count) (getD t at 0) ≢ 2
     set-next e =
         let u = earlier v t (at + 1) count in

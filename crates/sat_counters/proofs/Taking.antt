@@ -85,7 +85,7 @@ all-noted {places} {now} {noted} {k} {count} n i h = record { few = omega (arith
     go c low (inr f) = f low
 
 module _ {places now noted : List ℕ} {k count c : ℕ} (n : Noting places now noted k count) (h : k < length places) (e : c ≡ getD places k 0) (left : ℕ) where
-  -- the list with the clause behind
+  -- the list with the clause after
   grown : take (count + 1) (set noted count c) ≡ take count noted ++ (c ∷ [])
   grown = rw add-one (take-suc-set noted count c (omega (arith, n .fewer, n .room)))
 

@@ -166,7 +166,7 @@ right-tells v c l m e = sym (seen-by v c (any-of (isRight v) c l m e) refl)
 
 -- ---- a clause of a list is asked
 
--- the words that are lent, k of them from behind `at`, are the clause at `at`
+-- the words that are lent, k of them from after `at`, are the clause at `at`
 module _ (ws : List ℕ) (at : ℕ) {k : ℕ} (e : k ≡ getD ws at 0) where
   pub lent-over : (n : ℕ) → Over (clauseAt ws at) n → Over (take (at + 1 + k - (at + 1)) (drop (at + 1) ws)) n
   lent-over n h = rw (clause-words ws at e) h

@@ -40,9 +40,9 @@ module _ {B : Type 0} (f : ℕ → B) where
   mapped-snoc [] x = refl
   mapped-snoc (y ∷ xs) x = ap (λ (r : List B). f y ∷ r) (mapped-snoc xs x)
 
--- ---- words put behind words
+-- ---- words put after words
 
--- i of the words are put behind the first `at` of old
+-- i of the words are put after the first `at` of old
 pub record Putting (ws old new : List ℕ) (at i : ℕ) : Type 0 where
   pub inside : i ≤ length ws
   pub long : length new ≡ length old
@@ -161,7 +161,7 @@ module _ {v out : List ℕ} {at x : ℕ} (u : Setting v out at x) where
 
 -- ---- clauses that do not hold
 
--- the first r of the new words are the first `at` of the old ones, with the clause behind them unless it holds
+-- the first r of the new words are the first `at` of the old ones, with the clause after them unless it holds
 record PutOpen (v c old : List ℕ) (at : ℕ) (new : List ℕ) (r : ℕ) : Type 0 where
   pub words : take r new ≡ take at old ++ wordsOf (unheld v (c ∷ []))
 

@@ -1,4 +1,4 @@
--- What is left of a list behind the first pass. Assumes nothing.
+-- What is left of a list after the first pass. Assumes nothing.
 use mathlib.Core.Path.{_≡_}
 use mathlib.Core.Bool.{true, not}
 use mathlib.Core.List.{List, [], _∷_, _++_, map, List·Memᴰ}

@@ -27,7 +27,7 @@ fn holds(literals: &[u16], values: &[u8]) -> bool
     false
 }
 
-// Puts words behind the first `at` words; answers how many there are then.
+// Puts words after the first `at` words; answers how many there are then.
 fn put_words(words: &[u16], out: &mut [u16], at: usize) -> usize
     requires { ⌜ at + length (now words) ≤ length (now out) ⌝ }
     ensures { λ r. ⌜ (r ≡ at + length (now (words .entry))) × (take r (now (out .exit)) ≡ take at (now (out .entry)) ++ now (words .entry)) ⌝ }

@@ -72,7 +72,7 @@ module _ {v t w s : List ℕ} {count more : ℕ} (g : Grown v t count w s more) 
       omega
       (arith, g .counted, sym (length-take-le more s (omega (arith, g .counted))) ∙ ap length (g .grows) ∙ length-append (take count t) (g .new), length-take-le count t h)
 
-  -- a part of the trail, with what was set since behind it
+  -- a part of the trail, with what was set since after it
   pub grown-slice : {at : ℕ} → at ≤ count → count ≤ length t → slice at more s ≡ slice at count t ++ g .new
   grown-slice {at} h k = ap (drop at) (g .grows) ∙ drop-append-le at (take count t) (g .new) (omega (arith, length-take-le count t k))
 

@@ -1,4 +1,4 @@
--- Laws for the loop that unsets a part of the trail with the words, and for the guess that is set false behind it. Assumes nothing.
+-- Laws for the loop that unsets a part of the trail with the words, and for the guess that is set false after it. Assumes nothing.
 use mathlib.Core.Path.{_≡_, ap, _∙_}
 use mathlib.Core.List.{List}
 use Prim.Native.Nat.{ℕ, suc, _-_, _≤_, _<_}

@@ -1,4 +1,4 @@
--- Laws for unit steps: none, steps behind steps, and one that a clause forces, which is made with the words; by clauses that are asked, and what that
+-- Laws for unit steps: none, steps after steps, and one that a clause forces, which is made with the words; by clauses that are asked, and what that
 -- means for the clauses seen to; by some of the clauses, and by all. Assumes nothing.
 use mathlib.Core.Path.{_≡_, refl, sym, ap, _∙_, subst}
 use mathlib.Core.Logic.{_⊎_, inl, inr, _≢_}

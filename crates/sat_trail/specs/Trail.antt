@@ -24,7 +24,7 @@ pub record Ready (cs : List (List ℕ)) (v t : List ℕ) (count : ℕ) : Type 0 
   pub room : length v ≤ length t
 
 -- from the values v, with the trail's first count variables set, to w, with the trail s: further variables are set, and the trail has them
--- behind the first ones
+-- after the first ones
 pub record Grown (v t : List ℕ) (count : ℕ) (w s : List ℕ) (more : ℕ) : Type 0 where
   pub long : length s ≡ length t
   pub new : List ℕ

@@ -93,7 +93,7 @@ fn mark_pair(joined: &mut [u64; 40], apart: &mut [u64; 40], k: u8, p: u8, q: u8)
     mark(apart, p, q);
 }
 
-// Sets the variable x, which is the pair of p and q, and puts it behind the first `count` of the trail. Answers how many the trail has then.
+// Sets the variable x, which is the pair of p and q, and puts it after the first `count` of the trail. Answers how many the trail has then.
 pub fn put(
     x: u16,
     p: u8,
@@ -137,7 +137,7 @@ pub fn assign(
     mark_pair(joined, apart, k, pair.low, pair.high);
 }
 
-// Makes a literal true whose variable is unset, and puts the variable behind the first `count` of the trail. Answers how many the trail has then.
+// Makes a literal true whose variable is unset, and puts the variable after the first `count` of the trail. Answers how many the trail has then.
 pub fn force(
     n: u8,
     table: &[u16],

@@ -29,7 +29,7 @@ abbrev at-level : Level → List Level → Levels
 at-level f gs = record { now = f; below = gs }
 
 module _ (t : Table) (a : ℕ) (w : List ℕ) (f : Level) where
-  -- by the levels behind the symbol
+  -- by the levels after the symbol
   go-on : Option Levels → Bool
   go-on l = elim l [ none ↦ false | some k ↦ reads t k w ]
 

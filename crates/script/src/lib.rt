@@ -1,4 +1,4 @@
-// Reading a script: by levels, which say what is reached on the empty stack and behind each open call.
+// Reading a script: by levels, which say what is reached on the empty stack and after each open call.
 ghost use mathlib.Core.Path.{_≡_};
 ghost use Prim.Native.Nat.{_≤_};
 ghost use lib.ListN.{length};

@@ -1,4 +1,4 @@
-// Levels of a script: what is reached on the empty stack and behind each open call, symbol by symbol, by an index of each section.
+// Levels of a script: what is reached on the empty stack and after each open call, symbol by symbol, by an index of each section.
 ghost use mathlib.Core.Path.{_≡_};
 ghost use mathlib.Core.List.{[]};
 ghost use Prim.Native.Nat.{_≤_, _<_};
@@ -70,7 +70,7 @@ fn gain(call: bool, level: &[u64; 40], q: usize) -> u64
     1u64 << q
 }
 
-// The level behind an internal or a call by symbol a: by the moves of each state that is reached.
+// The level after an internal or a call by symbol a: by the moves of each state that is reached.
 pub fn moved(
     section: &[u8],
     starts: &[u16; 2561],
@@ -101,7 +101,7 @@ pub fn moved(
     words
 }
 
-// The level behind a return by symbol a: by the returns of each state that is reached.
+// The level after a return by symbol a: by the returns of each state that is reached.
 pub fn returned(
     section: &[u8],
     starts: &[u16; 2561],

@@ -38,12 +38,12 @@ examples :
     -- which state is reached over which
     ∷ answer two-below (0 ∷ 1 ∷ 2 ∷ [])
     ∷ answer two-below (0 ∷ 0 ∷ [])
-    -- "up to 64 calls open", "a 65th open call", with one closed between, and behind a return on the empty stack
+    -- "up to 64 calls open", "a 65th open call", with one closed between, and after a return on the empty stack
     ∷ answer T (replicate 64 1)
     ∷ answer T (replicate 65 1)
     ∷ answer T (1 ∷ 2 ∷ replicate 64 1)
     ∷ answer T (2 ∷ replicate 65 1)
-    -- "30 a symbol past the count anywhere": behind a return on the empty stack, and before 31
+    -- "30 a symbol past the count anywhere": after a return on the empty stack, and before 31
     ∷ answer T (2 ∷ 3 ∷ [])
     ∷ answer T (replicate 65 1 ++ (3 ∷ []))
     -- "1 to 8 first"

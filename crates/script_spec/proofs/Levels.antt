@@ -1,5 +1,5 @@
 -- Levels against runs, for any automaton and any levels: a configuration is held where each neighbouring two of its state and stack are in their
--- level, and the levels behind a symbol hold what a step leads to. Assumes nothing.
+-- level, and the levels after a symbol hold what a step leads to. Assumes nothing.
 use mathlib.Core.Path.{_≡_, refl}
 use mathlib.Core.Logic.{_↔_}
 use mathlib.Core.List.{List, [], _∷_}
@@ -34,17 +34,17 @@ module _ {S L : Type 0} (A : Automaton S) (R : L → S → Option S → Type 0) 
     pub run : Run A (state at stack) w last
     pub finally : Ended A last
 
-  -- the level f' behind an internal by a from the level f
+  -- the level f' after an internal by a from the level f
   pub record Along (a : ℕ) (f f' : L) : Type 0 where
     pub forth : {q q' : S} {t : Option S} → R f q t → A .internal q a q' → R f' q' t
     pub back : {q' : S} {t : Option S} → R f' q' t → (q : S) × R f q t × A .internal q a q'
 
-  -- .. behind a call
+  -- .. after a call
   pub record Pushed (a : ℕ) (f f' : L) : Type 0 where
     pub forth : {q q' : S} {t : Option S} → R f q t → A .call q a q' → R f' q' (some q)
     pub back : {q' s : S} → R f' q' (some s) → A .call s a q'
 
-  -- .. behind a return, with the level g below f
+  -- .. after a return, with the level g below f
   pub record Popped (a : ℕ) (f g f' : L) : Type 0 where
     pub forth : {q s q' : S} {t : Option S} → R f q (some s) → R g s t → A .return q a s q' → R f' q' t
     pub back : {q' : S} {t : Option S} → R f' q' t → (q s : S) × R f q (some s) × R g s t × A .return q a s q'

@@ -95,7 +95,7 @@ module _ {L : Limits} {t : Table} (wf : WellFormed L t) where
   small : {kind w : ℕ} {rs : List (List ℕ)} → Fit t kind w rs → (to : ℕ) → 1 < to → to < w → (r : List ℕ) → List·Memᴰ r rs → getD r to 0 < length nowhere
   small h to l k r m = omega (arith, few, h .states r m to (λ z. omega arith) k)
 
-  -- ---- the levels behind a symbol
+  -- ---- the levels after a symbol
 
   module _ (a : ℕ) (f : Level) where
     internal-level : Along (automaton t) Over a f (moved (t .internals) a false f)
@@ -165,7 +165,7 @@ module _ {L : Limits} {t : Table} (wf : WellFormed L t) where
       go f [] = let e = ended-exact f in let a = at-end (automaton t) Over {f = f} in (λ h. a .1 (e .0 h), λ h. e .1 (a .0 h))
       go f (g ∷ gs) = (λ h. absurd (true≢false (sym h)), λ h. absurd (still-open (automaton t) Over h))
 
-  -- what goes on behind a symbol
+  -- what goes on after a symbol
   abbrev GoesOn : Option Levels → List ℕ → Type 0
   GoesOn none w = ⊥
   GoesOn (some l) w = FromLevels l w

@@ -50,14 +50,14 @@ gain true f q = elim (eqb (getD f q 0) 0) [ true ↦ 0 | false ↦ 2 ^ q ]
 unfoldable pub byReturn : Level → Level → List ℕ → ℕ
 byReturn f below r = elim (has f (getD r 0 0) (getD r 2 0)) [ true ↦ getD below (getD r 2 0) 0 | false ↦ 0 ]
 
--- the level behind a move by symbol a, and behind a return
+-- the level after a move by symbol a, and after a return
 unfoldable pub moved : List (List ℕ) → ℕ → Bool → Level → Level
 moved rs a call f = gained (λ r. gain call f (getD r 0 0)) 2 a rs nowhere
 
 unfoldable pub returned : List (List ℕ) → ℕ → Level → Level → Level
 returned rs a f below = gained (byReturn f below) 3 a rs nowhere
 
--- the levels behind symbol a, by its kind, "0 internal, 1 call, 2 return"; none where "A return on the empty stack ends it with no"
+-- the levels after symbol a, by its kind, "0 internal, 1 call, 2 return"; none where "A return on the empty stack ends it with no"
 unfoldable pub behind : Table → ℕ → ℕ → Levels → Option Levels
 behind t a zero l = some (record { now = moved (t .internals) a false (l .now); below = l .below })
 behind t a (suc zero) l = some (record { now = moved (t .calls) a true (l .now); below = l .now ∷ l .below })

@@ -28,7 +28,7 @@ pub record Marked (ls marks : List ℕ) (mark i : ℕ) : Type 0 where
   pub below : MarksBelow marks (mark + 1)
   pub met : (x : ℕ) → x < 780 → eqb (getD marks x 0) mark ≡ mem x (variablesOf (drop i ls))
 
--- none is left behind the last one
+-- none is left after the last one
 none-on : (ls : List ℕ) → drop (length ls) ls ≡ []
 none-on [] = refl
 none-on (l ∷ ls) = none-on ls
@@ -166,7 +166,7 @@ pub judging : (ws : List ℕ) (n : ℕ) → Judging ws n 0
 judging ws n = record { inside = omega arith; meets = refl }
 
 module _ {ws : List ℕ} {n at : ℕ} (p : Judging ws n at) where
-  -- the clause at `at`, and what comes behind it
+  -- the clause at `at`, and what comes after it
   at-clause : at < length ws → (whole ws && all (clauseFits n) (clausesIn ws))
       ≡ ((leb (getD ws at 0) (length ws - (at + 1)) && whole (drop (at + 1 + getD ws at 0) ws)) && (clauseFits n (take (getD ws at 0) (drop (at + 1) ws)) && all (clauseFits n) (clausesIn (drop (at + 1 + getD ws at 0) ws))))
   unfolding all

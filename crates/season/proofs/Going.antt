@@ -26,7 +26,7 @@ unfolding over row reductionValues
 row-long (Delivered c g w l j u s) = refl
 row-long (Refused k) = refl
 
--- rows laid over a buffer: the first, and the others behind it
+-- rows laid over a buffer: the first, and the others after it
 over-first : (x ys buffer : List ℕ) (n : ℕ) → length x ≡ n → over (x ++ ys) buffer ≡ x ++ over ys (drop n buffer)
 unfolding over
 over-first x ys buffer n e =
@@ -116,7 +116,7 @@ module _ (L : Limits) (share : ℕ) (lengths tables list maps out : List ℕ) wh
       }
 
   module _ {values list' maps' out' : List ℕ} {saved at m o i : ℕ} (g : Going values list' maps' out' saved at m o i) where
-    -- behind the last table
+    -- after the last table
     pub ended : length lengths ≤ i → Ran L share lengths tables list maps out values list' maps' out'
     unfolding reductionsFrom concatMap
     ended h =

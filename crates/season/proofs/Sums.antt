@@ -1,4 +1,4 @@
--- Lengths that add up: what is left of the buffer behind those so far, and a law for each way through the loop. Assumes nothing.
+-- Lengths that add up: what is left of the buffer after those so far, and a law for each way through the loop. Assumes nothing.
 use mathlib.Core.Path.{_≡_, refl, sym, ap, _∙_}
 use mathlib.Core.Bool.{Bool, true, false}
 use mathlib.Core.List.{List}
@@ -13,7 +13,7 @@ use Rattle.lists.specs.Lists.{sum}
 use Rattle.lists.proofs.Members.{and-true}
 use Rattle.season_spec.specs.Seasons.{lengthsFit}
 
--- the first length behind i, and the others
+-- the first length after i, and the others
 pub sum-next : (xs : List ℕ) (i : ℕ) → i < length xs → sum (drop i xs) ≡ getD xs i 0 + sum (drop (i + 1) xs)
 unfolding sum
 sum-next xs i h = ap sum (drop-cons xs i 0 h) ∙ ap (λ (k : ℕ). getD xs i 0 + sum (drop k xs)) (sym (add-one i))
@@ -45,7 +45,7 @@ too-few all lengths h = refuted _ (λ e. let f = fitting all lengths e in omega 
 pub too-many : (all : ℕ) (lengths : List ℕ) → 8 < length lengths → false ≡ lengthsFit all lengths
 too-many all lengths h = refuted _ (λ e. let f = fitting all lengths e in omega arith)
 
--- of all the bytes so many are left behind the first i lengths
+-- of all the bytes so many are left after the first i lengths
 pub record Lefts (all : ℕ) (lengths : List ℕ) (left i : ℕ) : Type 0 where
   pub some : 1 ≤ length lengths
   pub few : length lengths ≤ 8

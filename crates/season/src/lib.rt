@@ -83,7 +83,7 @@ fn put_row(values: &mut [u64; 64], i: usize, row: [u64; 8])
     }
 }
 
-// Every table in turn, with its share and what earlier ones left: of the maps and of the output each is lent the part behind what the earlier ones took.
+// Every table in turn, with its share and what earlier ones left: of the maps and of the output each is lent the part after what the earlier ones took.
 fn run(
     limits: Limits,
     tables: &[u8],

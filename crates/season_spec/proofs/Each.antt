@@ -66,7 +66,7 @@ module _ (L : Limits) (share : ℕ) where
       let r = reduceOf L (take n tables) (share + saved) list maps out in
       ap suc (counted (share + saved - guessesIn (r .answer)) ns (drop n tables) (r .list) (drop (mapTaken (take n tables) (r .answer)) (r .map)) (drop (outTaken (r .answer)) (r .out)))
 
-  -- the first table, and the tables behind it
+  -- the first table, and the tables after it
   module _ (saved n : ℕ) (ns tables list maps out : List ℕ) where
     abbrev b : List ℕ
     b = take n tables

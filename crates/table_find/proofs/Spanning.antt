@@ -239,7 +239,7 @@ module _ (w : ℕ) (s : List ℕ) (from m : ℕ) (p : 0 < w) (h : from + m ≤ l
       ∙ cut-parts m w (drop (from * w) s)
       ∙ sym (ap (take m) (drop-parts from (length s / w) w s) ∙ take-parts m (length s / w - from) w (drop (from * w) s) (omega arith))
 
--- from the first record found to behind the last
+-- from the first record found to after the last
 pub record Span (w : ℕ) (s : List ℕ) (wanted from to : ℕ) : Type 0 where
   pub some-width : 3 ≤ w
   pub ordered : from ≤ to

@@ -56,7 +56,7 @@ module _ (f : ℕ → Bool) {s : List ℕ} {i : ℕ} where
 
 -- ---- records
 
--- the record at a place, and those behind it
+-- the record at a place, and those after it
 pub records-cons : (w : ℕ) (s : List ℕ) (at : ℕ) → 0 < w → at + w ≤ length s → records w (drop at s) ≡ take w (drop at s) ∷ records w (drop (at + w) s)
 unfolding records parts
 records-cons w s at p h =
@@ -117,7 +117,7 @@ unfolding ascend
 too-few w s h = sym (ap ascend (records-end w s 0 (omega arith)))
 
 module _ {w : ℕ} {s : List ℕ} {last at : ℕ} (p : 3 ≤ w) (i : Rising w s last at) where
-  -- the last record, and those behind it
+  -- the last record, and those after it
   last-on : records w (drop (at - w) s) ≡ take w (drop (at - w) s) ∷ records w (drop at s)
   last-on =
       let e : at - w + w ≡ at = omega (arith, i) in

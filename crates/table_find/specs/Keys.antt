@@ -4,7 +4,7 @@ use mathlib.Core.List.{List, [], _∷_}
 use Prim.Native.Nat.{ℕ, _+_, _*_, _<_, _≤_}
 use lib.ListN.{length, getD}
 
--- the bytes behind those of k, as one number
+-- the bytes after those of k, as one number
 unfoldable pub keyFrom : ℕ → List ℕ → ℕ
 keyFrom k [] = k
 keyFrom k (b ∷ r) = keyFrom (k * 256 + b) r

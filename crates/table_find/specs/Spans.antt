@@ -1,4 +1,4 @@
--- The records of a section that start with a key stand one behind the other: from the first that does not stand before the key, as many as start
+-- The records of a section that start with a key stand one after the other: from the first that does not stand before the key, as many as start
 -- with it. Assumes nothing.
 use mathlib.Core.Path.{_≡_}
 use mathlib.Core.Bool.{Bool, true, false}
@@ -24,7 +24,7 @@ unfoldable pub leading : List (List ℕ) → List ℕ → ℕ
 leading [] key = 0
 leading (r ∷ rs) key = elim (startsWith key r) [ true ↦ suc (leading rs key) | false ↦ 0 ]
 
--- the index behind the last record that starts with the key
+-- the index after the last record that starts with the key
 unfoldable pub endAt : List (List ℕ) → List ℕ → ℕ
 endAt rs key = firstAt rs key + leading (drop (firstAt rs key) rs) key
 
@@ -34,7 +34,7 @@ endAt rs key = firstAt rs key + leading (drop (firstAt rs key) rs) key
 abbrev pub FirstOf : ℕ → List ℕ → ℕ → ℕ → Type 0
 FirstOf w s n r = (k : List ℕ) → Keyed w k n → ascend (records w s) ≡ true → r ≡ firstAt (records w s) k
 
--- r is behind those that start with the key from a record on
+-- r is after those that start with the key from a record on
 abbrev pub LastFrom : ℕ → List ℕ → ℕ → ℕ → ℕ → Type 0
 LastFrom w s n from r = ByKey w n r (λ k. from + leading (drop from (records w s)) k)
 

@@ -6,7 +6,7 @@ ghost use lib.ListN.{length, take, drop};
 ghost use Rattle.table_find.specs.Keys.{key, Keyed};
 ghost use Rattle.table_find.specs.Spans.{FirstOf, LastFrom, StartingOf};
 
-// One byte more behind the bytes of a number.
+// One byte more after the bytes of a number.
 pub fn with_byte(number: u32, byte: u8) -> u32
     requires { ⌜ number < 16777216 ⌝ }
     ensures { λ r. ⌜ r ≡ number * 256 + byte ⌝ }

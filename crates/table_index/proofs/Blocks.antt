@@ -1,4 +1,4 @@
--- The block of a state and a symbol: the records that start with them stand one behind the other, from one entry of the index to the next. Assumes nothing.
+-- The block of a state and a symbol: the records that start with them stand one after the other, from one entry of the index to the next. Assumes nothing.
 use mathlib.Core.Path.{_≡_, refl, sym, ap, _∙_, subst}
 use mathlib.Core.Bool.{Bool, true, false}
 use mathlib.Core.List.{List, [], _∷_, List·Memᴰ}

@@ -38,12 +38,12 @@ word-bytes b h i =
     let high : (getD b i 0 + 256 * getD b (i + 1) 0) / 256 % 256 ≡ getD b (i + 1) 0 = rw (add-mul-div-left (getD b i 0) (getD b (i + 1) 0) {y = 256} (omega arith), div-eq-of-lt k, zero-add, mod-eq-of-lt l) in
     λ j. low j ∷ high j ∷ []
 
--- a word behind a part of the file
+-- a word after a part of the file
 word-behind : (p g : List ℕ) (n : ℕ) → word16 (p ++ g) (length p + n) ≡ word16 g n
 unfolding word16
 word-behind p g n = rw (add-assoc, getD-append-add p g n 0, getD-append-add p g (n + 1) 0)
 
--- word k of words written one behind the other
+-- word k of words written one after the other
 word-gathered : (ds : List ℕ) (k : ℕ) → k < length ds → getD ds k 0 < 65536 → word16 (concatMap bytes16 ds) (2 * k) ≡ getD ds k 0
 unfolding word16 bytes16 concatMap
 word-gathered [] k l h = absurd (omega arith)
@@ -262,7 +262,7 @@ module _ (L : Limits) (t : Table) (f : WellFormed L t) where
   unfolding version distance
   versioned = word-is 5 (omega arith) (omega (arith, version-small (f .versioned)))
 
-  -- a section of the bytes, by what stands before it and behind it
+  -- a section of the bytes, by what stands before it and after it
   section : (p x q : List ℕ) → fromSymbols t ≡ p ++ (x ++ q) → slice (length (fromSymbols t) - length (x ++ q)) (length (fromSymbols t) - length q) (bytesOf t) ≡ x
   unfolding bytesOf
   section p x q e =

@@ -27,7 +27,7 @@ open-refused L b e w o h = absurd (omega (arith, o, accepted-closed (automaton (
 pub open-unmarked : (L : Limits) (b : List ℕ) → Readable L b → (w : List ℕ) → LeavesOpen b w → (k : ℕ) → ¬ EndsIn (automatonOf b) k w
 open-unmarked L b e w o k h = absurd (omega (arith, o, ends-closed (automaton (tableOf b)) (kindOf (tableOf b)) (moves-kinded (read-well-formed L b e)) h))
 
--- nothing, a call, a call that is closed, a return that closes nothing, a call behind one, two calls and a return; by the symbols of table T
+-- nothing, a call, a call that is closed, a return that closes nothing, a call after one, two calls and a return; by the symbols of table T
 abbrev words : List (List ℕ)
 words = [] ∷ (1 ∷ []) ∷ (1 ∷ 0 ∷ 2 ∷ []) ∷ (2 ∷ []) ∷ (2 ∷ 1 ∷ []) ∷ (1 ∷ 1 ∷ 2 ∷ []) ∷ []
 

@@ -58,7 +58,7 @@ tableOf b =
 unfoldable pub bytes16 : ℕ → List ℕ
 bytes16 x = (x % 256) ∷ (x / 256 % 256) ∷ []
 
--- "Each section is written behind the one before it": the sections from each one on
+-- "Each section is written after the one before it": the sections from each one on
 unfoldable pub fromReturns : Table → List ℕ
 fromReturns t = concat (t .returns)
 

@@ -48,7 +48,7 @@ automatonOf b = automaton (tableOf b)
 abbrev pub kindOf : Table → ℕ → ℕ
 kindOf t a = getD (t .symbols) a 0
 
--- request (iv), "a script that ends with something still open": some call of the word is closed by no return behind it, by the symbols' bytes
+-- request (iv), "a script that ends with something still open": some call of the word is closed by no return after it, by the symbols' bytes
 abbrev pub LeavesOpen : List ℕ → List ℕ → Type 0
 LeavesOpen b w = 0 < openAfter (kindOf (tableOf b)) 0 w
 

@@ -76,7 +76,7 @@ before [] (y ∷ ys) = true
 before (x ∷ xs) [] = false
 before (x ∷ xs) (y ∷ ys) = ltb x y || (eqb x y && before xs ys)
 
--- "A section's records ascend strictly as byte strings", behind r
+-- "A section's records ascend strictly as byte strings", after r
 unfoldable pub ascendFrom : List ℕ → List (List ℕ) → Bool
 ascendFrom r [] = true
 ascendFrom r (s ∷ rs) = before r s && ascendFrom s rs

@@ -1,4 +1,4 @@
--- The bytes of a table whose records are given by their keys, section behind section, and what stands behind each. Assumes nothing.
+-- The bytes of a table whose records are given by their keys, section after section, and what stands after each. Assumes nothing.
 use mathlib.Core.Path.{_≡_, refl, sym, ap, _∙_}
 use mathlib.Core.List.{List, [], _∷_, _++_, append-assoc, map, List·Memᴰ, Memᴰ·of-map}
 use Prim.Native.Nat.{ℕ, _+_, _*_, _≤_}
@@ -26,7 +26,7 @@ concatMap-long w f h (k ∷ ks) = omega (arith, length-append (f k) (concatMap f
 regroup : (a b c d e f : List ℕ) → (a ++ (b ++ (c ++ (d ++ e)))) ++ f ≡ a ++ (b ++ (c ++ (d ++ (e ++ f))))
 regroup a b c d e f = simp append-assoc
 
--- ---- what stands behind each section
+-- ---- what stands after each section
 
 module _ (v : ℕ) (y s i c r : List ℕ) where
   abbrev pub behindReturns : List ℕ

@@ -12,7 +12,7 @@ use Rattle.lists.proofs.Copying.{length-over}
 use Rattle.table_spec.specs.File.{bytes16}
 use Rattle.table_write.specs.Keys.{bytes32, recordOf}
 
--- the output in the end is what stands before the place, then what is still to be written over what stands behind it
+-- the output in the end is what stands before the place, then what is still to be written over what stands after it
 pub record Writing (rest end out : List ℕ) (at : ℕ) : Type 0 where
   pub room : at + length rest ≤ length out
   pub meets : end ≡ take at out ++ over rest (drop at out)

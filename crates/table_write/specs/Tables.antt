@@ -22,7 +22,7 @@ keyedTable version symbols states internals calls returns =
       returns = map (recordOf 4) returns;
     }
 
--- the trailer of a version behind so many symbols, states, internals, calls and returns
+-- the trailer of a version after so many symbols, states, internals, calls and returns
 unfoldable pub trailerFrom : ℕ → ℕ → ℕ → ℕ → ℕ → ℕ → List ℕ
 trailerFrom v y s i c r = concatMap bytes16 ((y + (s + (3 * i + (3 * c + 4 * r)))) ∷ (s + (3 * i + (3 * c + 4 * r))) ∷ (3 * i + (3 * c + 4 * r)) ∷ (3 * c + 4 * r) ∷ (4 * r) ∷ v ∷ [])
 

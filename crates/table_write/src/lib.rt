@@ -67,7 +67,7 @@ fn put_words(words: &[usize], out: &mut [u8])
     }
 }
 
-// The trailer behind so many symbols, states and records: "the distances back from its first byte to each section's start", then the version.
+// The trailer after so many symbols, states and records: "the distances back from its first byte to each section's start", then the version.
 fn put_trailer(
     versioned: usize,
     symbols: usize,
@@ -96,7 +96,7 @@ fn put_trailer(
     put_words(&words, out);
 }
 
-// "Each section is written behind the one before it, then the trailer."
+// "Each section is written after the one before it, then the trailer."
 pub fn put_table(
     version: usize,
     symbols: &[u8],

@@ -1,4 +1,4 @@
--- Zero words behind the states' words change nothing: the code walks all words that a table may have. Assumes nothing.
+-- Zero words after the states' words change nothing: the code walks all words that a table may have. Assumes nothing.
 use mathlib.Core.Path.{_≡_, refl, sym, ap, _∙_}
 use mathlib.Core.Bool.{Bool, true, false, _&&_}
 use mathlib.Core.List.{List, [], _∷_, _++_, List·Memᴰ, List·Memᴰ·head, List·Memᴰ·tail}

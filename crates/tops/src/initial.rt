@@ -38,7 +38,7 @@ fn start_word(byte: u8) -> u64
     0
 }
 
-// The words of the states at the start, and zeros behind them.
+// The words of the states at the start, and zeros after them.
 pub fn start_words(states: &[u8], words: &mut [u64])
     requires { ⌜ (length (now states) ≤ 40) × (length (now words) ≡ 40) ⌝ }
     ensures { λ _. ⌜ now (words .exit) ≡ startWords stateMost (sectioned 0 [] (now (states .entry)) [] [] []) ++ replicate (40 - length (now (states .entry))) 0 ⌝ }

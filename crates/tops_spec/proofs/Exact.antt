@@ -248,7 +248,7 @@ module _ {most : ℕ} {t : Table} (bounded : Bounded most t) where
   unfolding topWordsAt
   words-at q = getD-padded rounded (most - count t) q
 
-  -- the states' words, and zeros behind them
+  -- the states' words, and zeros after them
   pub record Padded : Type 0 where
     pub states : List ℕ
     pub long : length states ≡ count t

@@ -4,7 +4,7 @@ use Prim.Native.Nat.{ℕ}
 use Rattle.vpa.specs.Automata.{Automaton, Configuration, _at_, Step, Run, done, then, AcceptsBy}
 use Rattle.vpa.specs.Quotients.{AtEveryStep, at-end, at-step}
 
--- a run's configurations, before its first symbol and behind each
+-- a run's configurations, before its first symbol and after each
 unfoldable pub trace : {S : Type 0} {A : Automaton S} {c d : Configuration S} {w : List ℕ} → Run A c w d → List (Configuration S)
 trace {c} (done) = c ∷ []
 trace {c} (then s r) = c ∷ trace r

@@ -96,14 +96,14 @@ module _ {S : Type 0} (A : Automaton S) where
   abbrev pub EndsIn : ℕ → List ℕ → Type 0
   EndsIn k = AcceptsBy (EndedIn k)
 
--- how many calls are open behind a symbol where n were before it, by the symbol's kind, "0 internal, 1 call, 2 return": a call opens, a return
+-- how many calls are open after a symbol where n were before it, by the symbol's kind, "0 internal, 1 call, 2 return": a call opens, a return
 -- closes the latest that is open, and where none is open it closes nothing
 unfoldable pub openBehind : ℕ → ℕ → ℕ
 openBehind zero n = n
 openBehind (suc zero) n = suc n
 openBehind (suc (suc k)) n = n - 1
 
--- how many are open behind a word, where n were before it and kind gives each symbol's kind
+-- how many are open after a word, where n were before it and kind gives each symbol's kind
 unfoldable pub openAfter : (ℕ → ℕ) → ℕ → List ℕ → ℕ
 openAfter kind n [] = n
 openAfter kind n (a ∷ w) = openAfter kind (openBehind (kind a) n) w

@@ -61,7 +61,7 @@ module _ {S T : Type 0} (A : Automaton S) (m : S → T) where
     pub stacks : map m (c .stack) ≡ C .stack
 
 module _ {S T : Type 0} {A : Automaton S} {B : Automaton T} (R : Configuration S → Configuration T → Type 0) where
-  -- two runs over one word, from c to d and from C to D, with R before its first symbol and behind each: one case a step
+  -- two runs over one word, from c to d and from C to D, with R before its first symbol and after each: one case a step
   pub data StepByStep : (c d : Configuration S) (C D : Configuration T) (w : List ℕ) → Run A c w d → Run B C w D → Type 0 where
     at-end : {c : Configuration S} {C : Configuration T} → R c C → StepByStep c c C C [] done done
     at-step : {c d e : Configuration S} {C D E : Configuration T} {a : ℕ} {w : List ℕ} {s : Step A c a d} {t : Step B C a D} {r : Run A d w e} {u : Run B D w E}

@@ -39,7 +39,7 @@ enum-known-answer c = search needs
 state-count-requires : tie.Need-state-count-requires
 state-count-requires c κs = search needs
 
--- what is delivered, behind the count of states: the map buffer and the output have room for it, and the check accepts the map
+-- what is delivered, after the count of states: the map buffer and the output have room for it, and the check accepts the map
 few-states : (c : tie.After-state-count) → c .state-count .result ≤ 40
 few-states c = c .state-count .ensures .0
 

@@ -1,4 +1,4 @@
--- `clauses_targets::store_clause` meets its contract: the targets stand behind the premises. Assumes nothing.
+-- `clauses_targets::store_clause` meets its contract: the targets stand after the premises. Assumes nothing.
 use borrow.Author.Needs.{needs}
 use Rattle.clauses_emit.proofs.Collecting.{whole}
 use Rattle.clauses_targets.proofs.Targeting.{clause-stored}

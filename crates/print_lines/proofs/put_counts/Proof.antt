@@ -1,4 +1,4 @@
--- `print_lines::put_counts` meets its contract: one piece behind the other. Assumes nothing.
+-- `print_lines::put_counts` meets its contract: one piece after the other. Assumes nothing.
 use native.Mathlib.Omega.{arith}
 use Rattle.print_spec.specs.Lines.{countsText}
 use Rattle.print_lines.proofs.Putting.{put-on}

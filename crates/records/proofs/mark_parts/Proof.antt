@@ -1,4 +1,4 @@
--- `records::mark_parts` meets its contract: what is still to be written behind each section. Assumes nothing.
+-- `records::mark_parts` meets its contract: what is still to be written after each section. Assumes nothing.
 use native.Mathlib.Omega.{arith}
 use Rattle.records.proofs.Telling.{fresh-room, internals-told, calls-room, calls-told, returns-room, returns-told}
 use Rattle.records_fates.proofs.Spans.{records-count}

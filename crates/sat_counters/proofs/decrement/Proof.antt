@@ -1,4 +1,4 @@
--- `sat_counters::decrement` meets its contract. The loop's invariant: the weight of the places ahead is still to be taken, and a clause behind is noted where at most one
+-- `sat_counters::decrement` meets its contract. The loop's invariant: the weight of the places ahead is still to be taken, and a clause after is noted where at most one
 -- literal is left. Assumes nothing.
 use borrow.Author.Needs.{needs}
 use mathlib.Core.Path.{_≡_, refl, ap, _∙_}

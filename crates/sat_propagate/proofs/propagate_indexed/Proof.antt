@@ -48,7 +48,7 @@ ranged c = c .before .before .before .before
 abbrev fallen : tie.After-decrement Inv-queue μ-queue → tie.After-wide2 Inv-queue μ-queue
 fallen c = c .before .before .before .before
 
--- the turn, from behind the fall of the words
+-- the turn, from after the fall of the words
 abbrev turning : tie.After-decrement Inv-queue μ-queue → tie.In-queue Inv-queue μ-queue
 turning c = turn (asked (ranged (fallen c)))
 

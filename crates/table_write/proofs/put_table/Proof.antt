@@ -1,4 +1,4 @@
--- `table_write::put_table` meets its contract: what is still to be written behind each section. Assumes nothing.
+-- `table_write::put_table` meets its contract: what is still to be written after each section. Assumes nothing.
 use Rattle.table_write.specs.Keys.{recordOf}
 use Rattle.table_write.specs.Tables.{keyedTable, trailerFrom}
 use Rattle.table_write.proofs.Whole.{concatMap-long, behindReturns, behindCalls, behindInternals, behindStates, behindSymbols, bytes-apart, length-trailer, bytes-long}
@@ -16,7 +16,7 @@ use borrow.Author.Needs.{needs}
 use Rattle.table_write.proofs.put_table.Statement.{statement}
 use Rattle.table_write.proofs.put_table.Tie as tie
 
--- the sections of the table that is written, what is to come behind them, and the output in the end
+-- the sections of the table that is written, what is to come after them, and the output in the end
 module _ (c : tie.Start) where
   abbrev states : List ℕ
   states = c .args .states .now

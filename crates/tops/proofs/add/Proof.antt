@@ -1,4 +1,4 @@
--- `tops::add` meets its contract: the word behind q is or-ed with w. Assumes nothing.
+-- `tops::add` meets its contract: the word after q is or-ed with w. Assumes nothing.
 use borrow.Author.Needs.{needs}
 use Rattle.tops_spec.specs.Tops.{add}
 use Rattle.tops.proofs.add.Statement.{statement}

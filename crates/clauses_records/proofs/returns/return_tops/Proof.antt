@@ -23,7 +23,7 @@ Inv-tops block x q word count list₀ so-far₀ rest₀ at₀ list so-far rest a
 abbrev μ-tops : tie.MeasureT-tops
 μ-tops block x q word count list₀ so-far₀ rest₀ at₀ list so-far rest at = rest
 
--- ---- behind the walk to the next top
+-- ---- after the walk to the next top
 
 abbrev there : tie.After-reached2 Inv-tops μ-tops → tie.After-next-state Inv-tops μ-tops
 there c = c .before .before .before

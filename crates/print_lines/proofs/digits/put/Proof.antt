@@ -1,4 +1,4 @@
--- `print_lines::digits::put` meets its contract: the bytes stand behind the place. Assumes nothing.
+-- `print_lines::digits::put` meets its contract: the bytes stand after the place. Assumes nothing.
 use Rattle.print_lines.proofs.Putting.{put-copied}
 use borrow.Author.Needs.{needs}
 use Rattle.print_lines.proofs.digits.put.Statement.{statement}

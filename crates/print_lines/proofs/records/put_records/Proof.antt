@@ -1,4 +1,4 @@
--- `print_lines::records::put_records` meets its contract: one piece behind the other. Assumes nothing.
+-- `print_lines::records::put_records` meets its contract: one piece after the other. Assumes nothing.
 use Rattle.print_spec.specs.Lines.{recordsText}
 use Rattle.print_lines.proofs.Putting.{put-on}
 use borrow.Author.Needs.{needs}

@@ -1,4 +1,4 @@
--- `season::lengths::lengths_fit` meets its contract: what is left of the buffer behind the lengths so far. Assumes nothing.
+-- `season::lengths::lengths_fit` meets its contract: what is left of the buffer after the lengths so far. Assumes nothing.
 use borrow.Author.Needs.{needs}
 use Prim.Native.Nat.{_-_}
 use lib.ListN.{length}
