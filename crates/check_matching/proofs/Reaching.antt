@@ -41,7 +41,9 @@ module _ (m : List ℕ) (target k : ℕ) where
     none-met h = records-none-met (goes m target k) w i h
 
 -- over the part is over the section's targets
-pub over-targets : (w : ℕ) (section key found m : List ℕ) (target : ℕ) {b : Bool} → length key + 1 ≡ w → records w found ≡ filter (startsWith key) (records w section) → b ≡ any (goes m target (w - 1)) (records w found) → b ≡ any (joins m target) (targets (records w section) key)
+pub over-targets :
+    (w : ℕ) (section key found m : List ℕ) (target : ℕ) {b : Bool} → length key + 1 ≡ w → records w found ≡ filter (startsWith key) (records w section)
+    → b ≡ any (goes m target (w - 1)) (records w found) → b ≡ any (joins m target) (targets (records w section) key)
 unfolding targets startsWith
 over-targets w section key found m target l e h =
     let n : w - 1 ≡ length key = omega arith in

@@ -71,7 +71,9 @@ module _ {f s live : List ℕ} {n at : ℕ} (g : Gathering f s live n at) where
     unfolding filter
     filter-live-past e = record { inside = omega arith; long = g .long; room = omega (arith, g .room, ap length on); meets = g .meets ∙ ap (λ (rs : List (List ℕ)). take n live ++ concat (filter (kept f) rs)) on ∙ rw (e, filter) }
 
-    pub filter-live-on : kept f (take (at + 4 - at) (drop at s)) ≡ true → Gathering f s (set (set (set (set live n (getD s at 0)) (n + 1) (getD s (at + 1) 0)) (n + 2) (getD s (at + 2) 0)) (n + 3) (getD s (at + 3) 0)) (n + 4) (at + 4)
+    pub filter-live-on :
+        kept f (take (at + 4 - at) (drop at s)) ≡ true
+        → Gathering f s (set (set (set (set live n (getD s at 0)) (n + 1) (getD s (at + 1) 0)) (n + 2) (getD s (at + 2) 0)) (n + 3) (getD s (at + 3) 0)) (n + 4) (at + 4)
     unfolding filter concat
     filter-live-on e = record {
       inside = omega arith;
@@ -141,5 +143,7 @@ module _ (f : List ℕ) (rs : List (List ℕ)) (wide : (r : List ℕ) → List·
       one r d h true e = all-of _ (upto n) (λ q k. all-of _ (upto n) (λ u x. sym (same-return _ _ _ _ q u) ∙ all-true _ (upto n) (all-true _ (upto n) (all-true (recordMet 4 f (filter (kept f) rs) n m) (filter (kept f) rs) h r (filter-of (kept f) rs r d e)) q k) u x))
 
 -- the answer for what is gathered is that for the section
-pub told-live : (f s part : List ℕ) (n : ℕ) (m : List ℕ) {b : Bool} → records 4 part ≡ filter (kept f) (records 4 s) → b ≡ recordsMatched 4 f (records 4 part) n m → b ≡ recordsMatched 4 f (records 4 s) n m
+pub told-live :
+    (f s part : List ℕ) (n : ℕ) (m : List ℕ) {b : Bool} → records 4 part ≡ filter (kept f) (records 4 s) → b ≡ recordsMatched 4 f (records 4 part) n m
+    → b ≡ recordsMatched 4 f (records 4 s) n m
 told-live f s part n m g h = h ∙ ap (λ (rs : List (List ℕ)). recordsMatched 4 f rs n m) g ∙ live-matched f (records 4 s) (records-wide 4 s) n m

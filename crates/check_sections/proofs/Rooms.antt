@@ -114,7 +114,9 @@ module _ (ws : List ℕ) (own : ℕ) (r room : List ℕ) where
   unfolding gained noted
   gained-bits l k x = go (hasBit own (getD r 0 0))
     where
-      go : (t : Bool) → has (elim t [ true ↦ set room (placeOf ws r) (bitOr (getD room (placeOf ws r) 0) (2 ^ bitOf r)) | false ↦ room ]) k x ≡ (has room k x || (t && (eqb k (placeOf ws r) && eqb x (bitOf r))))
+      go :
+          (t : Bool)
+          → has (elim t [ true ↦ set room (placeOf ws r) (bitOr (getD room (placeOf ws r) 0) (2 ^ bitOf r)) | false ↦ room ]) k x ≡ (has room k x || (t && (eqb k (placeOf ws r) && eqb x (bitOf r))))
       go true = gains room (placeOf ws r) (bitOf r) l k x
       go false = sym (or-none (has room k x))
 
@@ -207,14 +209,18 @@ module _ {w : ℕ} {s ws : List ℕ} {own : ℕ} {room : List ℕ} {at : ℕ} (g
   unfolding cleared
   wipe-on {new} l h e = go (hasBit own (getD (take (at + w - at) (drop at s)) 0 0)) refl e
     where
-      split : (k : ℕ) → ((y : List ℕ) → List·Memᴰ y (records w (drop (at + w) s)) → Touches ws own k y → ⊥) → (Touches ws own k (take (at + w - at) (drop at s)) → ⊥) → (y : List ℕ) → List·Memᴰ y (records w (drop at s)) → Touches ws own k y → ⊥
+      split :
+          (k : ℕ) → ((y : List ℕ) → List·Memᴰ y (records w (drop (at + w) s)) → Touches ws own k y → ⊥)
+          → (Touches ws own k (take (at + w - at) (drop at s)) → ⊥) → (y : List ℕ) → List·Memᴰ y (records w (drop at s)) → Touches ws own k y → ⊥
       split k n m y d t = cases (List·Memᴰ·cases-cons (subst (List·Memᴰ y) (record-on w s at (omega (arith, l .wide)) h) d))
         where
           cases : (y ≡ take (at + w - at) (drop at s)) ⊎ List·Memᴰ y (records w (drop (at + w) s)) → ⊥
           cases (inl z) = m (subst (Touches ws own k) z t)
           cases (inr z) = n y z t
 
-      go : (t : Bool) → hasBit own (getD (take (at + w - at) (drop at s)) 0 0) ≡ t → new ≡ (elim t as (λ _. List ℕ) [ true ↦ set room (placeOf ws (take (at + w - at) (drop at s))) 0 | false ↦ room ]) → Wiping w s ws own new (at + w)
+      go :
+          (t : Bool) → hasBit own (getD (take (at + w - at) (drop at s)) 0 0) ≡ t
+          → new ≡ (elim t as (λ _. List ℕ) [ true ↦ set room (placeOf ws (take (at + w - at) (drop at s))) 0 | false ↦ room ]) → Wiping w s ws own new (at + w)
       go false b e = record {
         ahead = ahead-on (g .ahead) (omega (arith, l .wide)) h;
         long = ap length e ∙ g .long;
@@ -226,7 +232,9 @@ module _ {w : ℕ} {s ws : List ℕ} {own : ℕ} {room : List ℕ} {at : ℕ} (g
         zero = λ k n. ap (λ (y : List ℕ). getD y k 0) e ∙ word k n (ℕ-discrete k (placeOf ws (take (at + w - at) (drop at s))));
       }
         where
-          word : (k : ℕ) → ((y : List ℕ) → List·Memᴰ y (records w (drop (at + w) s)) → Touches ws own k y → ⊥) → Dec (k ≡ placeOf ws (take (at + w - at) (drop at s))) → getD (set room (placeOf ws (take (at + w - at) (drop at s))) 0) k 0 ≡ 0
+          word :
+              (k : ℕ) → ((y : List ℕ) → List·Memᴰ y (records w (drop (at + w) s)) → Touches ws own k y → ⊥)
+              → Dec (k ≡ placeOf ws (take (at + w - at) (drop at s))) → getD (set room (placeOf ws (take (at + w - at) (drop at s))) 0) k 0 ≡ 0
           word k n (yes d) =
               let q = placed-here l (g .ahead) h in
               ap (λ (j : ℕ). getD (set room (placeOf ws (take (at + w - at) (drop at s))) 0) j 0) d ∙ getD-set-same room (placeOf ws (take (at + w - at) (drop at s))) 0 0 (omega (arith, g .long, q .symbol, q .target))
@@ -242,5 +250,7 @@ no-room = record { long = length-replicate {A = ℕ} 2560 0; zero = λ k. zeros 
 
 -- ---- a record that asks
 
-pub asked-met : (f ws : List ℕ) (askers tops : ℕ) (room r : List ℕ) {p v : ℕ} {b : Bool} → hasBit askers (getD r 0 0) ≡ true → kept f r ≡ true → p ≡ placeOf ws r → v ≡ bitOf r → b ≡ eqb (bitOr (getD room p 0) (bitAnd (getD ws v 0) tops)) (getD room p 0) → b ≡ metBy f ws askers tops room r
+pub asked-met :
+    (f ws : List ℕ) (askers tops : ℕ) (room r : List ℕ) {p v : ℕ} {b : Bool} → hasBit askers (getD r 0 0) ≡ true → kept f r ≡ true → p ≡ placeOf ws r
+    → v ≡ bitOf r → b ≡ eqb (bitOr (getD room p 0) (bitAnd (getD ws v 0) tops)) (getD room p 0) → b ≡ metBy f ws askers tops room r
 asked-met f ws askers tops room r a k d e h = h ∙ (λ i. eqb (bitOr (getD room (d i) 0) (bitAnd (getD ws (e i) 0) tops)) (getD room (d i) 0)) ∙ λ i. not (sym a i) || (not (sym k i) || covering ws tops room r)

@@ -172,7 +172,9 @@ module _ {s m ws room : List ℕ} {q : ℕ} (l : Lent 4 s (length m)) (j : Joine
       unfolding has joins
       return-covered = covered (getD room (placeOf ws r) 0) (bitAnd (getD ws (bitOf r) 0) (getD f q 0)) (length m) (λ u. returnMatched f (records 4 s) m (getD r 0 0) (getD r 1 0) (getD r 2 0) (getD r 3 0) q u) asked free
         where
-          asked : (u : ℕ) → Bit (bitAnd (getD ws (bitOf r) 0) (getD f q 0)) u → (u < length m) × (returnMatched f (records 4 s) m (getD r 0 0) (getD r 1 0) (getD r 2 0) (getD r 3 0) q u ≡ hasBit (getD room (placeOf ws r) 0) u)
+          asked :
+              (u : ℕ) → Bit (bitAnd (getD ws (bitOf r) 0) (getD f q 0)) u
+              → (u < length m) × (returnMatched f (records 4 s) m (getD r 0 0) (getD r 1 0) (getD r 2 0) (getD r 3 0) q u ≡ hasBit (getD room (placeOf ws r) 0) u)
           asked u b =
               let t = and-bit (getD ws (bitOf r) 0) (getD f q 0) u b in
               let k = under .only u (t .0) in
@@ -199,7 +201,9 @@ module _ {s m ws room : List ℕ} {q : ℕ} (l : Lent 4 s (length m)) (j : Joine
   returns-met f = all-alike (records 4 s) (λ r d. return-met f r d)
 
 -- the same of the words as the code has them
-pub state-met : {s m ws room : List ℕ} {q own tops : ℕ} {b : Bool} (f : List ℕ) → Lent 4 s (length m) → Joined m ws → q < length m → own ≡ 2 ^ q → tops ≡ getD f q 0 → Room (records 4 s) ws own room → b ≡ all (metBy f ws (getD ws q 0) tops room) (records 4 s) → b ≡ stateMatched 4 f (records 4 s) (length m) m q
+pub state-met :
+    {s m ws room : List ℕ} {q own tops : ℕ} {b : Bool} (f : List ℕ) → Lent 4 s (length m) → Joined m ws → q < length m → own ≡ 2 ^ q → tops ≡ getD f q 0
+    → Room (records 4 s) ws own room → b ≡ all (metBy f ws (getD ws q 0) tops room) (records 4 s) → b ≡ stateMatched 4 f (records 4 s) (length m) m q
 state-met {s} {m} {ws} {room} {q} f l j h d e g t = t ∙ ap (λ (v : ℕ). all (metBy f ws (getD ws q 0) v room) (records 4 s)) e ∙ returns-met l j h (subst (λ (v : ℕ). Room (records 4 s) ws v room) d g) f
 
 -- ---- state by state is record by record

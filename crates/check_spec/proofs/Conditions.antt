@@ -99,7 +99,9 @@ module _ (t : Table) (m : List ℕ) where
     returns-test h = all-of _ rs (λ r mr. all-of _ (upto (count t)) (λ q mq. all-of _ (upto (count t)) (λ u mu. gives-of (joins m (getD r 0 0) q && joins m (getD r 2 0) u && has f (getD r 0 0) (getD r 2 0) && has f q u) _ (λ e.
         one (getD r 0 0) (getD r 1 0) (getD r 2 0) (getD r 3 0) q u (subst (λ (x : List ℕ). List·Memᴰ x rs) (four-bytes r (fit .wide r mr)) mr) (upto-mem (count t) q mq) (upto-mem (count t) u mu) e))))
       where
-        one : (p a s p' q u : ℕ) → List·Memᴰ (p ∷ a ∷ s ∷ p' ∷ []) rs → q < count t → u < count t → (joins m p q && joins m s u && has f p s && has f q u) ≡ true → any (joins m p') (targets rs (q ∷ a ∷ u ∷ [])) ≡ true
+        one :
+            (p a s p' q u : ℕ) → List·Memᴰ (p ∷ a ∷ s ∷ p' ∷ []) rs → q < count t → u < count t → (joins m p q && joins m s u && has f p s && has f q u) ≡ true
+            → any (joins m p') (targets rs (q ∷ a ∷ u ∷ [])) ≡ true
         one p a s p' q u k lq lu e =
             let c = and-true (joins m p q && joins m s u && has f p s) (has f q u) e in
             let d = and-true (joins m p q && joins m s u) (has f p s) (c .0) in

@@ -65,7 +65,9 @@ refused L b list e n = refuses (clausesNumber L b list) _ (λ k. record { answer
 -- ---- the parts of the file
 
 module _ (L : Limits) (b : List ℕ) (readable : Readable L b) where
-  listed-for : (whole : Bool) → listBy whole (slice (start b 1) (start b 2) b) (slice (start b 2) (start b 3) b) (slice (start b 3) (start b 4) b) (slice (start b 4) (trailer b) b) (topWords (tableOf b)) ≡ listFor whole (tableOf b)
+  listed-for :
+      (whole : Bool)
+      → listBy whole (slice (start b 1) (start b 2) b) (slice (start b 2) (start b 3) b) (slice (start b 3) (start b 4) b) (slice (start b 4) (trailer b) b) (topWords (tableOf b)) ≡ listFor whole (tableOf b)
   unfolding listBy clauseList shortList lookClauses transitivity returnClauses returnClausesBy liveReturns tableOf
   listed-for true = refl
   listed-for false = rw append-nil refl

@@ -58,12 +58,16 @@ abbrev filled : Bool → ℕ → List ℕ → List ℕ → List ℕ
 filled true k xs list = place k xs list
 filled false k xs list = list
 
-one-fits : (c : List ℕ) (w : Bool) (a k : ℕ) (list : List ℕ) → k + 1 + length c ≤ length list → emitOne c (state (tally w a k) list) ≡ state (tally w (a + 1) (k + 1 + length c)) (filled w k (length c ∷ c) list)
+one-fits :
+    (c : List ℕ) (w : Bool) (a k : ℕ) (list : List ℕ) → k + 1 + length c ≤ length list
+    → emitOne c (state (tally w a k) list) ≡ state (tally w (a + 1) (k + 1 + length c)) (filled w k (length c ∷ c) list)
 unfolding emitOne written
 one-fits c true a k list h = let l : k ≤ length list = omega arith in rw (le-ltb _ _ l, emitOne, le-leb _ _ h, written)
 one-fits c false a k list h = let l : k ≤ length list = omega arith in rw (le-ltb _ _ l, emitOne)
 
-fits : (cs : List (List ℕ)) (w : Bool) (a k : ℕ) (list : List ℕ) → k + length (wordsOf cs) ≤ length list → emit cs (state (tally w a k) list) ≡ state (tally w (a + length cs) (k + length (wordsOf cs))) (filled w k (wordsOf cs) list)
+fits :
+    (cs : List (List ℕ)) (w : Bool) (a k : ℕ) (list : List ℕ) → k + length (wordsOf cs) ≤ length list
+    → emit cs (state (tally w a k) list) ≡ state (tally w (a + length cs) (k + length (wordsOf cs))) (filled w k (wordsOf cs) list)
 unfolding emit wordsOf concatMap
 fits [] w a k list h = λ i. state (tally w (sym (add-zero a) i) (sym (add-zero k) i)) (none w i)
   where
@@ -104,7 +108,10 @@ unfolding emit wordsOf concatMap
 exceeds [] s h = omega arith
 exceeds (c ∷ cs) s h = go (decLt (length (s .list)) (s .tally .words)) (exceeds cs (emitOne c s))
   where
-    go : Dec (length (s .list) < s .tally .words) → (length (emitOne c s .list) < emitOne c s .tally .words + length (wordsOf cs) → length (emitOne c s .list) < emit cs (emitOne c s) .tally .words) → length (s .list) < emit cs (emitOne c s) .tally .words
+    go :
+        Dec (length (s .list) < s .tally .words)
+        → (length (emitOne c s .list) < emitOne c s .tally .words + length (wordsOf cs) → length (emitOne c s .list) < emit cs (emitOne c s) .tally .words)
+        → length (s .list) < emit cs (emitOne c s) .tally .words
     go (yes l) ih = let e : emit cs (emitOne c s) ≡ s = ap (emit cs) (one-full c s l) ∙ emit-full cs s l in rw e l
     go (no l) ih = let m = one-more c s (omega arith) in let k = ih (omega (arith, length-words c cs)) in omega arith
 
@@ -159,7 +166,9 @@ module _ (cs : List (List ℕ)) (room : List ℕ) {z t : Tally} {room' : List �
   unfolding listedBy
   room-short list h e = let l : length list < length (wordsOf cs) = omega (arith, longer h) in rw (lt-leb _ _ l, listedBy)
 
-  pub room-copied : (list : List ℕ) {out : List ℕ} → t .words ≤ length room → length room ≤ length list → out ≡ over (take (t .words) room') list → record { answer = Words (t .clauses) (t .words); list = out } ≡ listedBy cs list
+  pub room-copied :
+      (list : List ℕ) {out : List ℕ} → t .words ≤ length room → length room ≤ length list → out ≡ over (take (t .words) room') list
+      → record { answer = Words (t .clauses) (t .words); list = out } ≡ listedBy cs list
   unfolding listedBy
   room-copied list {out} h k o =
       let e = written-whole (shorter h) in
@@ -187,7 +196,9 @@ module _ (cs : List (List ℕ)) (list : List ℕ) {z t : Tally} {list' : List �
       go (yes l) = rw (lt-leb _ _ l, listedBy) (λ i. record { answer = Refused 10; list = same-list i })
       go (no l) = let e = ap (λ (s : State). s .tally .words) (measured ∙ fits cs false 0 0 list (omega arith)) in absurd (omega (arith, ap length same-list))
 
-  pub delivered : {y t' : Tally} {list'' : List ℕ} → t .words ≤ length list' → y ≡ tally true 0 0 → state t' list'' ≡ emit cs (state y list') → record { answer = Words (t' .clauses) (t' .words); list = list'' } ≡ listedBy cs list
+  pub delivered :
+      {y t' : Tally} {list'' : List ℕ} → t .words ≤ length list' → y ≡ tally true 0 0 → state t' list'' ≡ emit cs (state y list')
+      → record { answer = Words (t' .clauses) (t' .words); list = list'' } ≡ listedBy cs list
   unfolding listedBy
   delivered {y} {t'} {list''} h n w = go (decLt (length list) (length (wordsOf cs)))
     where

@@ -51,7 +51,9 @@ pub kept-literal : (c : Literals) (l : ℕ) → length (c .words) ≡ 3 → c .n
 unfolding withLiteral
 kept-literal c l h k e = rw (e, withLiteral) (record { count = sym (length-take-le (c .n) (c .words) (omega arith)); same = refl })
 
-pub new-literal : (c : Literals) (l : ℕ) → length (c .words) ≡ 3 → c .n < 3 → mem l (literalsOf c) ≡ false → Holds (record { words = set (c .words) (c .n) l; n = c .n + 1 }) (withLiteral (literalsOf c) l)
+pub new-literal :
+    (c : Literals) (l : ℕ) → length (c .words) ≡ 3 → c .n < 3 → mem l (literalsOf c) ≡ false
+    → Holds (record { words = set (c .words) (c .n) l; n = c .n + 1 }) (withLiteral (literalsOf c) l)
 unfolding withLiteral
 new-literal c l h k e =
     rw (e, withLiteral)

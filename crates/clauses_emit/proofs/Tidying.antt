@@ -83,13 +83,17 @@ left-out kept (y ∷ ys) b = go (mem (opposite y) kept) refl (left-out (withLite
     on e (inl p) = first e p (split (b .other))
     on e (inr m) = record { one = b .one; to-come = m; other = later (opposite (b .one)) (split (b .other)) }
 
-    go : (t : Bool) → mem (opposite y) kept ≡ t → (Both (withLiteral kept y) ys → tidyFrom (withLiteral kept y) ys ≡ []) → _≡_ {A = List (List ℕ)} (elim t [ true ↦ [] | false ↦ tidyFrom (withLiteral kept y) ys ]) []
+    go :
+        (t : Bool) → mem (opposite y) kept ≡ t → (Both (withLiteral kept y) ys → tidyFrom (withLiteral kept y) ys ≡ [])
+        → _≡_ {A = List (List ℕ)} (elim t [ true ↦ [] | false ↦ tidyFrom (withLiteral kept y) ys ]) []
     go true e ih = refl
     go false e ih = ih (on e (cases-cons (b .to-come)))
 
 -- ---- no tautology
 
-written-once : (before kept ls : List ℕ) → ((x : ℕ) → mem x before ≡ mem x kept) → ((l x : ℕ) → List·Memᴰ l ls → List·Memᴰ x kept ⊎ List·Memᴰ x ls → opposite l ≢ x) → tidyFrom kept ls ≡ (kept ++ once before ls) ∷ []
+written-once :
+    (before kept ls : List ℕ) → ((x : ℕ) → mem x before ≡ mem x kept) → ((l x : ℕ) → List·Memᴰ l ls → List·Memᴰ x kept ⊎ List·Memᴰ x ls → opposite l ≢ x)
+    → tidyFrom kept ls ≡ (kept ++ once before ls) ∷ []
 unfolding tidyFrom once
 written-once before kept [] same h = sym (ap (λ ls. ls ∷ []) (append-nil kept))
 written-once before kept (l ∷ ls) same h =

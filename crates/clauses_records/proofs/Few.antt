@@ -61,7 +61,9 @@ module _ (key : List ℕ) where
   abbrev Wide : List (List ℕ) → Type 0
   Wide rs = (r : List ℕ) → List·Memᴰ r rs → length r ≡ suc (length key)
 
-  behind : (r : List ℕ) (rs : List (List ℕ)) → length r ≡ suc (length key) → startsWith key r ≡ true → Wide rs → ascendFrom r rs ≡ true → Ascending (suc (target key r)) (map (target key) (filter (startsWith key) rs))
+  behind :
+      (r : List ℕ) (rs : List (List ℕ)) → length r ≡ suc (length key) → startsWith key r ≡ true → Wide rs → ascendFrom r rs ≡ true
+      → Ascending (suc (target key r)) (map (target key) (filter (startsWith key) rs))
   unfolding filter ascendFrom
   behind r [] w c h e = none
   behind r (s ∷ rs) w c h e =
@@ -69,7 +71,9 @@ module _ (key : List ℕ) where
       let p = and-true (before r s) (ascendFrom s rs) e in
       go (startsWith key s) refl (targets-ascend key r s w l c) (λ d. behind s rs l d (λ t m. h t (List·Memᴰ·tail m)) (p .1)) (behind r rs w c (λ t m. h t (List·Memᴰ·tail m)) (ascend-skip r s rs e)) (p .0)
     where
-      go : (t : Bool) → startsWith key s ≡ t → (startsWith key s ≡ true → before r s ≡ true → target key r < target key s) → (startsWith key s ≡ true → Ascending (suc (target key s)) (map (target key) (filter (startsWith key) rs)))
+      go :
+          (t : Bool) → startsWith key s ≡ t → (startsWith key s ≡ true → before r s ≡ true → target key r < target key s)
+          → (startsWith key s ≡ true → Ascending (suc (target key s)) (map (target key) (filter (startsWith key) rs)))
           → Ascending (suc (target key r)) (map (target key) (filter (startsWith key) rs)) → before r s ≡ true → Ascending (suc (target key r)) (map (target key) (filter (startsWith key) (s ∷ rs)))
       go true d lt up skip b = rw (d, filter) (next (lt d b) (up d))
       go false d lt up skip b = rw (d, filter) skip
@@ -80,11 +84,16 @@ module _ (key : List ℕ) where
   rising [] h e = none
   rising (r ∷ rs) h e = go (startsWith key r) refl (λ c. behind r rs (h r (List·Memᴰ·head refl)) c (λ t m. h t (List·Memᴰ·tail m)) e) (rising rs (λ t m. h t (List·Memᴰ·tail m)) (ascend-rest r rs e))
     where
-      go : (t : Bool) → startsWith key r ≡ t → (startsWith key r ≡ true → Ascending (suc (target key r)) (map (target key) (filter (startsWith key) rs))) → Ascending 0 (map (target key) (filter (startsWith key) rs)) → Ascending 0 (map (target key) (filter (startsWith key) (r ∷ rs)))
+      go :
+          (t : Bool) → startsWith key r ≡ t → (startsWith key r ≡ true → Ascending (suc (target key r)) (map (target key) (filter (startsWith key) rs)))
+          → Ascending 0 (map (target key) (filter (startsWith key) rs)) → Ascending 0 (map (target key) (filter (startsWith key) (r ∷ rs)))
       go true d up skip = rw (d, filter) (next zero-le (up d))
       go false d up skip = rw (d, filter) skip
 
-  pub few-targets : (n : ℕ) (s : List ℕ) → ascend (records (suc (length key)) s) ≡ true → ((r : List ℕ) → List·Memᴰ r (records (suc (length key)) s) → getD r (length key) 0 < n) → length (filter (startsWith key) (records (suc (length key)) s)) ≤ n
+  pub few-targets :
+      (n : ℕ) (s : List ℕ) → ascend (records (suc (length key)) s) ≡ true
+      → ((r : List ℕ) → List·Memᴰ r (records (suc (length key)) s) → getD r (length key) 0 < n)
+      → length (filter (startsWith key) (records (suc (length key)) s)) ≤ n
   few-targets n s a h =
       let rs = records (suc (length key)) s in
       let kept = filter (startsWith key) rs in

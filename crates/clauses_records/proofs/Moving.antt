@@ -72,7 +72,9 @@ module _ (s : List ℕ) (p a p' q : ℕ) where
         ∙ sym (rw (ne-eqb q p d, moveClause))
 
 -- the symbol of the record at a place
-pub symbol-few : {g : List ℕ → List (List ℕ)} {w n : ℕ} {s : List ℕ} {all : List (List ℕ)} {start : State} {at : ℕ} {now : State} → Along g w s all start at now → 1 < w → w ≤ length s - at → Lent w n s → getD s (at + 1) 0 < symbolMost
+pub symbol-few :
+    {g : List ℕ → List (List ℕ)} {w n : ℕ} {s : List ℕ} {all : List (List ℕ)} {start : State} {at : ℕ} {now : State} → Along g w s all start at now → 1 < w
+    → w ≤ length s - at → Lent w n s → getD s (at + 1) 0 < symbolMost
 symbol-few {w = w} {s = s} {at = at} i p h o = let k = o .symbols (take w (drop at s)) (along-here i (omega arith) h) in omega (arith, record-byte w s at 1 p)
 
 -- the clauses of the record at a place

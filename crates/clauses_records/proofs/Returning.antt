@@ -54,7 +54,9 @@ module _ (s : List ℕ) (x : Return) (q u : ℕ) where
       ascending = subst (λ (rs : List (List ℕ)). Ascending 0 (map (λ r. getD r 3 0) rs)) (sym f) (rising (q ∷ x .symbol ∷ u ∷ []) (records 4 s) (records-wide 4 s) (o .in-order));
     }
 
-    pub return-other : (t : State) {next : State} {b : Bool} → b ≡ (eqb q (x .from) && eqb u (x .under)) → b ≡ false → next ≡ emit (matchingFrom (literalsOf d) (x .to) (lastBytes 4 found)) t → next ≡ emit (returnOf (records 4 s) x q u) t
+    pub return-other :
+        (t : State) {next : State} {b : Bool} → b ≡ (eqb q (x .from) && eqb u (x .under)) → b ≡ false
+        → next ≡ emit (matchingFrom (literalsOf d) (x .to) (lastBytes 4 found)) t → next ≡ emit (returnOf (records 4 s) x q u) t
     unfolding returnClause targets startsWith
     return-other t e g n =
         let literals : literalsOf d ≡ withAll (withAll [] (premise (x .from) q)) (premise (x .under) u) = k .same ∙ ap (λ ls. withAll ls (premise (x .under) u)) (h .same ∙ ap (λ ls. withAll ls (premise (x .from) q)) (z .same)) in
@@ -123,7 +125,9 @@ filter-within f g (r ∷ rs) h = go (f r) (g r) refl refl (filter-within f g rs 
     go false false a b ih = rw (b, filter, a, filter) ih
 
 -- the clause by a part that has all the records that it is about is the one by all records
-of-part : (s part : List ℕ) (x : Return) (q u : ℕ) (g : List ℕ → Bool) → ((r : List ℕ) → startsWith (q ∷ x .symbol ∷ u ∷ []) r ≡ true → g r ≡ true) → records 4 part ≡ filter g (records 4 s) → returnOf (records 4 part) x q u ≡ returnOf (records 4 s) x q u
+of-part :
+    (s part : List ℕ) (x : Return) (q u : ℕ) (g : List ℕ → Bool) → ((r : List ℕ) → startsWith (q ∷ x .symbol ∷ u ∷ []) r ≡ true → g r ≡ true)
+    → records 4 part ≡ filter g (records 4 s) → returnOf (records 4 part) x q u ≡ returnOf (records 4 s) x q u
 unfolding returnClause targets startsWith
 of-part s part x q u g h e =
     let own = startsWith (q ∷ x .symbol ∷ u ∷ []) in
@@ -131,7 +135,9 @@ of-part s part x q u g h e =
     λ i. elim (eqb q (x .from) && eqb u (x .under)) as (λ _. List (List ℕ)) [ true ↦ [] | false ↦ matching (premise (x .from) q ++ premise (x .under) u) (x .to) (map (λ r. getD r 3 0) (f i)) ]
 
 -- by the returns over the top
-pub of-top : (s part : List ℕ) (x : Return) (q u : ℕ) → records 4 part ≡ filter (startsWith (q ∷ x .symbol ∷ u ∷ [])) (records 4 s) → (t : State) {next : State} → next ≡ emit (returnOf (records 4 part) x q u) t → next ≡ emit (returnOf (records 4 s) x q u) t
+pub of-top :
+    (s part : List ℕ) (x : Return) (q u : ℕ) → records 4 part ≡ filter (startsWith (q ∷ x .symbol ∷ u ∷ [])) (records 4 s) → (t : State) {next : State}
+    → next ≡ emit (returnOf (records 4 part) x q u) t → next ≡ emit (returnOf (records 4 s) x q u) t
 of-top s part x q u e t f = f ∙ ap (λ cs. emit cs t) (of-part s part x q u (startsWith (q ∷ x .symbol ∷ u ∷ [])) (λ r h. h) e)
 
 -- the tops of a state are those of its word, which the code reads at i

@@ -56,7 +56,9 @@ unfolding once
 once-fresh before [] l b m = not-nil m
 once-fresh before (x ∷ ls) l b m = go (mem x before) refl m (once-fresh before ls l b) (once-fresh (x ∷ before) ls l (List·Memᴰ·tail b))
   where
-    go : (t : Bool) → mem x before ≡ t → List·Memᴰ l (elim t [ true ↦ once before ls | false ↦ x ∷ once (x ∷ before) ls ]) → (List·Memᴰ l (once before ls) → ⊥) → (List·Memᴰ l (once (x ∷ before) ls) → ⊥) → ⊥
+    go :
+        (t : Bool) → mem x before ≡ t → List·Memᴰ l (elim t [ true ↦ once before ls | false ↦ x ∷ once (x ∷ before) ls ]) → (List·Memᴰ l (once before ls) → ⊥)
+        → (List·Memᴰ l (once (x ∷ before) ls) → ⊥) → ⊥
     go true e k f g = f k
     go false e (List·Memᴰ·head h) f g = mem-false x before e l b (sym h)
     go false e (List·Memᴰ·tail k) f g = g k
@@ -120,7 +122,9 @@ distinct-head : (x : ℕ) (xs : List ℕ) → distinct (x ∷ xs) ≡ true → (
 unfolding distinct
 distinct-head x xs d = let e = and-true (not (mem x xs)) (distinct xs) d in (λ m. true≢false (sym (mem-of x xs m) ∙ not-true (mem x xs) (e .0)), e .1)
 
-pub one-positive : (c : List ℕ) → distinct (map (λ l. l / 2) c) ≡ true → ((l k : ℕ) → List·Memᴰ l c → List·Memᴰ k c → isPositive l ≡ true → isPositive k ≡ true → l ≡ k) → length (filter isPositive c) ≤ 1
+pub one-positive :
+    (c : List ℕ) → distinct (map (λ l. l / 2) c) ≡ true → ((l k : ℕ) → List·Memᴰ l c → List·Memᴰ k c → isPositive l ≡ true → isPositive k ≡ true → l ≡ k)
+    → length (filter isPositive c) ≤ 1
 unfolding filter
 one-positive [] d h = zero-le
 one-positive (l ∷ c) d h = go (isPositive l) refl (one-positive c (distinct-head (l / 2) (map (λ k. k / 2) c) d .1) (λ a b i j. h a b (List·Memᴰ·tail i) (List·Memᴰ·tail j)))
@@ -215,7 +219,10 @@ module _ (t : Table) where
           (λ q j. (below q (targets-mem rs key wide q j), mem-false p' (targets rs key) e q j))
           (λ d q s i j. one d q s (targets-mem rs key wide q i) (targets-mem rs key wide s j)) k
 
-  move-kinds : (kind : ℕ) (rs : List (List ℕ)) → Fit t kind 3 rs → (OneTarget t → (key : List ℕ) (q s : ℕ) → List·Memᴰ (key ++ (q ∷ [])) rs → List·Memᴰ (key ++ (s ∷ [])) rs → q ≡ s) → (c : List ℕ) → List·Memᴰ c (moveClauses rs (count t)) → Kind c
+  move-kinds :
+      (kind : ℕ) (rs : List (List ℕ)) → Fit t kind 3 rs
+      → (OneTarget t → (key : List ℕ) (q s : ℕ) → List·Memᴰ (key ++ (q ∷ [])) rs → List·Memᴰ (key ++ (s ∷ [])) rs → q ≡ s) → (c : List ℕ)
+      → List·Memᴰ c (moveClauses rs (count t)) → Kind c
   unfolding moveClauses moveClause
   move-kinds kind rs fit one c m =
       let a = concatMap-mem _ rs c m in
@@ -249,7 +256,9 @@ module _ (t : Table) where
       negative p q s u l (inl j) = premise-negative p q l j
       negative p q s u l (inr j) = premise-negative s u l j
 
-      go : (p a s p' q u : ℕ) → p < count t → s < count t → p' < count t → q < count t → u < count t → (x : Bool) → List·Memᴰ c (elim x [ true ↦ [] | false ↦ matching (premise p q ++ premise s u) p' (targets (t .returns) (q ∷ a ∷ u ∷ [])) ]) → Kind c
+      go :
+          (p a s p' q u : ℕ) → p < count t → s < count t → p' < count t → q < count t → u < count t → (x : Bool)
+          → List·Memᴰ c (elim x [ true ↦ [] | false ↦ matching (premise p q ++ premise s u) p' (targets (t .returns) (q ∷ a ∷ u ∷ [])) ]) → Kind c
       go p a s p' q u lp ls lt lq lu true k = absurd (not-nil k)
       go p a s p' q u lp ls lt lq lu false k =
           matching-kinds (t .returns) (q ∷ a ∷ u ∷ []) (premise p q ++ premise s u) p' (fit .wide) (λ x j. fit .states _ j 3 (omega arith) (omega arith)) (λ d. d .returns (q ∷ a ∷ u ∷ []))

@@ -152,7 +152,9 @@ module _ (t : Table) (v : List ℕ) (full : Assignment (pairs (count t)) v) wher
   swap g = record { third = λ a b. g .third b a }
 
   -- three different states in any order
-  any-three : ((p q s : ℕ) → p < q → q < s → s < count t → Closed3 p q s) → (p q s : ℕ) → p < count t → q < count t → s < count t → p ≢ q → q ≢ s → p ≢ s → Gives (variableOf p q) (variableOf q s) (variableOf p s)
+  any-three :
+      ((p q s : ℕ) → p < q → q < s → s < count t → Closed3 p q s) → (p q s : ℕ) → p < count t → q < count t → s < count t → p ≢ q → q ≢ s → p ≢ s
+      → Gives (variableOf p q) (variableOf q s) (variableOf p s)
   any-three h p q s a b c x y z = go (ltb p q) (ltb q s) (ltb p s) refl refl refl
     where
       go : (i j k : Bool) → ltb p q ≡ i → ltb q s ≡ j → ltb p s ≡ k → Gives (variableOf p q) (variableOf q s) (variableOf p s)
@@ -299,12 +301,16 @@ module _ (t : Table) (v : List ℕ) (full : Assignment (pairs (count t)) v) wher
         let j = filter-mem (has (topWords t) q) (upto (count t)) u mu in
         one (getD r 0 0) (getD r 1 0) (getD r 2 0) (getD r 3 0) q u (k .1) (j .1) (subst (λ (x : List ℕ). List·Memᴰ x (t .returns)) (four-bytes r (fit .wide r (k .0))) (k .0)) (upto-mem (count t) q mq) (upto-mem (count t) u (j .0))))))
       where
-        one : (p a s p' q u : ℕ) → has (topWords t) p s ≡ true → has (topWords t) q u ≡ true → List·Memᴰ (p ∷ a ∷ s ∷ p' ∷ []) (t .returns) → q < count t → u < count t → Satisfied v (matching (premise p q ++ premise s u) p' (targets (t .returns) (q ∷ a ∷ u ∷ [])))
+        one :
+            (p a s p' q u : ℕ) → has (topWords t) p s ≡ true → has (topWords t) q u ≡ true → List·Memᴰ (p ∷ a ∷ s ∷ p' ∷ []) (t .returns) → q < count t
+            → u < count t → Satisfied v (matching (premise p q ++ premise s u) p' (targets (t .returns) (q ∷ a ∷ u ∷ [])))
         one p a s p' q u hp hq m lq lu =
             reaches-satisfied (t .returns) (q ∷ a ∷ u ∷ []) p' (fit .wide) (λ x k. end-below k) (end-below m) (premise p q ++ premise s u)
             (pick (related-dec (count t) v full (fit .states _ m 0 (omega arith) (omega arith)) lq) (related-dec (count t) v full (fit .states _ m 2 (omega arith) (omega arith)) lu))
           where
-            pick : Related (count t) v p q ⊎ ((p ≢ q) × (valueOf v (variableOf p q) ≡ 0)) → Related (count t) v s u ⊎ ((s ≢ u) × (valueOf v (variableOf s u) ≡ 0)) → HasRight v (premise p q ++ premise s u) ⊎ Reaches (t .returns) (q ∷ a ∷ u ∷ []) p'
+            pick :
+                Related (count t) v p q ⊎ ((p ≢ q) × (valueOf v (variableOf p q) ≡ 0)) → Related (count t) v s u ⊎ ((s ≢ u) × (valueOf v (variableOf s u) ≡ 0))
+                → HasRight v (premise p q ++ premise s u) ⊎ Reaches (t .returns) (q ∷ a ∷ u ∷ []) p'
             pick (inr z) k = let r = premise-apart (count t) v (z .0) (z .1) in inl (r .0, Memᴰ·append-left (premise s u) (r .1), r .2)
             pick (inl k) (inr z) = let r = premise-apart (count t) v (z .0) (z .1) in inl (r .0, Memᴰ·append-right (premise p q) (r .1), r .2)
             pick (inl k) (inl j) = inr (h p q s u p' a k j hp hq m)

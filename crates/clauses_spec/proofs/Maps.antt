@@ -78,7 +78,9 @@ module _ (n : ℕ) (v : List ℕ) (trans : (p q s : ℕ) → Related n v p q →
         last : (p : ℕ) → p ≡ k → classOf (m ++ (c ∷ [])) p ≡ c
         last p e = ap (classOf (m ++ (c ∷ []))) (e ∙ sym (h .long)) ∙ getD-append-seam m c [] 0
 
-        move : (p q : ℕ) {x y : ℕ} → classOf (m ++ (c ∷ [])) p ≡ x → classOf (m ++ (c ∷ [])) q ≡ y → (x ≡ y) ↔ Related n v p q → (classOf (m ++ (c ∷ [])) p ≡ classOf (m ++ (c ∷ [])) q) ↔ Related n v p q
+        move :
+            (p q : ℕ) {x y : ℕ} → classOf (m ++ (c ∷ [])) p ≡ x → classOf (m ++ (c ∷ [])) q ≡ y → (x ≡ y) ↔ Related n v p q
+            → (classOf (m ++ (c ∷ [])) p ≡ classOf (m ++ (c ∷ [])) q) ↔ Related n v p q
         move p q e f k = (λ z. k .0 (sym e ∙ z ∙ f), λ r. e ∙ k .1 r ∙ sym f)
 
         turn : (p q : ℕ) {x y : ℕ} → (x ≡ y) ↔ Related n v p q → (y ≡ x) ↔ Related n v q p

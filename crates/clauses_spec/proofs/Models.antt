@@ -48,7 +48,9 @@ module _ (L : Limits) (t : Table) (wf : WellFormed L t) (v : List ℕ) (full : A
         returns = λ {p} {q} {s} {u} {p'} {a} r z tp tq k. returns-of t v full (returns-fit wf) (satisfied-right v four _ h) p q s u p' a r z (told wf p s (z .left) .1 tp) (told wf q u (z .right) .1 tq) k;
       }
 
-  pub matched-satisfied : ((p q : ℕ) → Related (count t) v p q → automaton t .accepting p ↔ automaton t .accepting q) → Transitive t v full → Matched (automaton t) (Related (count t) v) → Satisfied v (clauseList t)
+  pub matched-satisfied :
+      ((p q : ℕ) → Related (count t) v p q → automaton t .accepting p ↔ automaton t .accepting q) → Transitive t v full
+      → Matched (automaton t) (Related (count t) v) → Satisfied v (clauseList t)
   unfolding clauseList
   matched-satisfied agree trans h =
       satisfied-both v four _

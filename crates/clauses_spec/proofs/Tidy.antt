@@ -38,7 +38,9 @@ unfolding once
 once-mem before [] l m = m
 once-mem before (x ∷ ls) l m = go (mem x before) m (once-mem before ls l) (once-mem (x ∷ before) ls l)
   where
-    go : (t : Bool) → List·Memᴰ l (elim t [ true ↦ once before ls | false ↦ x ∷ once (x ∷ before) ls ]) → (List·Memᴰ l (once before ls) → List·Memᴰ l ls) → (List·Memᴰ l (once (x ∷ before) ls) → List·Memᴰ l ls) → List·Memᴰ l (x ∷ ls)
+    go :
+        (t : Bool) → List·Memᴰ l (elim t [ true ↦ once before ls | false ↦ x ∷ once (x ∷ before) ls ]) → (List·Memᴰ l (once before ls) → List·Memᴰ l ls)
+        → (List·Memᴰ l (once (x ∷ before) ls) → List·Memᴰ l ls) → List·Memᴰ l (x ∷ ls)
     go true k f g = List·Memᴰ·tail (f k)
     go false (List·Memᴰ·head e) f g = List·Memᴰ·head e
     go false (List·Memᴰ·tail k) f g = List·Memᴰ·tail (g k)
@@ -56,7 +58,9 @@ mem-once before (x ∷ ls) l m = go (mem x before) refl (cases-cons m) (mem-once
     later (inl k) = shown (cases-cons k)
     later (inr k) = inr (List·Memᴰ·tail k)
 
-    go : (t : Bool) → mem x before ≡ t → (l ≡ x) ⊎ List·Memᴰ l ls → (List·Memᴰ l ls → List·Memᴰ l before ⊎ List·Memᴰ l (once before ls)) → (List·Memᴰ l ls → List·Memᴰ l (x ∷ before) ⊎ List·Memᴰ l (once (x ∷ before) ls))
+    go :
+        (t : Bool) → mem x before ≡ t → (l ≡ x) ⊎ List·Memᴰ l ls → (List·Memᴰ l ls → List·Memᴰ l before ⊎ List·Memᴰ l (once before ls))
+        → (List·Memᴰ l ls → List·Memᴰ l (x ∷ before) ⊎ List·Memᴰ l (once (x ∷ before) ls))
         → List·Memᴰ l before ⊎ List·Memᴰ l (elim t [ true ↦ once before ls | false ↦ x ∷ once (x ∷ before) ls ])
     go true p (inl e) f g = inl (subst (λ (y : ℕ). List·Memᴰ y before) (sym e) (mem-true x before p))
     go true p (inr k) f g = f k

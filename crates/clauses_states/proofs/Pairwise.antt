@@ -55,14 +55,18 @@ module _ (s : List ℕ) {v low high : ℕ} (w : Placed (length s) v low high) wh
   unfolding emit
   look-same t e = sym (ap (λ cs. emit cs t) (looks true (eq-eqb _ _ e)))
 
-  pub look-other : (t : State) {next : State} {c : Literals} → (getD s low 0 / 2 ≡ getD s high 0 / 2 → ⊥) → Holds c ((2 * v + 1) ∷ []) → next ≡ emit (literalsOf c ∷ []) t → next ≡ emit (lookClause (ofStates s) (pairOf v .low) (pairOf v .high)) t
+  pub look-other :
+      (t : State) {next : State} {c : Literals} → (getD s low 0 / 2 ≡ getD s high 0 / 2 → ⊥) → Holds c ((2 * v + 1) ∷ []) → next ≡ emit (literalsOf c ∷ []) t
+      → next ≡ emit (lookClause (ofStates s) (pairOf v .low) (pairOf v .high)) t
   look-other t d h e = e ∙ ap (λ ls. emit (ls ∷ []) t) (h .same) ∙ sym (ap (λ cs. emit cs t) (looks false (ne-eqb _ _ d)))
 
 look-clauses : (s : List ℕ) → lookClauses (ofStates s) ≡ concatMap (λ v. lookClause (ofStates s) (pairOf v .low) (pairOf v .high)) (upto (pairs (length s)))
 unfolding lookClauses lookClause
 look-clauses s = sym (concatMap-pairs (lookClause (ofStates s)) (length s))
 
-pub looked : (s : List ℕ) {end : ℕ} (start : State) {now : State} → end ≡ pairs (length s) → now ≡ emit (concatMap (λ v. lookClause (ofStates s) (pairOf v .low) (pairOf v .high)) (upto end)) start → now ≡ emit (lookClauses (ofStates s)) start
+pub looked :
+    (s : List ℕ) {end : ℕ} (start : State) {now : State} → end ≡ pairs (length s)
+    → now ≡ emit (concatMap (λ v. lookClause (ofStates s) (pairOf v .low) (pairOf v .high)) (upto end)) start → now ≡ emit (lookClauses (ofStates s)) start
 looked s start e f = f ∙ ap (λ k. emit (concatMap (λ v. lookClause (ofStates s) (pairOf v .low) (pairOf v .high)) (upto k)) start) e ∙ ap (λ cs. emit cs start) (sym (look-clauses s))
 
 -- ---- group 2

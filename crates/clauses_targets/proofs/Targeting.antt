@@ -112,7 +112,9 @@ module _ {w : ℕ} {found : List ℕ} {count : ℕ} (h : Counted w found count) 
 -- ---- premises and targets
 
 -- words stored after others, in the part of the buffer after them
-over-behind : (xs ys rest : List ℕ) (m : ℕ) {first out : List ℕ} → length xs ≡ m → first ≡ over xs rest → out ≡ over ys (take (length first - m) (drop m first)) → take m first ++ (out ++ drop (length first - m) (drop m first)) ≡ over (xs ++ ys) rest
+over-behind :
+    (xs ys rest : List ℕ) (m : ℕ) {first out : List ℕ} → length xs ≡ m → first ≡ over xs rest → out ≡ over ys (take (length first - m) (drop m first))
+    → take m first ++ (out ++ drop (length first - m) (drop m first)) ≡ over (xs ++ ys) rest
 unfolding over
 over-behind xs ys rest m {first} {out} k e f =
     let tail = drop (length xs) rest in
@@ -130,7 +132,9 @@ module _ (premises : Literals) (whole : length (premises .words) ≡ 3) (two : p
   premises-count : length (literalsOf premises) ≡ premises .n
   premises-count = length-take-le (premises .n) (premises .words) (omega arith)
 
-  pub clause-stored : (k : ℕ) (ts rest : List ℕ) {first out : List ℕ} → first ≡ over (k ∷ literalsOf premises) rest → out ≡ over ts (take (length first - (premises .n + 1)) (drop (premises .n + 1) first))
+  pub clause-stored :
+      (k : ℕ) (ts rest : List ℕ) {first out : List ℕ} → first ≡ over (k ∷ literalsOf premises) rest
+      → out ≡ over ts (take (length first - (premises .n + 1)) (drop (premises .n + 1) first))
       → take (premises .n + 1) first ++ (out ++ drop (length first - (premises .n + 1)) (drop (premises .n + 1) first)) ≡ over (k ∷ (literalsOf premises ++ ts)) rest
   clause-stored k ts rest = over-behind (k ∷ literalsOf premises) ts rest (premises .n + 1) (omega (arith, premises-count))
 
@@ -149,5 +153,7 @@ module _ (premises : Literals) (whole : length (premises .words) ≡ 3) (two : p
     pub clause-long : {count : ℕ} → Counted w found count → premises .n + count ≡ length clause
     clause-long h = omega (arith, length-append (literalsOf premises) (targetLiterals w p' found), premises-count, literal-counts h p')
 
-    pub clause-put : (t : State) {next : State} {b : Bool} → b ≡ any (leaves (literalsOf premises) p') (lastBytes w found) → b ≡ false → next ≡ emit (clause ∷ []) t → next ≡ emit (matchingFrom (literalsOf premises) p' (lastBytes w found)) t
+    pub clause-put :
+        (t : State) {next : State} {b : Bool} → b ≡ any (leaves (literalsOf premises) p') (lastBytes w found) → b ≡ false → next ≡ emit (clause ∷ []) t
+        → next ≡ emit (matchingFrom (literalsOf premises) p' (lastBytes w found)) t
     clause-put t d e f = f ∙ ap (λ cs. emit cs t) (sym (matching-kept (literalsOf premises) p' (lastBytes w found) (sym d ∙ e) (p .negative) (p .ascending)))

@@ -118,7 +118,9 @@ module _ (cs ds : List (List ℕ)) (to : (u : List ℕ) → AtRest cs u → AtRe
 pub members-rest : (cs ds : List (List ℕ)) → ((c : List ℕ) → List·Memᴰ c ds → List·Memᴰ c cs) → (u : List ℕ) → AtRest cs u → AtRest ds u
 members-rest cs ds from u q = λ c m. q c (from c m)
 
-pub members-same : (cs ds : List (List ℕ)) → ((c : List ℕ) → List·Memᴰ c cs → List·Memᴰ c ds) → ((c : List ℕ) → List·Memᴰ c ds → List·Memᴰ c cs) → (n b : ℕ) → Formed cs n → Formed ds n → searchFrom cs n b ≡ searchFrom ds n b
+pub members-same :
+    (cs ds : List (List ℕ)) → ((c : List ℕ) → List·Memᴰ c cs → List·Memᴰ c ds) → ((c : List ℕ) → List·Memᴰ c ds → List·Memᴰ c cs) → (n b : ℕ) → Formed cs n
+    → Formed ds n → searchFrom cs n b ≡ searchFrom ds n b
 members-same cs ds to from = alike-same cs ds (members-rest cs ds from) (members-rest ds cs to)
 
 -- where every rest extends the values, closing them closes the values of which none is set

@@ -73,7 +73,9 @@ waiting-rest {cs} {w} s = λ c m. go c (s c m)
     go c (inr p) = absurd (not-nil (p .queued))
 
 -- the clauses with the first variable are seen to
-pub waiting-next : {cs : List (List ℕ)} {w : List ℕ} (x : ℕ) (qs : List ℕ) → Waiting cs w (x ∷ qs) → ((c : List ℕ) → List·Memᴰ c cs → (m : ℕ) → List·Memᴰ m c → m / 2 ≡ x → SettledOr w qs c) → Waiting cs w qs
+pub waiting-next :
+    {cs : List (List ℕ)} {w : List ℕ} (x : ℕ) (qs : List ℕ) → Waiting cs w (x ∷ qs)
+    → ((c : List ℕ) → List·Memᴰ c cs → (m : ℕ) → List·Memᴰ m c → m / 2 ≡ x → SettledOr w qs c) → Waiting cs w qs
 waiting-next {cs} {w} x qs s h = λ c m. go c m (s c m)
   where
     go : (c : List ℕ) → List·Memᴰ c cs → SettledOr w (x ∷ qs) c → SettledOr w qs c

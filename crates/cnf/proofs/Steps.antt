@@ -28,7 +28,9 @@ pub data StepsTo (cs : List (List ℕ)) (b : ℕ) : State → Next → Type 0 wh
   forces : {v : List ℕ} {gs : List Guess} {k : ℕ} (l : ℕ) → Found v cs (forcing l) → StepsTo cs b (stateOf v gs k) (goes (stateOf (set v (l / 2) (1 - l % 2)) gs k))
   solves : {v : List ℕ} {gs : List Guess} {k : ℕ} → Found v cs quiet → ((j : ℕ) → j < length v → valueOf v j ≢ 2) → StepsTo cs b (stateOf v gs k) (ends (solved v k))
   spends : {v : List ℕ} {gs : List Guess} {k : ℕ} (x : ℕ) → Found v cs quiet → x < length v → valueOf v x ≡ 2 → k ≡ b → StepsTo cs b (stateOf v gs k) (ends (spent k))
-  adds-guess : {v : List ℕ} {gs : List Guess} {k : ℕ} (x : ℕ) → Found v cs quiet → x < length v → valueOf v x ≡ 2 → k ≢ b → StepsTo cs b (stateOf v gs k) (goes (stateOf (set v x 1) (guessOf v x ∷ gs) (k + 1)))
+  adds-guess :
+      {v : List ℕ} {gs : List Guess} {k : ℕ} (x : ℕ) → Found v cs quiet → x < length v → valueOf v x ≡ 2 → k ≢ b
+      → StepsTo cs b (stateOf v gs k) (goes (stateOf (set v x 1) (guessOf v x ∷ gs) (k + 1)))
 
 module _ (cs : List (List ℕ)) (b : ℕ) where
   decide-steps : (v : List ℕ) (gs : List Guess) (k : ℕ) → Found v cs quiet → (o : Option ℕ) → LowestUnset v 0 o → StepsTo cs b (stateOf v gs k) (decide b (stateOf v gs k) o)

@@ -43,7 +43,9 @@ pub maximal-at : {cs : List (List ℕ)} {n : ℕ} {v : List ℕ} → Maximal cs 
 maximal-at h a m up x p q = p (ap (λ (u : List ℕ). valueOf u x) (sym (h .only a m up)) ∙ q)
 
 -- "The choice among several clauses changes neither answer nor count": the clauses in another order, or several times
-pub order-free : (cs ds : List (List ℕ)) → ((c : List ℕ) → List·Memᴰ c cs → List·Memᴰ c ds) → ((c : List ℕ) → List·Memᴰ c ds → List·Memᴰ c cs) → (n b : ℕ) → Formed cs n → Formed ds n → searchFrom cs n b ≡ searchFrom ds n b
+pub order-free :
+    (cs ds : List (List ℕ)) → ((c : List ℕ) → List·Memᴰ c cs → List·Memᴰ c ds) → ((c : List ℕ) → List·Memᴰ c ds → List·Memᴰ c cs) → (n b : ℕ) → Formed cs n
+    → Formed ds n → searchFrom cs n b ≡ searchFrom ds n b
 order-free = members-same
 
 -- and forced literals set in any order: two ways that come to rest come to the same values, and where one way breaks a clause none comes to rest

@@ -223,7 +223,9 @@ module _ (cs : List (List ℕ)) (n : ℕ) where
       up : valueOf (g .values) i ≡ 1 → valueOf v i ≡ 1
       up q = c .1 .keeps i (omega arith) ∙ q
 
-      go : (t : Bool) → valueOf (elim t as (λ _. List ℕ) [ true ↦ onlyTrue (g .values) | false ↦ latest cs n gs ]) i ≡ 1 → (valueOf (latest cs n gs) i ≡ 1 → valueOf (g .values) i ≡ 1) → valueOf v i ≡ 1
+      go :
+          (t : Bool) → valueOf (elim t as (λ _. List ℕ) [ true ↦ onlyTrue (g .values) | false ↦ latest cs n gs ]) i ≡ 1
+          → (valueOf (latest cs n gs) i ≡ 1 → valueOf (g .values) i ≡ 1) → valueOf v i ≡ 1
       go true q ih = up (one-only (g .values) i (omega (arith, length-only (g .values), one-inside (onlyTrue (g .values)) i (omega arith))) q)
       go false q ih = up (ih q)
 
@@ -254,7 +256,9 @@ module _ {cs : List (List ℕ)} {n : ℕ} where
         c : Chain n (g ∷ rest) v
         c = rw p at (h .chain)
 
-        other : (t : Bool) → satisfied cs (onlyTrue (g .values)) ≡ t → held ≡ elim t as (λ _. List ℕ) [ true ↦ onlyTrue (g .values) | false ↦ latest cs n rest ] → (held ≡ latest cs n rest) ⊎ Still cs n (set (g .values) (g .variable) 0) held
+        other :
+            (t : Bool) → satisfied cs (onlyTrue (g .values)) ≡ t → held ≡ elim t as (λ _. List ℕ) [ true ↦ onlyTrue (g .values) | false ↦ latest cs n rest ]
+            → (held ≡ latest cs n rest) ⊎ Still cs n (set (g .values) (g .variable) 0) held
         other false q e = inl e
         other true q e = inr (rw e (record {
           extends = set-below (g .values) (onlyTrue (g .values)) (g .variable) 0 (only-extends (c .0)) (only-zero (g .values) (g .variable) (omega (arith, c .0 .long, c .2)) (omega (arith, c .3)));
@@ -405,7 +409,9 @@ module _ (cs ds : List (List ℕ)) (to : (u : List ℕ) → AtRest cs u → AtRe
   tried-alike b = turns-tried ds n b g (searchTried cs n b) (tries-alike b (atStart n) (untried n) (searchTried cs n b) (tries-search cs n b f))
 
 -- not on the order or number of the clauses
-pub tried-members : (cs ds : List (List ℕ)) → ((c : List ℕ) → List·Memᴰ c cs → List·Memᴰ c ds) → ((c : List ℕ) → List·Memᴰ c ds → List·Memᴰ c cs) → (n b : ℕ) → Formed cs n → Formed ds n → searchTried cs n b ≡ searchTried ds n b
+pub tried-members :
+    (cs ds : List (List ℕ)) → ((c : List ℕ) → List·Memᴰ c cs → List·Memᴰ c ds) → ((c : List ℕ) → List·Memᴰ c ds → List·Memᴰ c cs) → (n b : ℕ) → Formed cs n
+    → Formed ds n → searchTried cs n b ≡ searchTried ds n b
 tried-members cs ds to from n b f g = tried-alike cs ds (members-rest cs ds from) (members-rest ds cs to) n f g b
 
 -- ---- a budget that is spent
@@ -473,7 +479,9 @@ module _ (cs : List (List ℕ)) (n b : ℕ) (formed : Formed cs n) where
           is-unset : valueOf w x ≡ 2
           is-unset = let e : x ≡ l .0 = omega arith in ap (valueOf w) e ∙ l .3
 
-          go : (y : Bool) → After (λ s. Holds cs n (s .values) (s .guesses) (rested cs w t .held)) (λ o. HeldSolved (endOf o (rested cs w t))) (elim y [ true ↦ ends (spent k) | false ↦ goes (stateOf (set w x 1) (guessOf w x ∷ gs) (k + 1)) ])
+          go :
+              (y : Bool)
+              → After (λ s. Holds cs n (s .values) (s .guesses) (rested cs w t .held)) (λ o. HeldSolved (endOf o (rested cs w t))) (elim y [ true ↦ ends (spent k) | false ↦ goes (stateOf (set w x 1) (guessOf w x ∷ gs) (k + 1)) ])
           go true = λ v j e. clash-spent e
           go false = unfold rested in holds-guess (holds-closed h c) zw x below is-unset
 

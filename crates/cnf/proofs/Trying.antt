@@ -40,7 +40,9 @@ endOf o t = record { outcome = o; trials = t }
 -- turns lead from here, with these trials, to the end
 pub data TriesTo (cs : List (List ℕ)) (n b : ℕ) : Next → Trials → Tried → Type 0 where
   there : {o : Outcome} {t : Trials} → TriesTo cs n b (ends o) t (endOf o t)
-  turn : {v : List ℕ} {gs : List Guess} {k : ℕ} {t : Trials} {e : Tried} (c : Closed) → Values n v → Closes cs v c → TriesTo cs n b (turnTo b gs k c) (closedTrials cs c t) e → TriesTo cs n b (goes (stateOf v gs k)) t e
+  turn :
+      {v : List ℕ} {gs : List Guess} {k : ℕ} {t : Trials} {e : Tried} (c : Closed) → Values n v → Closes cs v c
+      → TriesTo cs n b (turnTo b gs k c) (closedTrials cs c t) e → TriesTo cs n b (goes (stateOf v gs k)) t e
 
 -- to one end only
 pub tries-one : (cs : List (List ℕ)) (n b : ℕ) (x : Next) (t : Trials) (d e : Tried) → TriesTo cs n b x t d → TriesTo cs n b x t e → d ≡ e

@@ -106,7 +106,9 @@ unset-set [] x k h o p = absurd (omega arith)
 unset-set (y ∷ ys) zero k h o p = rw (eq-eqb y 2 o, ne-eqb k 2 p, unsetCount)
 unset-set (y ∷ ys) (suc x) k h o p = go (eqb y 2) (unset-set ys x k (omega arith) o p)
   where
-    go : (t : Bool) → suc (unsetCount (set ys x k)) ≡ unsetCount ys → suc (elim t as (λ _. ℕ) [ true ↦ suc (unsetCount (set ys x k)) | false ↦ unsetCount (set ys x k) ]) ≡ elim t as (λ _. ℕ) [ true ↦ suc (unsetCount ys) | false ↦ unsetCount ys ]
+    go :
+        (t : Bool) → suc (unsetCount (set ys x k)) ≡ unsetCount ys
+        → suc (elim t as (λ _. ℕ) [ true ↦ suc (unsetCount (set ys x k)) | false ↦ unsetCount (set ys x k) ]) ≡ elim t as (λ _. ℕ) [ true ↦ suc (unsetCount ys) | false ↦ unsetCount ys ]
     go true e = ap suc e
     go false e = e
 

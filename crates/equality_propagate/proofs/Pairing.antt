@@ -33,5 +33,7 @@ module _ {n x : ℕ} {v t : List ℕ} {start : ℕ} (i : Ready (triangles n) v t
         not-two : valueOf v (variableOf p q) ≢ 2
         not-two z = b .1 (ap (valueOf v) (sym (g .is-x)) ∙ z)
 
-  pub at-variable : {p q : ℕ} {w s : List ℕ} {more : ℕ} {isBroken : Bool} → PairAt n x p q → Attended (triangles n) (variableOf p q) v t start w s isBroken more → Attended (triangles n) x v t start w s isBroken more
+  pub at-variable :
+      {p q : ℕ} {w s : List ℕ} {more : ℕ} {isBroken : Bool} → PairAt n x p q → Attended (triangles n) (variableOf p q) v t start w s isBroken more
+      → Attended (triangles n) x v t start w s isBroken more
   at-variable {w = w} {s = s} {more = more} {isBroken = isBroken} g k = subst (λ (y : ℕ). Attended (triangles n) y v t start w s isBroken more) (g .is-x) k

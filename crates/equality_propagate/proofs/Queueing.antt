@@ -20,7 +20,9 @@ pub record SeenTo (cs : List (List ℕ)) (x : ℕ) (qs v t : List ℕ) (count : 
   pub worked : Worked cs v t count w s isBroken more
   pub settles : isBroken ≡ false → (c : List ℕ) → List·Memᴰ c cs → (l : ℕ) → List·Memᴰ l c → l / 2 ≡ x → SettledOr w (qs ++ worked .grown .new) c
 
-pub attended-seen : {cs : List (List ℕ)} {x : ℕ} (qs : List ℕ) {v t w s : List ℕ} {count more : ℕ} {isBroken : Bool} → Attended cs x v t count w s isBroken more → SeenTo cs x qs v t count w s isBroken more
+pub attended-seen :
+    {cs : List (List ℕ)} {x : ℕ} (qs : List ℕ) {v t w s : List ℕ} {count more : ℕ} {isBroken : Bool} → Attended cs x v t count w s isBroken more
+    → SeenTo cs x qs v t count w s isBroken more
 attended-seen qs k = record { worked = k .worked; settles = λ e c mc m mm p. settled-or-behind qs (k .settles e c mc m mm p) }
 
 -- before the variable at `at`

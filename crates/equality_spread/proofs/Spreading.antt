@@ -52,7 +52,9 @@ module _ {n : ℕ} {v t joined₀ apart₀ : List ℕ} {start q todo x : ℕ} (i
   spreading l = record { worked = worked-none i; rows = o; small = l; part = λ r b. b; done = λ r b. inl b }
 
 -- the word is empty
-pub spread-end : {n : ℕ} {v t w s joined apart : List ℕ} {start q todo x count rest : ℕ} → Spreading n v t start q todo x w s count joined apart rest → rest ≡ 0 → Spread n v t start q todo x w s false count × Rows n w joined apart
+pub spread-end :
+    {n : ℕ} {v t w s joined apart : List ℕ} {start q todo x count rest : ℕ} → Spreading n v t start q todo x w s count joined apart rest → rest ≡ 0
+    → Spread n v t start q todo x w s false count × Rows n w joined apart
 spread-end {w = w} {q = q} {x = x} {rest = rest} j e = (record { worked = j .worked; done = λ _ r k. go r (j .done r k) }, j .rows)
   where
     go : (r : ℕ) → Bit rest r ⊎ (valueOf w (variableOf q r) ≡ x) → valueOf w (variableOf q r) ≡ x
@@ -73,7 +75,9 @@ pub meet : {n : ℕ} {v t : List ℕ} {start q todo x : ℕ} {w s : List ℕ} {c
     → Spreading n v t start q todo x w s count joined apart rest → rest ≢ 0 → r ≡ trailingZeros 64 rest → rest′ ≡ rest - 2 ^ trailingZeros 64 rest → m ≡ variableOf q r → Met n v t start q todo x w s count joined apart rest r rest′ m
 meet a b c d e f g = record { ready = a; spreads = b; spreading-on = c; some = d; is-lowest = e; is-rest = f; is-place = g }
 
-pub low-state : {n : ℕ} {v t : List ℕ} {start q todo x : ℕ} {w s : List ℕ} {count : ℕ} {joined apart : List ℕ} {rest r : ℕ} → Spreads n v q todo x → Spreading n v t start q todo x w s count joined apart rest → rest ≢ 0 → r ≡ trailingZeros 64 rest → r < n
+pub low-state :
+    {n : ℕ} {v t : List ℕ} {start q todo x : ℕ} {w s : List ℕ} {count : ℕ} {joined apart : List ℕ} {rest r : ℕ} → Spreads n v q todo x
+    → Spreading n v t start q todo x w s count joined apart rest → rest ≢ 0 → r ≡ trailingZeros 64 rest → r < n
 low-state {rest = rest} {r = r} h j some e = h .each r (j .part r (subst (Bit rest) (sym e) (trailing-lowest 64 rest (j .small) some .1 .own))) .0
 
 module _ {n : ℕ} {v t : List ℕ} {start q todo x : ℕ} {w s : List ℕ} {count : ℕ} {joined apart : List ℕ} {rest r rest′ m : ℕ} (g : Met n v t start q todo x w s count joined apart rest r rest′ m) where

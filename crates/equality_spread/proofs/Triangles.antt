@@ -145,7 +145,9 @@ module _ (n : ℕ) (p q s : ℕ) (a : p < n) (b : q < n) (c : s < n) (d : p ≢ 
   conclude-forces (suc (suc k)) l (alike g h i) o = absurd (omega arith)
   conclude-forces k l (parted g h i) o = rw i (either-second v by-s h o g)
 
-  pub conclude-breaks : (k : ℕ) → k ≤ 1 → valueOf v (variableOf q s) ≤ 2 → Concludes v (variableOf p q) (variableOf p s) k → valueOf v (variableOf q s) ≢ 2 → valueOf v (variableOf q s) ≢ k → Found v (triangles n) broken
+  pub conclude-breaks :
+      (k : ℕ) → k ≤ 1 → valueOf v (variableOf q s) ≤ 2 → Concludes v (variableOf p q) (variableOf p s) k → valueOf v (variableOf q s) ≢ 2
+      → valueOf v (variableOf q s) ≢ k → Found v (triangles n) broken
   conclude-breaks zero l m (alike g h i) o n = either-broken v by-q g (omega arith) h
   conclude-breaks (suc zero) l m (alike g h i) o n = either-broken v by-p g h (omega arith)
   conclude-breaks (suc (suc k)) l m (alike g h i) o n = absurd (omega arith)
@@ -272,7 +274,9 @@ triangle-over p q s c (List·Memᴰ·head e) = rw e (arrow-over _ _ _)
 triangle-over p q s c (List·Memᴰ·tail (List·Memᴰ·head e)) = rw e (over-last (arrow-over _ _ _))
 triangle-over p q s c (List·Memᴰ·tail (List·Memᴰ·tail (List·Memᴰ·head e))) = rw e (over-last (over-turn (over-last (arrow-over _ _ _))))
 
-triangle-settled : (w : List ℕ) (p q s : ℕ) → ((i : ℕ) → valueOf w i ≤ 2) → Triple w (variableOf p q) (variableOf q s) (variableOf p s) → Triple w (variableOf p q) (variableOf p s) (variableOf q s) → Triple w (variableOf p s) (variableOf q s) (variableOf p q)
+triangle-settled :
+    (w : List ℕ) (p q s : ℕ) → ((i : ℕ) → valueOf w i ≤ 2) → Triple w (variableOf p q) (variableOf q s) (variableOf p s)
+    → Triple w (variableOf p q) (variableOf p s) (variableOf q s) → Triple w (variableOf p s) (variableOf q s) (variableOf p q)
     → (c : List ℕ) → List·Memᴰ c (triangle p q s) → Settled w c
 unfolding triangle
 triangle-settled w p q s small f g h c (List·Memᴰ·head e) = rw e (triple-settled w _ _ _ small f)

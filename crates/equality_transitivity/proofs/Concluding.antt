@@ -163,7 +163,9 @@ module _ {n : ℕ} {v t joined apart : List ℕ} {start : ℕ} (i : Ready (trian
       pub leaves-p : Spreads n w p from-p 0
       leaves-p = spreads-more (worked-extends i (k .worked)) (rw o (same-apart rows q p lq lp diff′ (turned e)))
 
-      pub joins-done : {u r : List ℕ} {last : ℕ} {isBroken′ : Bool} → isBroken ≡ false → SpreadBoth n w s more p q from-q from-p 0 u r isBroken′ last → Attended (triangles n) (variableOf p q) v t start u r isBroken′ last
+      pub joins-done :
+          {u r : List ℕ} {last : ℕ} {isBroken′ : Bool} → isBroken ≡ false → SpreadBoth n w s more p q from-q from-p 0 u r isBroken′ last
+          → Attended (triangles n) (variableOf p q) v t start u r isBroken′ last
       joins-done {u} b l =
           let all = worked-trans (k .worked) (l .worked) in
           let up = worked-extends i all in

@@ -27,7 +27,9 @@ take-before (suc w) [] (y ∷ ys) h = inr refl
 take-before (suc w) (x ∷ xs) [] h = absurd (true≢false (sym h))
 take-before (suc w) (x ∷ xs) (y ∷ ys) h = go (first-cases x y xs ys h) (take-before w xs ys)
   where
-    go : (x < y) ⊎ ((x ≡ y) × (before xs ys ≡ true)) → (before xs ys ≡ true → (take w xs ≡ take w ys) ⊎ (before (take w xs) (take w ys) ≡ true)) → (x ∷ take w xs ≡ y ∷ take w ys) ⊎ (before (x ∷ take w xs) (y ∷ take w ys) ≡ true)
+    go :
+        (x < y) ⊎ ((x ≡ y) × (before xs ys ≡ true)) → (before xs ys ≡ true → (take w xs ≡ take w ys) ⊎ (before (take w xs) (take w ys) ≡ true))
+        → (x ∷ take w xs ≡ y ∷ take w ys) ⊎ (before (x ∷ take w xs) (y ∷ take w ys) ≡ true)
     go (inl l) r = inr (by-first x y (take w xs) (take w ys) l)
     go (inr (e, k)) r = ⊎-elim (λ f. inl (λ i. e i ∷ f i)) (λ f. inr (by-others x y (take w xs) (take w ys) e f)) (r k)
 
@@ -65,7 +67,9 @@ module _ (w : ℕ) where
       let q = and-true _ _ a in
       go (take-before w r x (q .0)) (not-true _ (p .0)) m (keys-rise x xs (q .1) (p .1) s)
     where
-      go : (take w r ≡ take w x) ⊎ (before (take w r) (take w x) ≡ true) → (same (take w r) (take w x) ≡ true → ⊥) → List·Memᴰ s (x ∷ xs) → (List·Memᴰ s xs → before (take w x) (take w s) ≡ true) → before (take w r) (take w s) ≡ true
+      go :
+          (take w r ≡ take w x) ⊎ (before (take w r) (take w x) ≡ true) → (same (take w r) (take w x) ≡ true → ⊥) → List·Memᴰ s (x ∷ xs)
+          → (List·Memᴰ s xs → before (take w x) (take w s) ≡ true) → before (take w r) (take w s) ≡ true
       go (inl e) n m f = absurd (n (same-of e))
       go (inr l) n (List·Memᴰ·head e) f = subst (λ (y : List ℕ). before (take w r) (take w y) ≡ true) (sym e) l
       go (inr l) n (List·Memᴰ·tail m) f = before-transitive (take w r) (take w x) (take w s) l (f m)

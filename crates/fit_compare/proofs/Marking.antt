@@ -46,13 +46,17 @@ testAt bottom P F u = isAccepting (byteOf P u) && has F u bottom
 
 pub record Ending (first second rows : List ℕ) (u : ℕ) : Type 0 where
   pub inside : u ≤ length first * (length second + 1)
-  pub meets : (s t : Table) → s .states ≡ first → t .states ≡ second → (F : List ℕ) → Holds rows F → ends (length first * suc (length second)) (pairTable s t) F ≡ any (testAt (length first * (length second + 1)) (pairTable s t) F) (drop u (upto (length first * (length second + 1))))
+  pub meets :
+      (s t : Table) → s .states ≡ first → t .states ≡ second → (F : List ℕ) → Holds rows F
+      → ends (length first * suc (length second)) (pairTable s t) F ≡ any (testAt (length first * (length second + 1)) (pairTable s t) F) (drop u (upto (length first * (length second + 1))))
 
 pub ending : (first second rows : List ℕ) → Ending first second rows 0
 unfolding ends
 ending first second rows = record { inside = omega arith; meets = λ s t es et F h. ap (λ n. any (testAt (length first * suc (length second)) (pairTable s t) F) (upto n)) (count-pairs s t ∙ (λ i. length (es i) * suc (length (et i)))) ∙ (λ i. any (testAt (length first * sym (add-one (length second)) i) (pairTable s t) F) (upto (length first * sym (add-one (length second)) i))) }
 
-pair-byte : {first second : List ℕ} {u : ℕ} → u < length first * (length second + 1) → {x y : ℕ} → x ≡ getD first (u / (length second + 1)) 0 → y ≡ getD second (u % (length second + 1)) 0 → (s t : Table) → s .states ≡ first → t .states ≡ second → byteOf (pairTable s t) u ≡ pairByte x y
+pair-byte :
+    {first second : List ℕ} {u : ℕ} → u < length first * (length second + 1) → {x y : ℕ} → x ≡ getD first (u / (length second + 1)) 0
+    → y ≡ getD second (u % (length second + 1)) 0 → (s t : Table) → s .states ≡ first → t .states ≡ second → byteOf (pairTable s t) u ≡ pairByte x y
 pair-byte {first} {second} {u} l {x} {y} ex ey s t es et =
     byte-pairs s t (subst (λ (n : ℕ). u < n) (λ i. length (sym es i) * suc (length (sym et i))) (subst (λ (m : ℕ). u < length first * m) (add-one (length second)) l))
     ∙ (λ i. pairByte (getD (es i) (u / suc (length (et i))) 0) (getD (et i) (u % suc (length (et i))) 0))
@@ -60,12 +64,16 @@ pair-byte {first} {second} {u} l {x} {y} ex ey s t es et =
     ∙ (λ i. pairByte (sym ex i) (sym ey i))
 
 module _ {first second rows : List ℕ} {u : ℕ} (w : Ending first second rows u) (l : u < length first * (length second + 1)) where
-  here : (s t : Table) (F : List ℕ) → any (testAt (length first * (length second + 1)) (pairTable s t) F) (drop u (upto (length first * (length second + 1)))) ≡ (testAt (length first * (length second + 1)) (pairTable s t) F u || any (testAt (length first * (length second + 1)) (pairTable s t) F) (drop (u + 1) (upto (length first * (length second + 1)))))
+  here :
+      (s t : Table) (F : List ℕ)
+      → any (testAt (length first * (length second + 1)) (pairTable s t) F) (drop u (upto (length first * (length second + 1)))) ≡ (testAt (length first * (length second + 1)) (pairTable s t) F u || any (testAt (length first * (length second + 1)) (pairTable s t) F) (drop (u + 1) (upto (length first * (length second + 1)))))
   unfolding any
   here s t F = ap (any (testAt (length first * (length second + 1)) (pairTable s t) F)) (upto-on (length first * (length second + 1)) u l)
 
   module _ {x y : ℕ} (ex : x ≡ getD first (u / (length second + 1)) 0) (ey : y ≡ getD second (u % (length second + 1)) 0) where
-    on : ((s t : Table) → s .states ≡ first → t .states ≡ second → (F : List ℕ) → Holds rows F → testAt (length first * (length second + 1)) (pairTable s t) F u ≡ false) → Ending first second rows (u + 1)
+    on :
+        ((s t : Table) → s .states ≡ first → t .states ≡ second → (F : List ℕ) → Holds rows F → testAt (length first * (length second + 1)) (pairTable s t) F u ≡ false)
+        → Ending first second rows (u + 1)
     on h = record { inside = omega arith; meets = λ s t es et F k. w .meets s t es et F k ∙ here s t F ∙ ap (λ (b : Bool). b || any (testAt (length first * (length second + 1)) (pairTable s t) F) (drop (u + 1) (upto (length first * (length second + 1))))) (h s t es et F k) }
 
     accepting-is : (s t : Table) → s .states ≡ first → t .states ≡ second → isAccepting (byteOf (pairTable s t) u) ≡ isAccepting (pairByte x y)
@@ -74,11 +82,15 @@ module _ {first second rows : List ℕ} {u : ℕ} (w : Ending first second rows 
     pub ending-on : ((F : List ℕ) → Holds rows F → false ≡ (isAccepting (pairByte x y) && has F u (length first * (length second + 1)))) → Ending first second rows (u + 1)
     ending-on k = on (λ s t es et F h. ap (λ (b : Bool). b && has F u (length first * (length second + 1))) (accepting-is s t es et) ∙ sym (k F h))
 
-    pub ending-met : ((F : List ℕ) → Holds rows F → true ≡ (isAccepting (pairByte x y) && has F u (length first * (length second + 1)))) → (s t : Table) → s .states ≡ first → t .states ≡ second → (F : List ℕ) → Holds rows F → true ≡ ends (length first * suc (length second)) (pairTable s t) F
+    pub ending-met :
+        ((F : List ℕ) → Holds rows F → true ≡ (isAccepting (pairByte x y) && has F u (length first * (length second + 1)))) → (s t : Table) → s .states ≡ first
+        → t .states ≡ second → (F : List ℕ) → Holds rows F → true ≡ ends (length first * suc (length second)) (pairTable s t) F
     ending-met k s t es et F h =
         sym (w .meets s t es et F h ∙ here s t F ∙ ap (λ (b : Bool). b || any (testAt (length first * (length second + 1)) (pairTable s t) F) (drop (u + 1) (upto (length first * (length second + 1))))) (ap (λ (b : Bool). b && has F u (length first * (length second + 1))) (accepting-is s t es et) ∙ sym (k F h)))
 
-pub ending-done : {first second rows : List ℕ} {u : ℕ} → Ending first second rows u → length first * (length second + 1) ≤ u → (s t : Table) → s .states ≡ first → t .states ≡ second → (F : List ℕ) → Holds rows F → false ≡ ends (length first * suc (length second)) (pairTable s t) F
+pub ending-done :
+    {first second rows : List ℕ} {u : ℕ} → Ending first second rows u → length first * (length second + 1) ≤ u → (s t : Table) → s .states ≡ first
+    → t .states ≡ second → (F : List ℕ) → Holds rows F → false ≡ ends (length first * suc (length second)) (pairTable s t) F
 unfolding any
 ending-done {first} {second} {rows} {u} w l s t es et F h = sym (w .meets s t es et F h ∙ ap (any (testAt (length first * (length second + 1)) (pairTable s t) F)) (drop-of-length-le (upto (length first * (length second + 1))) {i = u} (omega (arith, length-upto (length first * (length second + 1))))))
 
@@ -151,10 +163,15 @@ equal-range first second f = record { inside = omega arith; so-far = λ s t es e
     zeros n v = getD-padded [] n v
 
 module _ {first second f g : List ℕ} {u : ℕ} (w : Starting first second f g u) (l : u < length first * (length second + 1)) where
-  pub equal-range-on : {x y : ℕ} {h : List ℕ} → x ≡ getD first (u / (length second + 1)) 0 → y ≡ getD second (u % (length second + 1)) 0 → ((F : List ℕ) → Holds g F → u < length F → Holds h (startStep (pairByte x y) u (length first * (length second + 1)) F)) → Starting first second f h (u + 1)
+  pub equal-range-on :
+      {x y : ℕ} {h : List ℕ} → x ≡ getD first (u / (length second + 1)) 0 → y ≡ getD second (u % (length second + 1)) 0
+      → ((F : List ℕ) → Holds g F → u < length F → Holds h (startStep (pairByte x y) u (length first * (length second + 1)) F))
+      → Starting first second f h (u + 1)
   equal-range-on {x} {y} {h} ex ey k = record { inside = omega arith; so-far = λ s t es et z. go s t es et (w .so-far s t es et z) }
     where
-      go : (s t : Table) → s .states ≡ first → t .states ≡ second → SoFar (length first * (length second + 1)) (pairTable s t) g u → SoFar (length first * (length second + 1)) (pairTable s t) h (u + 1)
+      go :
+          (s t : Table) → s .states ≡ first → t .states ≡ second → SoFar (length first * (length second + 1)) (pairTable s t) g u
+          → SoFar (length first * (length second + 1)) (pairTable s t) h (u + 1)
       go s t es et o =
           let N = length first * (length second + 1) in
           let b = pair-byte l ex ey s t es et in
@@ -166,14 +183,19 @@ module _ {first second f g : List ℕ} {u : ℕ} (w : Starting first second f g 
             bare = λ v m. step-other (pairByte x y) u N (o .words) v (λ q. absurd (omega arith)) ∙ o .bare v (omega arith);
           }
         where
-          here : (s t : Table) → byteOf (pairTable s t) u ≡ pairByte x y → (o : SoFar (length first * (length second + 1)) (pairTable s t) g u) → (v : ℕ) → v < u + 1 → Dec (v ≡ u) → getD (startStep (pairByte x y) u (length first * (length second + 1)) (o .words)) v 0 ≡ firstWord (length first * (length second + 1)) (byteOf (pairTable s t) v)
+          here :
+              (s t : Table) → byteOf (pairTable s t) u ≡ pairByte x y → (o : SoFar (length first * (length second + 1)) (pairTable s t) g u) → (v : ℕ)
+              → v < u + 1 → Dec (v ≡ u)
+              → getD (startStep (pairByte x y) u (length first * (length second + 1)) (o .words)) v 0 ≡ firstWord (length first * (length second + 1)) (byteOf (pairTable s t) v)
           here s t b o v m (yes q) =
               ap (λ i. getD (startStep (pairByte x y) u (length first * (length second + 1)) (o .words)) i 0) q
               ∙ step-own (pairByte x y) u (length first * (length second + 1)) (o .words) (omega (arith, o .long)) (o .bare u (omega arith))
               ∙ ap (firstWord (length first * (length second + 1))) (sym b ∙ ap (byteOf (pairTable s t)) (sym q))
           here s t b o v m (no q) = step-other (pairByte x y) u (length first * (length second + 1)) (o .words) v q ∙ o .done v (omega arith)
 
-pub started : {first second f g : List ℕ} {u : ℕ} → Starting first second f g u → length first * (length second + 1) ≤ u → (s t : Table) → s .states ≡ first → t .states ≡ second → Holds f (replicate (length first * (length second + 1)) 0) → Holds g (startWords (pairCount s t) (pairTable s t))
+pub started :
+    {first second f g : List ℕ} {u : ℕ} → Starting first second f g u → length first * (length second + 1) ≤ u → (s t : Table) → s .states ≡ first
+    → t .states ≡ second → Holds f (replicate (length first * (length second + 1)) 0) → Holds g (startWords (pairCount s t) (pairTable s t))
 unfolding startWords isInitial
 started {first} {second} {f} {g} {u} w l s t es et z =
     let o = w .so-far s t es et z in

@@ -55,11 +55,16 @@ module _ {size : ℕ} {a b : List ℕ} {i : ℕ} (p : Comparing size a b i) wher
 -- ---- a round
 
 module _ {s t : Table} {internals calls returns moves pushes pops : List ℕ} {k n : ℕ} (d : Given s t internals calls returns moves pushes pops k n) where
-  round-is : (F : List ℕ) → byReturns (pairReturns n (records 4 returns) (t .returns)) (byKind Call (pairMoves n (records 3 calls) (t .calls)) (byKind Internal (pairMoves n (records 3 internals) (t .internals)) F)) ≡ round (pairTable s t) F
+  round-is :
+      (F : List ℕ)
+      → byReturns (pairReturns n (records 4 returns) (t .returns)) (byKind Call (pairMoves n (records 3 calls) (t .calls)) (byKind Internal (pairMoves n (records 3 internals) (t .internals)) F)) ≡ round (pairTable s t) F
   unfolding round pairTable byKind
   round-is F = λ i. byReturns (pairReturns (sym (d .seconds) i) (sym (d .returns-are) i) (t .returns)) (byCalls (pairMoves (sym (d .seconds) i) (sym (d .calls-are) i) (t .calls)) (byInternals (pairMoves (sym (d .seconds) i) (sym (d .internals-are) i) (t .internals)) F))
 
-  pub round-turns : {f g h e : List ℕ} → Turns k n f g (byKind Internal (pairMoves n (records 3 internals) (t .internals))) → Turns k n g h (byKind Call (pairMoves n (records 3 calls) (t .calls))) → Turns k n h e (byReturns (pairReturns n (records 4 returns) (t .returns))) → Turns k n f e (round (pairTable s t))
+  pub round-turns :
+      {f g h e : List ℕ} → Turns k n f g (byKind Internal (pairMoves n (records 3 internals) (t .internals)))
+      → Turns k n g h (byKind Call (pairMoves n (records 3 calls) (t .calls))) → Turns k n h e (byReturns (pairReturns n (records 4 returns) (t .returns)))
+      → Turns k n f e (round (pairTable s t))
   round-turns a b c = turns-as (turns-then (turns-then a b) c) round-is
 
 -- ---- the rounds
@@ -68,7 +73,9 @@ pub record Resting (internals calls returns moves pushes pops : List ℕ) (k n :
   pub words : (s t : Table) → Given s t internals calls returns moves pushes pops k n → (F : List ℕ) → Holds f F → length F ≡ k * suc n → List ℕ
   pub holds : (s t : Table) (d : Given s t internals calls returns moves pushes pops k n) (F : List ℕ) (h : Holds f F) (l : length F ≡ k * suc n) → Holds g (words s t d F h l)
   pub long : (s t : Table) (d : Given s t internals calls returns moves pushes pops k n) (F : List ℕ) (h : Holds f F) (l : length F ≡ k * suc n) → length (words s t d F h l) ≡ k * suc n
-  pub meets : (s t : Table) (d : Given s t internals calls returns moves pushes pops k n) (F : List ℕ) (h : Holds f F) (l : length F ≡ k * suc n) → rounds (suc (k * suc n * suc (k * suc n))) (pairTable s t) F ≡ rounds left (pairTable s t) (words s t d F h l)
+  pub meets :
+      (s t : Table) (d : Given s t internals calls returns moves pushes pops k n) (F : List ℕ) (h : Holds f F) (l : length F ≡ k * suc n)
+      → rounds (suc (k * suc n * suc (k * suc n))) (pairTable s t) F ≡ rounds left (pairTable s t) (words s t d F h l)
 
 pub few-rounds : {p : ℕ} → p ≤ 600 → p * (p + 1) ≤ 360600
 few-rounds h = mul-le-mul {n₂ = 600} {m₂ = 601} h (omega arith)
@@ -99,14 +106,19 @@ module _ {internals calls returns moves pushes pops : List ℕ} {k n : ℕ} {f g
         w .meets s t d F h l ∙ turn (pairTable s t) G left l0 false (sym (same-held (r s t d .holds G (w .holds s t d F h l) (w .long s t d F h l)) (w .holds s t d F h l) (r s t d .long G)) ∙ e);
   }
 
-  pub rested : same new g ≡ true → (s t : Table) → Given s t internals calls returns moves pushes pops k n → (F : List ℕ) → Holds f F → length F ≡ k * suc n → Holds new (rounds (suc (k * suc n * suc (k * suc n))) (pairTable s t) F)
+  pub rested :
+      same new g ≡ true → (s t : Table) → Given s t internals calls returns moves pushes pops k n → (F : List ℕ) → Holds f F → length F ≡ k * suc n
+      → Holds new (rounds (suc (k * suc n * suc (k * suc n))) (pairTable s t) F)
   rested e s t d F h l =
       let G = w .words s t d F h l in
       let q = sym (same-held (r s t d .holds G (w .holds s t d F h l) (w .long s t d F h l)) (w .holds s t d F h l) (r s t d .long G)) ∙ e in
       subst (λ (x : List ℕ). Holds x (rounds (suc (k * suc n * suc (k * suc n))) (pairTable s t) F)) (sym (same-true new g e))
       (subst (Holds g) (sym (w .meets s t d F h l ∙ turn (pairTable s t) G left l0 true q)) (w .holds s t d F h l))
 
-pub spent : {internals calls returns moves pushes pops : List ℕ} {k n : ℕ} {f g : List ℕ} {left : ℕ} → Resting internals calls returns moves pushes pops k n f g left → left ≤ 0 → (s t : Table) → Given s t internals calls returns moves pushes pops k n → (F : List ℕ) → Holds f F → length F ≡ k * suc n → Holds g (rounds (suc (k * suc n * suc (k * suc n))) (pairTable s t) F)
+pub spent :
+    {internals calls returns moves pushes pops : List ℕ} {k n : ℕ} {f g : List ℕ} {left : ℕ} → Resting internals calls returns moves pushes pops k n f g left
+    → left ≤ 0 → (s t : Table) → Given s t internals calls returns moves pushes pops k n → (F : List ℕ) → Holds f F → length F ≡ k * suc n
+    → Holds g (rounds (suc (k * suc n * suc (k * suc n))) (pairTable s t) F)
 unfolding rounds
 spent {g = g} {left = left} w z s t d F h l =
     let e : left ≡ 0 = omega arith in

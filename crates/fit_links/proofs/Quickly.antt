@@ -101,7 +101,9 @@ pub covering : (u v : ℕ) (f : List ℕ) → Covering u v f 10
 covering u v f = record { few = omega arith; meets = refl }
 
 module _ {u v : ℕ} {f : List ℕ} {k : ℕ} (i : Covering u v f k) (l : 0 < k) where
-  here : (b : Bool) → eqb (bitOr (getD f (v * 10 + (k - 1)) 0) (getD f (u * 10 + (k - 1)) 0)) (getD f (v * 10 + (k - 1)) 0) ≡ b → coveredIn 10 u v f ≡ elim b [ true ↦ coveredIn (k - 1) u v f | false ↦ false ]
+  here :
+      (b : Bool) → eqb (bitOr (getD f (v * 10 + (k - 1)) 0) (getD f (u * 10 + (k - 1)) 0)) (getD f (v * 10 + (k - 1)) 0) ≡ b
+      → coveredIn 10 u v f ≡ elim b [ true ↦ coveredIn (k - 1) u v f | false ↦ false ]
   unfolding coveredIn
   here b e =
       let z : k ≡ suc (k - 1) = omega arith in
@@ -331,7 +333,9 @@ pub spreading : (u pairs : ℕ) (links f : List ℕ) → Spreading u pairs links
 spreading u pairs links f = record { kept = λ s t e l h x. x }
 
 module _ {u pairs : ℕ} {links f g : List ℕ} {v : ℕ} (w : Spreading u pairs links f g) (l : v < pairs) where
-  pub spread-on : {h : List ℕ} → ((F : List ℕ) → Holds links F → true ≡ has F u v) → ((s t : Table) → u < pairCount s t → v < pairCount s t → Follows s t u v → SomeTops s t g → SomeTops s t h) → Spreading u pairs links f h
+  pub spread-on :
+      {h : List ℕ} → ((F : List ℕ) → Holds links F → true ≡ has F u v)
+      → ((s t : Table) → u < pairCount s t → v < pairCount s t → Follows s t u v → SomeTops s t g → SomeTops s t h) → Spreading u pairs links f h
   spread-on a j = record { kept = λ s t e lu k x. j s t (subst (λ (m : ℕ). u < m) e lu) (subst (λ (m : ℕ). v < m) e l) (held-link a k) (w .kept s t e lu k x) }
 
 -- ---- internals
@@ -481,7 +485,10 @@ module _ {s t : Table} (ws : WellFormed standard s) (wt : WellFormed standard t)
   }
 
   -- the rounds end with all tops
-  pub partly-tops : {f g : List ℕ} → SomeTops s t f → ((F : List ℕ) → Holds f F → length F ≡ pairCount s t → Holds g (rounds (suc (pairCount s t * suc (pairCount s t))) (pairTable s t) F)) → Holds g (pairTops s t)
+  pub partly-tops :
+      {f g : List ℕ} → SomeTops s t f
+      → ((F : List ℕ) → Holds f F → length F ≡ pairCount s t → Holds g (rounds (suc (pairCount s t * suc (pairCount s t))) (pairTable s t) F))
+      → Holds g (pairTops s t)
   partly-tops {g = g} p turn =
       let e = count-pairs s t in
       let a = rounds-alike pairs-fit (p .words) record { top = p .tops; wide = p .long ∙ sym e } record { keeps = p .starts } in

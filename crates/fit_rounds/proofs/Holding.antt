@@ -43,7 +43,9 @@ unfolding joined
 join-own zero u v f m l j h = absurd (omega arith)
 join-own (suc k) u v f m l j h = go (ℕ-discrete j k) (join-own k u v (one k u v f) (omega arith) (omega (arith, length-set f (v * 10 + k) (bitOr (getD f (v * 10 + k) 0) (getD f (u * 10 + k) 0)))) j)
   where
-    go : Dec (j ≡ k) → (j < k → getD (joined k u v (one k u v f)) (v * 10 + j) 0 ≡ bitOr (getD (one k u v f) (v * 10 + j) 0) (getD (one k u v f) (u * 10 + j) 0)) → getD (joined k u v (one k u v f)) (v * 10 + j) 0 ≡ bitOr (getD f (v * 10 + j) 0) (getD f (u * 10 + j) 0)
+    go :
+        Dec (j ≡ k) → (j < k → getD (joined k u v (one k u v f)) (v * 10 + j) 0 ≡ bitOr (getD (one k u v f) (v * 10 + j) 0) (getD (one k u v f) (u * 10 + j) 0))
+        → getD (joined k u v (one k u v f)) (v * 10 + j) 0 ≡ bitOr (getD f (v * 10 + j) 0) (getD f (u * 10 + j) 0)
     go (yes e) r = subst (λ (i : ℕ). getD (joined k u v (one k u v f)) (v * 10 + i) 0 ≡ bitOr (getD f (v * 10 + i) 0) (getD f (u * 10 + i) 0)) (sym e) (join-other k u v (one k u v f) (v * 10 + k) (λ i l d. absurd (omega arith)) ∙ getD-set-same f (v * 10 + k) (bitOr (getD f (v * 10 + k) 0) (getD f (u * 10 + k) 0)) 0 (omega arith))
     go (no e) r = r (omega arith) ∙ (λ i. bitOr (getD-set-other f (v * 10 + k) (v * 10 + j) (bitOr (getD f (v * 10 + k) 0) (getD f (u * 10 + k) 0)) 0 (λ d. e (omega arith)) i) (getD-set-other f (v * 10 + k) (u * 10 + j) (bitOr (getD f (v * 10 + k) 0) (getD f (u * 10 + k) 0)) 0 (λ d. e (omega arith)) i))
 
@@ -186,7 +188,9 @@ module _ {f F : List ℕ} (h : Holds f F) where
   word-of-any zero u e = absurd (true≢false (sym e))
   word-of-any (suc k) u e = go (eqb (getD f (u * 10 + k) 0) 0) refl e (word-of-any k u)
     where
-      go : (t : Bool) → eqb (getD f (u * 10 + k) 0) 0 ≡ t → _≡_ {A = Bool} (elim t [ true ↦ anyIn k u f | false ↦ true ]) true → (anyIn k u f ≡ true → (j : ℕ) × (j < k) × (getD f (u * 10 + j) 0 ≢ 0)) → (j : ℕ) × (j < suc k) × (getD f (u * 10 + j) 0 ≢ 0)
+      go :
+          (t : Bool) → eqb (getD f (u * 10 + k) 0) 0 ≡ t → _≡_ {A = Bool} (elim t [ true ↦ anyIn k u f | false ↦ true ]) true
+          → (anyIn k u f ≡ true → (j : ℕ) × (j < k) × (getD f (u * 10 + j) 0 ≢ 0)) → (j : ℕ) × (j < suc k) × (getD f (u * 10 + j) 0 ≢ 0)
       go false g q r = (k, omega arith, eqb-false (getD f (u * 10 + k) 0) 0 g)
       go true g q r = let s = r q in (s .0, omega (arith, s .1), s .2)
 

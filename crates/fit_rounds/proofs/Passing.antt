@@ -48,11 +48,15 @@ kind-long Call u v F = go (eqb (getD F u 0) 0)
     go true = refl
     go false = length-add F v (2 ^ u)
 
-pub internal-turns : (u v : ℕ) {f g : List ℕ} → ((F : List ℕ) → Holds f F → u < length F → v < length F → Holds g (add F v (getD F u 0))) → (k n : ℕ) → u < k * suc n → v < k * suc n → Turns k n f g (stepKind Internal u v)
+pub internal-turns :
+    (u v : ℕ) {f g : List ℕ} → ((F : List ℕ) → Holds f F → u < length F → v < length F → Holds g (add F v (getD F u 0))) → (k n : ℕ) → u < k * suc n
+    → v < k * suc n → Turns k n f g (stepKind Internal u v)
 unfolding stepKind
 internal-turns u v h k n lu lv = record { holds = λ F c e. h F c (subst (λ (m : ℕ). u < m) (sym e) lu) (subst (λ (m : ℕ). v < m) (sym e) lv); long = kind-long Internal u v }
 
-pub call-turns : (u v : ℕ) {f g : List ℕ} → ((F : List ℕ) → Holds f F → true ≡ not (eqb (getD F u 0) 0)) → ((F : List ℕ) → Holds f F → v < length F → Holds g (add F v (2 ^ u))) → (k n : ℕ) → u < k * suc n → v < k * suc n → Turns k n f g (stepKind Call u v)
+pub call-turns :
+    (u v : ℕ) {f g : List ℕ} → ((F : List ℕ) → Holds f F → true ≡ not (eqb (getD F u 0) 0))
+    → ((F : List ℕ) → Holds f F → v < length F → Holds g (add F v (2 ^ u))) → (k n : ℕ) → u < k * suc n → v < k * suc n → Turns k n f g (stepKind Call u v)
 unfolding stepKind
 call-turns u v {f} {g} a h k n lu lv = record { holds = λ F c e. go F (eqb (getD F u 0) 0) (a F c) (h F c (subst (λ (m : ℕ). v < m) (sym e) lv)); long = kind-long Call u v }
   where
@@ -130,7 +134,9 @@ module _ {kind : Kind} {p a q n : ℕ} {next f g : List ℕ} {b : ℕ} (s : Seco
           ∙ sym (kind-append kind (map r (upto b)) (r b ∷ []) F)
           ∙ ap (λ rs. byKind kind rs F) (sym (map-upto r b)))
 
-pub seconds-done : {kind : Kind} {p a q n : ℕ} {next f g : List ℕ} {b : ℕ} → Seconds kind p a q n next f g b → n + 1 ≤ b → (ss : List (List ℕ)) → NextMoves n ss next → (k : ℕ) → p < k → q < k → Turns k n f g (byKind kind (map (pairMove n ss (p ∷ a ∷ q ∷ [])) (upto (suc n))))
+pub seconds-done :
+    {kind : Kind} {p a q n : ℕ} {next f g : List ℕ} {b : ℕ} → Seconds kind p a q n next f g b → n + 1 ≤ b → (ss : List (List ℕ)) → NextMoves n ss next → (k : ℕ)
+    → p < k → q < k → Turns k n f g (byKind kind (map (pairMove n ss (p ∷ a ∷ q ∷ [])) (upto (suc n))))
 seconds-done {kind} {p} {a} {q} {n} {next} {f} {g} {b} s l ss m k lp lq =
     let e : b ≡ suc n = omega (arith, s .inside, add-one n) in
     subst (λ (i : ℕ). Turns k n f g (byKind kind (map (pairMove n ss (p ∷ a ∷ q ∷ [])) (upto i)))) e (s .turned ss m k lp lq)
@@ -186,7 +192,10 @@ module _ {kind : Kind} {s next : List ℕ} {n : ℕ} {f g : List ℕ} {at : ℕ}
       subst (λ (x : ℕ). x < k) e2 (h .states _ first-of 2 (λ z. absurd (omega arith)) (omega arith)),
     )
 
-    pub moving-on : {h : List ℕ} → ((ss : List (List ℕ)) → NextMoves n ss next → (k : ℕ) → p < k → q < k → Turns k n g h (byKind kind (map (pairMove n ss (p ∷ a ∷ q ∷ [])) (upto (suc n))))) → Moving kind s next n f h (at + 3)
+    pub moving-on :
+        {h : List ℕ}
+        → ((ss : List (List ℕ)) → NextMoves n ss next → (k : ℕ) → p < k → q < k → Turns k n g h (byKind kind (map (pairMove n ss (p ∷ a ∷ q ∷ [])) (upto (suc n)))))
+        → Moving kind s next n f h (at + 3)
     unfolding pairMoves concatMap
     moving-on {h} t = record {
       inside = omega arith;
@@ -195,7 +204,9 @@ module _ {kind : Kind} {s next : List ℕ} {n : ℕ} {f g : List ℕ} {at : ℕ}
       left = λ r m. w .left r (subst (λ (rs : List (List ℕ)). List·Memᴰ r rs) (sym here) (List·Memᴰ·tail m));
     }
 
-pub moving-done : {kind : Kind} {s next : List ℕ} {n : ℕ} {f g : List ℕ} {at : ℕ} → Moving kind s next n f g at → length s - at < 3 → (ss : List (List ℕ)) → NextMoves n ss next → (k : ℕ) → Named 3 k s → Turns k n f g (byKind kind (pairMoves n (records 3 s) ss))
+pub moving-done :
+    {kind : Kind} {s next : List ℕ} {n : ℕ} {f g : List ℕ} {at : ℕ} → Moving kind s next n f g at → length s - at < 3 → (ss : List (List ℕ))
+    → NextMoves n ss next → (k : ℕ) → Named 3 k s → Turns k n f g (byKind kind (pairMoves n (records 3 s) ss))
 unfolding pairMoves concatMap
 moving-done {kind} {s} {next} {n} {f} {g} {at} w l ss m k h = rest-done (w .turned ss m k h) (λ F. ap (λ (rs : List (List ℕ)). byKind kind (pairMoves n rs ss) F) (records-end 3 s at l) ∙ kind-nil kind F)
 
@@ -209,7 +220,10 @@ return-long u y v F = go (has F u y)
     go true = length-add F v (getD F y 0)
     go false = refl
 
-pub return-turns : (u y v : ℕ) {f g : List ℕ} → ((F : List ℕ) → Holds f F → true ≡ has F u y) → ((F : List ℕ) → Holds f F → y < length F → v < length F → Holds g (add F v (getD F y 0))) → (k n : ℕ) → y < k * suc n → v < k * suc n → Turns k n f g (stepReturn u y v)
+pub return-turns :
+    (u y v : ℕ) {f g : List ℕ} → ((F : List ℕ) → Holds f F → true ≡ has F u y)
+    → ((F : List ℕ) → Holds f F → y < length F → v < length F → Holds g (add F v (getD F y 0))) → (k n : ℕ) → y < k * suc n → v < k * suc n
+    → Turns k n f g (stepReturn u y v)
 unfolding stepReturn
 return-turns u y v {f} {g} a h k n ly lv = record { holds = λ F c e. go F (has F u y) (a F c) (h F c (subst (λ (m : ℕ). y < m) (sym e) ly) (subst (λ (m : ℕ). v < m) (sym e) lv)); long = return-long u y v }
   where
@@ -271,7 +285,9 @@ module _ {p a b s q n : ℕ} {next f g : List ℕ} {c : ℕ} (w : Unders p a b s
           ∙ sym (return-append (map r (upto c)) (r c ∷ []) F)
           ∙ ap (λ rs. byReturns rs F) (sym (map-upto r c)))
 
-pub unders-done : {p a b s q n : ℕ} {next f g : List ℕ} {c : ℕ} → Unders p a b s q n next f g c → n + 1 ≤ c → (ss : List (List ℕ)) → NextReturns n ss next → (k : ℕ) → p < k → s < k → q < k → Turns k n f g (byReturns (map (pairReturn n ss (p ∷ a ∷ s ∷ q ∷ []) b) (upto (suc n))))
+pub unders-done :
+    {p a b s q n : ℕ} {next f g : List ℕ} {c : ℕ} → Unders p a b s q n next f g c → n + 1 ≤ c → (ss : List (List ℕ)) → NextReturns n ss next → (k : ℕ) → p < k
+    → s < k → q < k → Turns k n f g (byReturns (map (pairReturn n ss (p ∷ a ∷ s ∷ q ∷ []) b) (upto (suc n))))
 unders-done {p} {a} {b} {s} {q} {n} {next} {f} {g} {c} w l ss m k lp ls lq =
     let e : c ≡ suc n = omega (arith, w .inside, add-one n) in
     subst (λ (i : ℕ). Turns k n f g (byReturns (map (pairReturn n ss (p ∷ a ∷ s ∷ q ∷ []) b) (upto i)))) e (w .turned ss m k lp ls lq)
@@ -280,7 +296,9 @@ unders-done {p} {a} {b} {s} {q} {n} {next} {f} {g} {c} w l ss m k lp ls lq =
 
 pub record Overs (p a s q n : ℕ) (next f g : List ℕ) (b : ℕ) : Type 0 where
   pub inside : b ≤ n + 1
-  pub turned : (ss : List (List ℕ)) → NextReturns n ss next → (k : ℕ) → p < k → s < k → q < k → Turns k n f g (byReturns (concatMap (λ b. map (pairReturn n ss (p ∷ a ∷ s ∷ q ∷ []) b) (upto (suc n))) (upto b)))
+  pub turned :
+      (ss : List (List ℕ)) → NextReturns n ss next → (k : ℕ) → p < k → s < k → q < k
+      → Turns k n f g (byReturns (concatMap (λ b. map (pairReturn n ss (p ∷ a ∷ s ∷ q ∷ []) b) (upto (suc n))) (upto b)))
 
 pub overs : (p a s q n : ℕ) (next f : List ℕ) → Overs p a s q n next f f 0
 unfolding upto concatMap
@@ -291,15 +309,23 @@ unfolding upto concatMap
 concatMap-upto g b = ap (λ m. concatMap g (upto m)) (add-one b) ∙ concatMap-append g (upto b) (b ∷ []) ∙ ap (λ (x : List (List ℕ)). concatMap g (upto b) ++ x) (append-nil (g b))
 
 module _ {p a s q n : ℕ} {next f g : List ℕ} {b : ℕ} (w : Overs p a s q n next f g b) where
-  pub overs-on : {h : List ℕ} → b ≤ n → ((ss : List (List ℕ)) → NextReturns n ss next → (k : ℕ) → p < k → s < k → q < k → Turns k n g h (byReturns (map (pairReturn n ss (p ∷ a ∷ s ∷ q ∷ []) b) (upto (suc n))))) → Overs p a s q n next f h (b + 1)
+  pub overs-on :
+      {h : List ℕ} → b ≤ n
+      → ((ss : List (List ℕ)) → NextReturns n ss next → (k : ℕ) → p < k → s < k → q < k → Turns k n g h (byReturns (map (pairReturn n ss (p ∷ a ∷ s ∷ q ∷ []) b) (upto (suc n)))))
+      → Overs p a s q n next f h (b + 1)
   overs-on {h} l t = record { inside = omega arith; turned = λ ss m k lp ls lq. go ss (w .turned ss m k lp ls lq) (t ss m k lp ls lq) }
     where
-      go : (ss : List (List ℕ)) {k : ℕ} → Turns k n f g (byReturns (concatMap (λ b. map (pairReturn n ss (p ∷ a ∷ s ∷ q ∷ []) b) (upto (suc n))) (upto b))) → Turns k n g h (byReturns (map (pairReturn n ss (p ∷ a ∷ s ∷ q ∷ []) b) (upto (suc n)))) → Turns k n f h (byReturns (concatMap (λ b. map (pairReturn n ss (p ∷ a ∷ s ∷ q ∷ []) b) (upto (suc n))) (upto (b + 1))))
+      go :
+          (ss : List (List ℕ)) {k : ℕ} → Turns k n f g (byReturns (concatMap (λ b. map (pairReturn n ss (p ∷ a ∷ s ∷ q ∷ []) b) (upto (suc n))) (upto b)))
+          → Turns k n g h (byReturns (map (pairReturn n ss (p ∷ a ∷ s ∷ q ∷ []) b) (upto (suc n))))
+          → Turns k n f h (byReturns (concatMap (λ b. map (pairReturn n ss (p ∷ a ∷ s ∷ q ∷ []) b) (upto (suc n))) (upto (b + 1))))
       go ss x y =
           let r : ℕ → List (List ℕ) = λ b. map (pairReturn n ss (p ∷ a ∷ s ∷ q ∷ []) b) (upto (suc n)) in
           turns-as (turns-then x y) (λ F. sym (return-append (concatMap r (upto b)) (r b) F) ∙ ap (λ rs. byReturns rs F) (sym (concatMap-upto r b)))
 
-  pub overs-done : n < b → (ss : List (List ℕ)) → NextReturns n ss next → (k : ℕ) → p < k → s < k → q < k → Turns k n f g (byReturns (concatMap (λ b. map (pairReturn n ss (p ∷ a ∷ s ∷ q ∷ []) b) (upto (suc n))) (upto (suc n))))
+  pub overs-done :
+      n < b → (ss : List (List ℕ)) → NextReturns n ss next → (k : ℕ) → p < k → s < k → q < k
+      → Turns k n f g (byReturns (concatMap (λ b. map (pairReturn n ss (p ∷ a ∷ s ∷ q ∷ []) b) (upto (suc n))) (upto (suc n))))
   overs-done l ss m k lp ls lq =
       let e : b ≡ suc n = omega (arith, w .inside, add-one n) in
       subst (λ (i : ℕ). Turns k n f g (byReturns (concatMap (λ b. map (pairReturn n ss (p ∷ a ∷ s ∷ q ∷ []) b) (upto (suc n))) (upto i)))) e (w .turned ss m k lp ls lq)
@@ -345,7 +371,10 @@ module _ {s next : List ℕ} {n : ℕ} {f g : List ℕ} {at : ℕ} (w : Returnin
       subst (λ (x : ℕ). x < k) f3 (h .states _ first4 3 (λ z. absurd (omega arith)) (omega arith)),
     )
 
-    pub returning-on : {h : List ℕ} → ((ss : List (List ℕ)) → NextReturns n ss next → (k : ℕ) → p < k → o < k → q < k → Turns k n g h (byReturns (concatMap (λ b. map (pairReturn n ss (p ∷ a ∷ o ∷ q ∷ []) b) (upto (suc n))) (upto (suc n))))) → Returning s next n f h (at + 4)
+    pub returning-on :
+        {h : List ℕ}
+        → ((ss : List (List ℕ)) → NextReturns n ss next → (k : ℕ) → p < k → o < k → q < k → Turns k n g h (byReturns (concatMap (λ b. map (pairReturn n ss (p ∷ a ∷ o ∷ q ∷ []) b) (upto (suc n))) (upto (suc n)))))
+        → Returning s next n f h (at + 4)
     unfolding pairReturns concatMap
     returning-on {h} t = record {
       inside = omega arith;
@@ -354,6 +383,8 @@ module _ {s next : List ℕ} {n : ℕ} {f g : List ℕ} {at : ℕ} (w : Returnin
       left = λ r m. w .left r (subst (λ (rs : List (List ℕ)). List·Memᴰ r rs) (sym here4) (List·Memᴰ·tail m));
     }
 
-pub returning-done : {s next : List ℕ} {n : ℕ} {f g : List ℕ} {at : ℕ} → Returning s next n f g at → length s - at < 4 → (ss : List (List ℕ)) → NextReturns n ss next → (k : ℕ) → Named 4 k s → Turns k n f g (byReturns (pairReturns n (records 4 s) ss))
+pub returning-done :
+    {s next : List ℕ} {n : ℕ} {f g : List ℕ} {at : ℕ} → Returning s next n f g at → length s - at < 4 → (ss : List (List ℕ)) → NextReturns n ss next → (k : ℕ)
+    → Named 4 k s → Turns k n f g (byReturns (pairReturns n (records 4 s) ss))
 unfolding pairReturns concatMap
 returning-done {s} {next} {n} {f} {g} {at} w l ss m k h = rest-done (w .turned ss m k h) (λ F. ap (λ (rs : List (List ℕ)). byReturns (pairReturns n rs ss) F) (records-end 4 s at l) ∙ return-nil F)

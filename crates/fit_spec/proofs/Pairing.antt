@@ -143,7 +143,9 @@ module _ {S T U : Type 0} {A : Automaton S} {B : Automaton T} {C : Automaton U} 
     right-run (done) k = done
     right-run (then {c = c} {d = d} {e = e} s r) k = go c d e (right-step s) r k (right-run r k)
       where
-        go : (c d e : Configuration U) {a : ℕ} {w : List ℕ} → Step B (right c) a (right d) ⊎ (second (d .state) ≡ sink) → Run C d w e → B .accepting (second (e .state)) → Run B (right d) w (right e) → Run B (right c) (a ∷ w) (right e)
+        go :
+            (c d e : Configuration U) {a : ℕ} {w : List ℕ} → Step B (right c) a (right d) ⊎ (second (d .state) ≡ sink) → Run C d w e
+            → B .accepting (second (e .state)) → Run B (right d) w (right e) → Run B (right c) (a ∷ w) (right e)
         go c d e (inl t) r k l = then t l
         go c d e (inr f) r k l = absurd (dead .accepting (subst (B .accepting) (sunk-run r f) k))
 

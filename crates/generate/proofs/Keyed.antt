@@ -132,6 +132,9 @@ module _ (g : Load) (out : List ℕ) where
               returns = (ap (map (recordOf 4)) (r .same) ∙ present-back 4 (g .states) (g .internals + g .calls) (g .returns) (g .density) (seedReturns g) (omega arith) (omega arith) (z .states-few) (omega (arith, z .symbols-few))) j;
             })
 
-            pub few-drawn : {done : QuotientDone} → done ≡ writtenFor (bytesOf (keyedTable 1 (symbolBytes (g .internals) (g .calls) (g .internals + g .calls + g .returns)) (stateBytes (g .states)) (take (r1 .count) k1) (take (r2 .count) k2) (take (r3 .count) k3))) out → done ≡ drawnFor g out
+            pub few-drawn :
+                {done : QuotientDone}
+                → done ≡ writtenFor (bytesOf (keyedTable 1 (symbolBytes (g .internals) (g .calls) (g .internals + g .calls + g .returns)) (stateBytes (g .states)) (take (r1 .count) k1) (take (r2 .count) k2) (take (r3 .count) k3))) out
+                → done ≡ drawnFor g out
             unfolding drawnFor recordsFew described possibleInternals
             few-drawn e = e ∙ ap (λ b. writtenFor b out) same-bytes ∙ sym (rw (and-of (sym (d1 .fits) ∙ f1) (and-of (sym (calls-drawn .fits) ∙ f2) (sym (returns-drawn .fits) ∙ f3)), drawnFor))

@@ -69,7 +69,9 @@ module _ (g : Load) where
   all-symbols = g .internals + (g .calls + g .returns)
 
   -- a possible record fits, where its symbols have the kind
-  record-fits : (kind w from k : ℕ) → ((a : ℕ) → from ≤ a → a < from + k → (a < all-symbols) × (kind ≡ kindOf (g .internals) (g .calls) a)) → (r : List ℕ) → List·Memᴰ r (possible w (g .states) from k) → recordFits (described g) kind r ≡ true
+  record-fits :
+      (kind w from k : ℕ) → ((a : ℕ) → from ≤ a → a < from + k → (a < all-symbols) × (kind ≡ kindOf (g .internals) (g .calls) a)) → (r : List ℕ)
+      → List·Memᴰ r (possible w (g .states) from k) → recordFits (described g) kind r ≡ true
   unfolding recordFits described
   record-fits kind w from k h r d = go (possible-of w (g .states) from k r d)
     where

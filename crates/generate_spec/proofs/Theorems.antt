@@ -19,7 +19,10 @@ use Rattle.generate_spec.specs.Demands.{Promises}
 use Rattle.generate_spec.proofs.Described.{described-read, described-table}
 
 module _ (L : Limits) (g : Load) (out : List ℕ) where
-  writes : (P : List ℕ → Type 0) → (limitsFit L ≡ true → sizesFit L (g .states) (g .internals + (g .calls + g .returns)) (g .density) ≡ true → recordsFew (described g) ≡ true → P (describedBytes g)) → OnWriting (generateOf L g out .answer) (λ n. P (take n (generateOf L g out .out)))
+  writes :
+      (P : List ℕ → Type 0)
+      → (limitsFit L ≡ true → sizesFit L (g .states) (g .internals + (g .calls + g .returns)) (g .density) ≡ true → recordsFew (described g) ≡ true → P (describedBytes g))
+      → OnWriting (generateOf L g out .answer) (λ n. P (take n (generateOf L g out .out)))
   unfolding generateOf generateNumber
   writes P h = on-writing (generateNumber L g out) (describedBytes g) out P given
     where

@@ -15,7 +15,9 @@ module _ {A : Type 0} where
   filter-append f [] ys = refl
   filter-append f (x ∷ xs) ys = go (f x) (filter-append f xs ys)
     where
-      go : (t : Bool) → filter f (xs ++ ys) ≡ filter f xs ++ filter f ys → _≡_ {A = List A} (elim t [ true ↦ x ∷ filter f (xs ++ ys) | false ↦ filter f (xs ++ ys) ]) ((elim t as (λ _. List A) [ true ↦ x ∷ filter f xs | false ↦ filter f xs ]) ++ filter f ys)
+      go :
+          (t : Bool) → filter f (xs ++ ys) ≡ filter f xs ++ filter f ys
+          → _≡_ {A = List A} (elim t [ true ↦ x ∷ filter f (xs ++ ys) | false ↦ filter f (xs ++ ys) ]) ((elim t as (λ _. List A) [ true ↦ x ∷ filter f xs | false ↦ filter f xs ]) ++ filter f ys)
       go true e = ap (λ zs. x ∷ zs) e
       go false e = e
 
@@ -35,7 +37,9 @@ module _ {A : Type 0} where
   filter-every (x ∷ xs) = ap (λ (l : List A). x ∷ l) (filter-every xs)
 
   -- a test that passes more often, and once more at y, keeps more
-  pub filter-less : (f g : A → Bool) (xs : List A) → ((x : A) → List·Memᴰ x xs → f x ≡ true → g x ≡ true) → (y : A) → List·Memᴰ y xs → f y ≡ false → g y ≡ true → length (filter f xs) < length (filter g xs)
+  pub filter-less :
+      (f g : A → Bool) (xs : List A) → ((x : A) → List·Memᴰ x xs → f x ≡ true → g x ≡ true) → (y : A) → List·Memᴰ y xs → f y ≡ false → g y ≡ true
+      → length (filter f xs) < length (filter g xs)
   unfolding filter
   filter-less f g [] h y m p q = elim m [ ]
   filter-less f g (x ∷ xs) h y m p q = go (f x) (g x) refl refl m (filter-length f g xs (λ z k. h z (List·Memᴰ·tail k))) (λ k. filter-less f g xs (λ z l. h z (List·Memᴰ·tail l)) y k p q)
@@ -54,7 +58,9 @@ unfolding filter
 filter-map f g [] = refl
 filter-map {A} {B} f g (x ∷ xs) = go (f (g x)) (filter-map f g xs)
   where
-    go : (t : Bool) → length (filter f (map g xs)) ≡ length (filter (λ x. f (g x)) xs) → length {A = B} (elim t [ true ↦ g x ∷ filter f (map g xs) | false ↦ filter f (map g xs) ]) ≡ length {A = A} (elim t [ true ↦ x ∷ filter (λ x. f (g x)) xs | false ↦ filter (λ x. f (g x)) xs ])
+    go :
+        (t : Bool) → length (filter f (map g xs)) ≡ length (filter (λ x. f (g x)) xs)
+        → length {A = B} (elim t [ true ↦ g x ∷ filter f (map g xs) | false ↦ filter f (map g xs) ]) ≡ length {A = A} (elim t [ true ↦ x ∷ filter (λ x. f (g x)) xs | false ↦ filter (λ x. f (g x)) xs ])
     go true e = ap suc e
     go false e = e
 

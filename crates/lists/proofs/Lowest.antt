@@ -28,7 +28,9 @@ unfolding trailingZeros
 trailing-lowest zero w l n = absurd (n (omega arith))
 trailing-lowest (suc k) w l n = go (w % 2) refl (trailing-lowest k (w / 2) (omega (arith, pow-succ' 2 k)))
   where
-    go : (d : ℕ) → w % 2 ≡ d → (w / 2 ≢ 0 → (trailingZeros k (w / 2) < k) × LowestBit (w / 2) (trailingZeros k (w / 2))) → (under d (trailingZeros k (w / 2)) < suc k) × LowestBit w (under d (trailingZeros k (w / 2)))
+    go :
+        (d : ℕ) → w % 2 ≡ d → (w / 2 ≢ 0 → (trailingZeros k (w / 2) < k) × LowestBit (w / 2) (trailingZeros k (w / 2)))
+        → (under d (trailingZeros k (w / 2)) < suc k) × LowestBit w (under d (trailingZeros k (w / 2)))
     go zero e r =
         let h = r (λ z. n (omega arith)) in
         (omega arith, record { own = bit-suc w _ ∙ h .1 .own; least = λ y b. up y b (h .1) })

@@ -126,7 +126,9 @@ module _ {A : Type 0} (f : A → Bool) where
   filter-mem [] y m = elim m [ ]
   filter-mem (x ∷ xs) y m = go (f x) refl m (filter-mem xs y)
     where
-      go : (t : Bool) → f x ≡ t → List·Memᴰ y (elim t [ true ↦ x ∷ filter f xs | false ↦ filter f xs ]) → (List·Memᴰ y (filter f xs) → List·Memᴰ y xs × (f y ≡ true)) → List·Memᴰ y (x ∷ xs) × (f y ≡ true)
+      go :
+          (t : Bool) → f x ≡ t → List·Memᴰ y (elim t [ true ↦ x ∷ filter f xs | false ↦ filter f xs ])
+          → (List·Memᴰ y (filter f xs) → List·Memᴰ y xs × (f y ≡ true)) → List·Memᴰ y (x ∷ xs) × (f y ≡ true)
       go true p (List·Memᴰ·head h) rest = (List·Memᴰ·head h, ap f h ∙ p)
       go true p (List·Memᴰ·tail m) rest = let r = rest m in (List·Memᴰ·tail (r .0), r .1)
       go false p m rest = let r = rest m in (List·Memᴰ·tail (r .0), r .1)
@@ -148,7 +150,9 @@ unfolding filter
 filter-length f g [] h = zero-le
 filter-length {A} f g (x ∷ xs) h = go (f x) (g x) refl refl (filter-length f g xs (λ y m. h y (List·Memᴰ·tail m)))
   where
-    go : (s t : Bool) → f x ≡ s → g x ≡ t → length (filter f xs) ≤ length (filter g xs) → length {A = A} (elim s [ true ↦ x ∷ filter f xs | false ↦ filter f xs ]) ≤ length {A = A} (elim t [ true ↦ x ∷ filter g xs | false ↦ filter g xs ])
+    go :
+        (s t : Bool) → f x ≡ s → g x ≡ t → length (filter f xs) ≤ length (filter g xs)
+        → length {A = A} (elim s [ true ↦ x ∷ filter f xs | false ↦ filter f xs ]) ≤ length {A = A} (elim t [ true ↦ x ∷ filter g xs | false ↦ filter g xs ])
     go true true p q r = suc-le-suc r
     go true false p q r = absurd (true≢false (sym (h x (List·Memᴰ·head refl) p) ∙ q))
     go false true p q r = le-trans r (le-suc _)

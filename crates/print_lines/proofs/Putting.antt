@@ -34,10 +34,14 @@ put-over x old at {new} h e = record {
         ∙ omega (arith, front, length-drop at old, length-drop (length x) (drop at old))
 
 -- .. in a part of the buffer that was lent, and is back
-pub put-part : (x old : List ℕ) (at : ℕ) {ys : List ℕ} → at + length x ≤ length old → ys ≡ over x (take (length old - at) (drop at old)) → Put x at old (at + length x) (take at old ++ (ys ++ drop (length old - at) (drop at old)))
+pub put-part :
+    (x old : List ℕ) (at : ℕ) {ys : List ℕ} → at + length x ≤ length old → ys ≡ over x (take (length old - at) (drop at old))
+    → Put x at old (at + length x) (take at old ++ (ys ++ drop (length old - at) (drop at old)))
 put-part x old at h e = put-over x old at h (part-put x old at e)
 
-pub put-copied : (x old : List ℕ) (at : ℕ) {ys : List ℕ} → at + length x ≤ length old → ys ≡ take (length x) x ++ drop (length x) (take (length old - at) (drop at old)) → Put x at old (at + length x) (take at old ++ (ys ++ drop (length old - at) (drop at old)))
+pub put-copied :
+    (x old : List ℕ) (at : ℕ) {ys : List ℕ} → at + length x ≤ length old → ys ≡ take (length x) x ++ drop (length x) (take (length old - at) (drop at old))
+    → Put x at old (at + length x) (take at old ++ (ys ++ drop (length old - at) (drop at old)))
 put-copied x old at h e = put-part x old at h (copied x _ e)
 
 pub put-hexed : (bytes old : List ℕ) (at : ℕ) {ys : List ℕ} → at + 3 * length bytes ≤ length old → ys ≡ over (hexText bytes) (take (length old - at) (drop at old))

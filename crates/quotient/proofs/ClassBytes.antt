@@ -84,7 +84,9 @@ module _ (t : Table) (m : List ℕ) (c : ℕ) where
   unfolding flagged isAccepting
   finally = refl
 
-  pub byte-made : {x y : Bool} {i a : ℕ} → x ≡ memberHas (flagged 1) t m c → i ≡ bitOf x → y ≡ memberHas (flagged 2) t m c → a ≡ bitOf y → {k : ℕ} → k ≡ classMark t m c → i + 2 * a + 4 * k ≡ classByte t m c
+  pub byte-made :
+      {x y : Bool} {i a : ℕ} → x ≡ memberHas (flagged 1) t m c → i ≡ bitOf x → y ≡ memberHas (flagged 2) t m c → a ≡ bitOf y → {k : ℕ} → k ≡ classMark t m c
+      → i + 2 * a + 4 * k ≡ classByte t m c
   unfolding classByte
   byte-made d e f g h = λ j. (e ∙ ap bitOf (d ∙ initially)) j + 2 * (g ∙ ap bitOf (f ∙ finally)) j + 4 * h j
 

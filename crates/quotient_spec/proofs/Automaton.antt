@@ -83,7 +83,9 @@ module _ (t : Table) (m : List ℕ) (w : Wide t) (n : length m ≡ count t) (k :
   quotient-accepting = has-bit t m n (λ b. b / 2 % 2) refl (class-accepting t m)
 
   -- "the members' mark": the classes' marks are the members', where joined states have one mark
-  pub quotient-mark : ((p q j : ℕ) → JoinedBy t m p q → automaton t .mark p j ↔ automaton t .mark q j) → (c j : ℕ) → automaton (quotientTable t m) .mark c j ↔ quotient (automaton t) (classOf m) .mark c j
+  pub quotient-mark :
+      ((p q j : ℕ) → JoinedBy t m p q → automaton t .mark p j ↔ automaton t .mark q j) → (c j : ℕ)
+      → automaton (quotientTable t m) .mark c j ↔ quotient (automaton t) (classOf m) .mark c j
   unfolding quotient
   quotient-mark alike c j = (
     λ (l, e).

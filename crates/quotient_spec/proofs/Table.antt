@@ -68,7 +68,9 @@ module _ (L : Limits) (t : Table) (m : List ℕ) (f : WellFormed L t) (n : lengt
           let b = class-initial t m (classOf m (s .0)) (class-below m (s .0) (omega (arith, s .1))) .1 (record { state = s .0; within = s .1; class = refl; holds = ap (λ b. b % 2) (s .2) ∙ eqb-true _ _ h }) in
           any-of isInitial ((quotientTable t m) .states) _ (getD-mem ((quotientTable t m) .states) (classOf m (s .0)) 0 c) (eq-eqb _ _ b)
 
-  section-fits : (kind : ℕ) (rs : List (List ℕ)) → ((r : List ℕ) → List·Memᴰ r rs → recordFits t kind r ≡ true) → (r : List ℕ) → List·Memᴰ r (images m rs) → recordFits (quotientTable t m) kind r ≡ true
+  section-fits :
+      (kind : ℕ) (rs : List (List ℕ)) → ((r : List ℕ) → List·Memᴰ r rs → recordFits t kind r ≡ true) → (r : List ℕ) → List·Memᴰ r (images m rs)
+      → recordFits (quotientTable t m) kind r ≡ true
   section-fits kind rs h r i = go (images-mem m rs r .0 i)
     where
       go : (s : List ℕ) × List·Memᴰ s rs × (image m s ≡ r) → recordFits (quotientTable t m) kind r ≡ true

@@ -53,7 +53,9 @@ returns-marked s f m = fates-same (kept f) (live f) m (records 4 s) (λ r d. sym
 
 -- ---- a section of a well-formed table
 
-fitting : {L : Limits} {t : Table} (wf : WellFormed L t) (kind w : ℕ) (s m : List ℕ) {rs : List (List ℕ)} → 3 ≤ w → w ≤ 4 → Proper t m → records w s ≡ rs → Fit t kind w rs → ascend rs ≡ true → Fitting w s m
+fitting :
+    {L : Limits} {t : Table} (wf : WellFormed L t) (kind w : ℕ) (s m : List ℕ) {rs : List (List ℕ)} → 3 ≤ w → w ≤ 4 → Proper t m → records w s ≡ rs
+    → Fit t kind w rs → ascend rs ≡ true → Fitting w s m
 fitting {L} {t} wf kind w s m {rs} a b p e f o = record {
   moves = a;
   returns = b;

@@ -62,7 +62,9 @@ module _ (i c r f m : List ℕ) where
     pub returns-room : {end out1 : List ℕ} {at : ℕ} → Writing behindCalls end out1 at → recordsIn 4 r ≤ length (take (length out1 - at) (drop at out1))
     returns-room w = omega (arith, part-room behindCalls [] w (sym (append-nil behindCalls)), length-fates (kept f) m [] (records 4 r))
 
-    pub calls-told : {out1 ys : List ℕ} {at : ℕ} → Writing behindInternals (over (partedFates i c r f m) out) out1 at → ys ≡ over (sectionFates (kept f) m (records 3 c)) (take (length out1 - at) (drop at out1))
+    pub calls-told :
+        {out1 ys : List ℕ} {at : ℕ} → Writing behindInternals (over (partedFates i c r f m) out) out1 at
+        → ys ≡ over (sectionFates (kept f) m (records 3 c)) (take (length out1 - at) (drop at out1))
         → Writing behindCalls (over (partedFates i c r f m) out) (take at out1 ++ (ys ++ drop (length out1 - at) (drop at out1))) (at + length c / 3)
     calls-told {out1} {ys} {at} w e = written (sectionFates (kept f) m (records 3 c)) w refl (marks-long 3 c f m) (part-put (sectionFates (kept f) m (records 3 c)) out1 at e)
 
@@ -71,7 +73,9 @@ module _ (i c r f m : List ℕ) where
     returns-told {out1} {ys} {at} w e = finished (written behindCalls w (sym (append-nil behindCalls)) (marks-long 4 r f m) (part-put behindCalls out1 at e))
 
     -- the marks are counted
-    pub marks-there : length i / 3 + length c / 3 + length r / 4 ≤ length out → {out' : List ℕ} → out' ≡ over (partedFates i c r f m) out → length i / 3 + length c / 3 + length r / 4 ≡ length (take (length i / 3 + length c / 3 + length r / 4) out')
+    pub marks-there :
+        length i / 3 + length c / 3 + length r / 4 ≤ length out → {out' : List ℕ} → out' ≡ over (partedFates i c r f m) out
+        → length i / 3 + length c / 3 + length r / 4 ≡ length (take (length i / 3 + length c / 3 + length r / 4) out')
     marks-there h {out'} e = sym (length-take-le (length i / 3 + length c / 3 + length r / 4) out' (omega (arith, ap length e, length-over (partedFates i c r f m) out (omega (arith, parted-long)))))
 
     pub told : length i / 3 + length c / 3 + length r / 4 ≤ length out → {out' : List ℕ} {k d x : ℕ} → out' ≡ over (partedFates i c r f m) out

@@ -84,7 +84,9 @@ module _ (L : Limits) (b list map out m : List ℕ) (g u : ℕ) (z : Bool) where
     unfolding onWritten
     deliver-refused f = on-answer f
 
-    deliver-written : {l : ℕ} → r ≡ Length l → record { answer = Delivered (classes m) g (length (shortWords (tableOf b))) l (joinedPairs (count (tableOf b)) m) u z; list = over (shortWords (tableOf b)) list; map = over m map; out = o } ≡ deliver L b list map out m g u z
+    deliver-written :
+        {l : ℕ} → r ≡ Length l
+        → record { answer = Delivered (classes m) g (length (shortWords (tableOf b))) l (joinedPairs (count (tableOf b)) m) u z; list = over (shortWords (tableOf b)) list; map = over m map; out = o } ≡ deliver L b list map out m g u z
     unfolding onWritten
     deliver-written f = on-answer f
 
@@ -96,7 +98,9 @@ module _ (L : Limits) (b list map out v : List ℕ) (n g u : ℕ) (z : Bool) {fo
   pub not-delivered : {k : ℕ} → r ≡ NotWritten k → record { answer = Refused k; list = over (shortWords (tableOf b)) list; map = map; out = o } ≡ deliver L b list map out (mapOf v n) g u z
   not-delivered f = deliver-refused L b list map out (mapOf v n) g u z e' f
 
-  pub delivered : {l w j : ℕ} {m : List ℕ} → HeldFor (tableOf b) n v → j ≡ notFalse v → r ≡ Length l → w ≡ length (shortWords (tableOf b)) → m ≡ take (length (take n (found .map))) (take n (found .map)) ++ drop (length (take n (found .map))) map
+  pub delivered :
+      {l w j : ℕ} {m : List ℕ} → HeldFor (tableOf b) n v → j ≡ notFalse v → r ≡ Length l → w ≡ length (shortWords (tableOf b))
+      → m ≡ take (length (take n (found .map))) (take n (found .map)) ++ drop (length (take n (found .map))) map
       → record { answer = Delivered (found .count) g w l j u z; list = over (shortWords (tableOf b)) list; map = m; out = o } ≡ deliver L b list map out (mapOf v n) g u z
   unfolding over
   delivered {l} {w} {j} {m} d i f p q =
@@ -154,7 +158,9 @@ module _ {b ws : List ℕ} {n : ℕ} (h : Solvable b ws n) where
       }
 
   -- the end over the short list and the classes is that over the full list
-  same : (r : Ending) {v : List ℕ} (w : List ℕ) (u budget : ℕ) → v ≡ replicate (pairs n) 2 → EndsWith (searchTried (withTriangles ws n) (length v) budget) r w u → EndsWith (triedOfTable b budget) r w u
+  same :
+      (r : Ending) {v : List ℕ} (w : List ℕ) (u budget : ℕ) → v ≡ replicate (pairs n) 2 → EndsWith (searchTried (withTriangles ws n) (length v) budget) r w u
+      → EndsWith (triedOfTable b budget) r w u
   unfolding triedOfTable
   same r w u budget e f =
       subst (λ (t : Tried). EndsWith t r w u)
@@ -182,7 +188,9 @@ module _ {b ws : List ℕ} {n : ℕ} (h : Solvable b ws n) (budget : ℕ) (w : L
   ends-held (Spent k) m p q e = held-for h budget (ap (λ (t : Tried). t .trials .held) e)
 
   module _ (L : Limits) (before map out : List ℕ) where
-    pub ends-delivered : (r : Ending) (m : Made) → MadeBy r m → m .absent ≡ false → EndsWith (triedOfTable b budget) r w u → deliver L b before map out (mapOf w n) (m .guesses) u (m .spent) ≡ afterSearch L b before map out (triedOfTable b budget)
+    pub ends-delivered :
+        (r : Ending) (m : Made) → MadeBy r m → m .absent ≡ false → EndsWith (triedOfTable b budget) r w u
+        → deliver L b before map out (mapOf w n) (m .guesses) u (m .spent) ≡ afterSearch L b before map out (triedOfTable b budget)
     unfolding afterSearch
     ends-delivered (Found k) m p q e = rw (p, h .states) (sym (ap (afterSearch L b before map out) e))
     ends-delivered (Absent k) m p q e = absurd (true≢false (sym (ap (λ (y : Made). y .absent) p) ∙ q))
@@ -263,7 +271,10 @@ module _ (b list : List ℕ) where
           (λ i. record { answer = Refused (t .0 i); list = t .1 i; map = map; out = out }) ∙ refuses (beforeSearch L b list map) _ (λ k. record { answer = Refused k; list = list; map = map; out = out }) n (λ z. absurd (omega arith))
 
       -- the list was written, and the rest of reduce gave its answer
-      pub list-solved : {c w : ℕ} {s : Reduction} {m o : List ℕ} → r ≡ Words c w → ((before : List ℕ) → record { answer = s; list = over (shortWords (tableOf b)) before; map = m; out = o } ≡ afterSearch L b before map out (triedOfTable b budget)) → record { answer = s; list = l; map = m; out = o } ≡ reduceOf L b budget list map out
+      pub list-solved :
+          {c w : ℕ} {s : Reduction} {m o : List ℕ} → r ≡ Words c w
+          → ((before : List ℕ) → record { answer = s; list = over (shortWords (tableOf b)) before; map = m; out = o } ≡ afterSearch L b before map out (triedOfTable b budget))
+          → record { answer = s; list = l; map = m; out = o } ≡ reduceOf L b budget list map out
       unfolding ListedAs beforeSearch reduceOf
       list-solved {c} {w} {s} {m} {o} f h =
           let t = told f in

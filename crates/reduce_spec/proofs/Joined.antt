@@ -70,7 +70,9 @@ module _ (f : ℕ → ℕ) where
       ∙ ap (λ (k : ℕ). k + length (filter (λ p. eqb (f p) (f n)) (upto n))) (rows n)
       ∙ sym (last n)
     where
-      last : (n : ℕ) → length (concatMap (λ q. filter (λ p. eqb (f p) (f q)) (upto q)) (upto n ++ (n ∷ []))) ≡ length (concatMap (λ q. filter (λ p. eqb (f p) (f q)) (upto q)) (upto n)) + length (filter (λ p. eqb (f p) (f n)) (upto n))
+      last :
+          (n : ℕ)
+          → length (concatMap (λ q. filter (λ p. eqb (f p) (f q)) (upto q)) (upto n ++ (n ∷ []))) ≡ length (concatMap (λ q. filter (λ p. eqb (f p) (f q)) (upto q)) (upto n)) + length (filter (λ p. eqb (f p) (f n)) (upto n))
       last n =
           ap length (concatMap-append (λ q. filter (λ p. eqb (f p) (f q)) (upto q)) (upto n) (n ∷ []) ∙ ap (λ (xs : List ℕ). concatMap (λ q. filter (λ p. eqb (f p) (f q)) (upto q)) (upto n) ++ xs) (append-nil (filter (λ p. eqb (f p) (f n)) (upto n))))
           ∙ length-append (concatMap (λ q. filter (λ p. eqb (f p) (f q)) (upto q)) (upto n)) (filter (λ p. eqb (f p) (f n)) (upto n))
@@ -122,7 +124,9 @@ module _ (L : Limits) (t : Table) (wf : WellFormed L t) where
 
   -- ---- "No accepted map joins more than U pairs"
 
-  pub ceiling-pairs : (budget : ℕ) → Formed (clauseList t) (pairs (count t)) → (m : List ℕ) → RaqMap t m → joinedPairs (count t) m ≤ ceilingOf (searchTried (clauseList t) (pairs (count t)) budget .trials .ceiling)
+  pub ceiling-pairs :
+      (budget : ℕ) → Formed (clauseList t) (pairs (count t)) → (m : List ℕ) → RaqMap t m
+      → joinedPairs (count t) m ≤ ceilingOf (searchTried (clauseList t) (pairs (count t)) budget .trials .ceiling)
   ceiling-pairs budget formed m raq =
       let few = ceiling-most (clauseList t) (pairs (count t)) budget formed (assignmentOf (classOf m) (count t)) (map-model L t wf (classOf m) raq) in
       omega (arith, joined-count (count t) m)

@@ -95,7 +95,9 @@ module _ (L : Limits) (b : List ℕ) (budget : ℕ) (list map out : List ℕ) wh
 
   pub data Ways : Reduced → Type 0 where
     refused-first : (k : ℕ) → beforeSearch L b list map ≡ k → k ≢ 0 → Ways (record { answer = Refused k; list = list; map = map; out = out })
-    refused-short : (v : List ℕ) (g u : ℕ) (z : Bool) → Held v g u z → length out < length (quotientBytes b (mapOf v (count (tableOf b)))) → Ways (record { answer = Refused 21; list = over (shortWords (tableOf b)) list; map = map; out = out })
+    refused-short :
+        (v : List ℕ) (g u : ℕ) (z : Bool) → Held v g u z → length out < length (quotientBytes b (mapOf v (count (tableOf b))))
+        → Ways (record { answer = Refused 21; list = over (shortWords (tableOf b)) list; map = map; out = out })
     delivers : (v : List ℕ) (g u : ℕ) (z : Bool) → Held v g u z → length (quotientBytes b (mapOf v (count (tableOf b)))) ≤ length out → Ways (record {
       answer =
           Delivered

@@ -13,7 +13,9 @@ use Rattle.sat_counters.specs.Counters.{CountersOf}
 use Rattle.sat_counters.specs.Earlier.{earlier, CountersBefore}
 use Rattle.sat_counters.proofs.Earlier.{one-there}
 
-pub behind-undone : {ws w s words v : List ℕ} {mark more x : ℕ} → mark < more → more ≤ length s → Undone w s mark more v x → CountersBefore ws w s mark more words → CountersBefore ws v s mark (mark + 1) words
+pub behind-undone :
+    {ws w s words v : List ℕ} {mark more x : ℕ} → mark < more → more ≤ length s → Undone w s mark more v x → CountersBefore ws w s mark more words
+    → CountersBefore ws v s mark (mark + 1) words
 unfolding unsetting
 behind-undone {ws} {w} {s} {words} {v} {mark} {more} {x} h room n b = record {
   tallied = subst (λ (u : List ℕ). CountersOf ws u words) (sym then) (b .tallied);

@@ -30,7 +30,9 @@ unset-two (y ∷ ys) zero = go (eqb y 2)
     go false = omega arith
 unset-two (y ∷ ys) (suc x) = go (eqb y 2) (unset-two ys x)
   where
-    go : (t : Bool) → unsetCount (set ys x 2) ≤ suc (unsetCount ys) → elim t as (λ _. ℕ) [ true ↦ suc (unsetCount (set ys x 2)) | false ↦ unsetCount (set ys x 2) ] ≤ suc (elim t as (λ _. ℕ) [ true ↦ suc (unsetCount ys) | false ↦ unsetCount ys ])
+    go :
+        (t : Bool) → unsetCount (set ys x 2) ≤ suc (unsetCount ys)
+        → elim t as (λ _. ℕ) [ true ↦ suc (unsetCount (set ys x 2)) | false ↦ unsetCount (set ys x 2) ] ≤ suc (elim t as (λ _. ℕ) [ true ↦ suc (unsetCount ys) | false ↦ unsetCount ys ])
     go true h = omega (arith, h)
     go false h = h
 
@@ -112,7 +114,9 @@ module _ {v t w s : List ℕ} {count more at : ℕ} (g : Grown v t count w s mor
 pub one-there : (t : List ℕ) (at : ℕ) → at < length t → slice at (at + 1) t ≡ getD t at 0 ∷ []
 one-there t at h = slice-cons at (at + 1) t 0 (omega arith) (omega (arith, h)) ∙ rw (← add-one at, slice-empty)
 
-pub behind-guess : {ws v words : List ℕ} (t : List ℕ) (at x k : ℕ) → CountersOf ws v words → at + unsetCount v ≡ length v → valueOf v x ≡ 2 → at < length t → CountersBefore ws (set v x k) (set t at x) at (at + 1) words
+pub behind-guess :
+    {ws v words : List ℕ} (t : List ℕ) (at x k : ℕ) → CountersOf ws v words → at + unsetCount v ≡ length v → valueOf v x ≡ 2 → at < length t
+    → CountersBefore ws (set v x k) (set t at x) at (at + 1) words
 behind-guess {ws} {v} {words} t at x k b c e h = record { tallied = subst (λ (u : List ℕ). CountersOf ws u words) (sym then) b; counted = rw (then, length-set) c }
   where
     then : earlier (set v x k) (set t at x) at (at + 1) ≡ v

@@ -35,7 +35,9 @@ unfolding weigh filter
 weigh-standing v [] = refl
 weigh-standing v (l ∷ d) = go (isFalse v l) (weigh-standing v d)
   where
-    go : (t : Bool) → weigh v d ≡ total (standing v d) → elim t as (λ _. ℕ) [ true ↦ weigh v d | false ↦ weight l + weigh v d ] ≡ total (elim (not t) as (λ _. List ℕ) [ true ↦ l ∷ standing v d | false ↦ standing v d ])
+    go :
+        (t : Bool) → weigh v d ≡ total (standing v d)
+        → elim t as (λ _. ℕ) [ true ↦ weigh v d | false ↦ weight l + weigh v d ] ≡ total (elim (not t) as (λ _. List ℕ) [ true ↦ l ∷ standing v d | false ↦ standing v d ])
     go true e = e
     go false e = ap (λ (n : ℕ). weight l + n) e
 

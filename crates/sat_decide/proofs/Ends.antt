@@ -52,7 +52,9 @@ use Rattle.equality_spread.proofs.Triangles.{with-formed, triangles-horn, unset
 -- in which as many variables are set as stand before it on the trail, every variable below the guessed one is set, and every clause is settled
 pub data Stands (cs : List (List ℕ)) (n : ℕ) (ms : List ℕ) : List ℕ → List ℕ → ℕ → List Guess → Type 0 where
   none : {v p : List ℕ} → Stands cs n ms v p 0 []
-  one : {v p u : List ℕ} {d m x : ℕ} {gs : List Guess} → m ≡ getD ms d 0 → m < length p → x ≡ getD p m 0 → unsetting v (drop m p) ≡ u → Values n u → m + unsetCount u ≡ n → ((j : ℕ) → j < x → valueOf u j ≢ 2) → AtRest cs u
+  one :
+      {v p u : List ℕ} {d m x : ℕ} {gs : List Guess} → m ≡ getD ms d 0 → m < length p → x ≡ getD p m 0 → unsetting v (drop m p) ≡ u → Values n u
+      → m + unsetCount u ≡ n → ((j : ℕ) → j < x → valueOf u j ≢ 2) → AtRest cs u
       → Stands cs n ms u (take m p) d gs → Stands cs n ms v p (suc d) (guessOf u x ∷ gs)
 
 module _ {cs : List (List ℕ)} {n : ℕ} {ms : List ℕ} where
@@ -176,7 +178,9 @@ set-lower v x k h n l j b = go (ℕ-discrete j x)
 abbrev trialsOf : List ℕ → ℕ → Trials
 trialsOf held u = record { held = held; ceiling = some u }
 
-undo-leads : {cs : List (List ℕ)} {n b k x : ℕ} {v u : List ℕ} {gs : List Guess} {t : Trials} {e : Tried} → Values n v → Closes cs v breaks → TriesTo cs n b (goes (stateOf (set u x 0) gs k)) t e → TriesTo cs n b (goes (stateOf v (guessOf u x ∷ gs) k)) t e
+undo-leads :
+    {cs : List (List ℕ)} {n b k x : ℕ} {v u : List ℕ} {gs : List Guess} {t : Trials} {e : Tried} → Values n v → Closes cs v breaks
+    → TriesTo cs n b (goes (stateOf (set u x 0) gs k)) t e → TriesTo cs n b (goes (stateOf v (guessOf u x ∷ gs) k)) t e
 unfolding turnTo undo
 undo-leads z h l = turn breaks z h l
 
@@ -236,7 +240,10 @@ ends-outcome cs n b (Spent k) w u e = sym (ap (λ (e : Tried). e .outcome) e) �
 -- ---- the first closing
 
 -- values that were closed close to themselves; the ceiling is that of the first rest
-rested-leads : {cs : List (List ℕ)} {n b k : ℕ} {v w held : List ℕ} {gs : List Guess} {e : Tried} → Values n v → Closes cs v (rests w) → TriesTo cs n b (goes (stateOf w gs k)) (trialsOf held (notFalse w)) e → TriesTo cs n b (goes (stateOf v gs k)) (record { held = held; ceiling = none-yet }) e
+rested-leads :
+    {cs : List (List ℕ)} {n b k : ℕ} {v w held : List ℕ} {gs : List Guess} {e : Tried} → Values n v → Closes cs v (rests w)
+    → TriesTo cs n b (goes (stateOf w gs k)) (trialsOf held (notFalse w)) e
+    → TriesTo cs n b (goes (stateOf v gs k)) (record { held = held; ceiling = none-yet }) e
 unfolding rested ceilingBy
 rested-leads {cs} {n} {b} {k} {v} {w} {held} {gs} {e} z h (turn c y i l) =
     turn (rests w) z h (subst (λ (x : Closed). TriesTo cs n b (turnTo b gs k x) (closedTrials cs x (trialsOf held (notFalse w))) e) (closes-one cs w c (rests w) i itself) l)
@@ -669,7 +676,9 @@ module _ {cs : List (List ℕ)} {v t ms w s : List ℕ} {n b most from count dep
     abbrev best : List ℕ
     best = better cs (onlyTrue w) (i .held)
 
-    rests-with : (e : Tried) → TriesTo cs n b (decide b (stateOf w (i .guesses) made) (lowestUnset w 0)) (trialsOf best most) e → TriesTo cs n b (goes (stateOf v (i .guesses) made)) (trialsOf (i .held) most) e
+    rests-with :
+        (e : Tried) → TriesTo cs n b (decide b (stateOf w (i .guesses) made) (lowestUnset w 0)) (trialsOf best most) e
+        → TriesTo cs n b (goes (stateOf v (i .guesses) made)) (trialsOf (i .held) most) e
     unfolding turnTo rested ceilingBy
     rests-with e l = turn (rests w) values least l
 
@@ -747,10 +756,14 @@ module _ {cs : List (List ℕ)} {v t ms w s : List ℕ} {n b most from count dep
           pick y (inl k) = after-below y k
           pick y (inr k) = omega (arith, eq-of-singleton k, f .inside, after-size)
 
-          again : (e : Tried) → TriesTo cs n b (goes (stateOf (set w x 1) (guessOf w x ∷ i .guesses) (made + 1))) (trialsOf best most) e → TriesTo cs n b (decide b (stateOf w (i .guesses) made) (lowestUnset w 0)) (trialsOf best most) e
+          again :
+              (e : Tried) → TriesTo cs n b (goes (stateOf (set w x 1) (guessOf w x ∷ i .guesses) (made + 1))) (trialsOf best most) e
+              → TriesTo cs n b (decide b (stateOf w (i .guesses) made) (lowestUnset w 0)) (trialsOf best most) e
           again e l = unfold decide in rw (first, ne-eqb made b p, decide) l
 
-      pub turn-guess : (made ≡ b → ⊥) → {l m last : ℕ} {u r joined apart : List ℕ} → l ≡ 2 * x → Forced m w s more l u r joined apart last → Turning cs n b most u r (set ms depth more) more last (depth + 1) (made + 1) (x + 1)
+      pub turn-guess :
+          (made ≡ b → ⊥) → {l m last : ℕ} {u r joined apart : List ℕ} → l ≡ 2 * x → Forced m w s more l u r joined apart last
+          → Turning cs n b most u r (set ms depth more) more last (depth + 1) (made + 1) (x + 1)
       turn-guess p {l} z h =
           let half : l / 2 ≡ x = omega arith in
           let sign : 1 - l % 2 ≡ 1 = omega arith in
@@ -768,7 +781,9 @@ satisfied-append (c ∷ cs) ds a = ap (λ (t : Bool). any (isRight a) c && t) (s
     and-assoc false t u = refl
 
 -- so only the list is to be tried
-pub short-trial : (ws : List ℕ) (m : ℕ) {n : ℕ} → Formed (withTriangles ws m) n → (u : List ℕ) → Values n u → AtRest (withTriangles ws m) u → satisfied (withTriangles ws m) (onlyTrue u) ≡ satisfied (clausesIn ws) (onlyTrue u)
+pub short-trial :
+    (ws : List ℕ) (m : ℕ) {n : ℕ} → Formed (withTriangles ws m) n → (u : List ℕ) → Values n u → AtRest (withTriangles ws m) u
+    → satisfied (withTriangles ws m) (onlyTrue u) ≡ satisfied (clausesIn ws) (onlyTrue u)
 short-trial ws m f u z q = satisfied-append (clausesIn ws) (triangles m) (onlyTrue u) ∙ rw group (and-left (satisfied (clausesIn ws) (onlyTrue u)))
   where
     group : satisfied (triangles m) (onlyTrue u) ≡ true

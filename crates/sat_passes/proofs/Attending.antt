@@ -28,7 +28,9 @@ module _ (cs ds : List (List ℕ)) {x : ℕ} {v t w s : List ℕ} {start count :
   attended-broken e qs = record { worked = worked-part ds (cs ++ ds) (to-ds cs ds) (k .worked); settles = λ f. absurd (true≢false (sym e ∙ f)) }
 
   -- the second group, on what the first has set
-  attended-then : {u r : List ℕ} {more : ℕ} {isBroken′ : Bool} (qs : List ℕ) → isBroken ≡ false → SeenTo cs x (qs ++ k .worked .grown .new) w s count u r isBroken′ more → SeenTo (cs ++ ds) x qs v t start u r isBroken′ more
+  attended-then :
+      {u r : List ℕ} {more : ℕ} {isBroken′ : Bool} (qs : List ℕ) → isBroken ≡ false → SeenTo cs x (qs ++ k .worked .grown .new) w s count u r isBroken′ more
+      → SeenTo (cs ++ ds) x qs v t start u r isBroken′ more
   unfolding worked-trans worked-part
   attended-then {u = u} {isBroken′ = isBroken′} qs e h = record {
     worked = worked-trans (worked-part ds (cs ++ ds) (to-ds cs ds) (k .worked)) (worked-part cs (cs ++ ds) (to-cs cs ds) (h .worked));
@@ -66,5 +68,8 @@ module _ {cs ds : List (List ℕ)} {v t w s : List ℕ} {start count at : ℕ} (
     then-set = set-on first-ready (k .worked) (next-queued (j .queueing) h)
 
     -- and the second
-    pub both-seen : {u′ r′ : List ℕ} {more : ℕ} {isBroken′ : Bool} → isBroken ≡ false → SeenTo cs (getD s at 0) (slice (at + 1) count s ++ k .worked .grown .new) u r mid u′ r′ isBroken′ more → SeenTo (cs ++ ds) (getD s at 0) (slice (at + 1) count s) w s count u′ r′ isBroken′ more
+    pub both-seen :
+        {u′ r′ : List ℕ} {more : ℕ} {isBroken′ : Bool} → isBroken ≡ false
+        → SeenTo cs (getD s at 0) (slice (at + 1) count s ++ k .worked .grown .new) u r mid u′ r′ isBroken′ more
+        → SeenTo (cs ++ ds) (getD s at 0) (slice (at + 1) count s) w s count u′ r′ isBroken′ more
     both-seen e q = attended-then cs ds k (slice (at + 1) count s) e q

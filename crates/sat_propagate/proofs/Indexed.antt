@@ -146,7 +146,9 @@ module _ {ws : List ℕ} {ds : List (List ℕ)} {v t w s : List ℕ} {start coun
               unfolding x qs
               seen = record { worked = g .worked; settles = λ q c mc m mm p. go q c mc m mm p (ℕ-discrete m l) }
                 where
-                  here : isBroken′ ≡ false → (c : List ℕ) → List·Memᴰ c (clausesIn ws) → (i : ℕ) → i < length (clausesIn ws) → numbered ws i ≡ c → List·Memᴰ i (placesOf firsts clauses l) → Dec (getD words′ i 0 < 4096) → SettledOr u′ (qs ++ g .worked .grown .new) c
+                  here :
+                      isBroken′ ≡ false → (c : List ℕ) → List·Memᴰ c (clausesIn ws) → (i : ℕ) → i < length (clausesIn ws) → numbered ws i ≡ c
+                      → List·Memᴰ i (placesOf firsts clauses l) → Dec (getD words′ i 0 < 4096) → SettledOr u′ (qs ++ g .worked .grown .new) c
                   here q c mc i lt is mi (yes low) = settled-or-behind qs (rw is at (g .settles q i (o .every i (rw lent mi) low)))
                   here q c mc i lt is mi (no high) =
                       let heavy : 4096 ≤ weigh y (numbered ws i) = omega (arith, after .each i lt, high) in

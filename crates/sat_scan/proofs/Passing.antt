@@ -44,11 +44,15 @@ module _ {ws v₀ t₀ : List ℕ} {start : ℕ} (ready : Ready (clausesIn ws) v
       pass-broken e = record { worked = worked-broken ready (i .worked) (clause-in (i .before) h) e; waiting = λ b. absurd (true≢false b) }
 
       -- the clause is seen to
-      on : {v′ t′ : List ℕ} {count′ : ℕ} (p : Worked (clausesIn ws) v₀ t₀ start v′ t′ false count′) → ((c : List ℕ) → SettledOr v (i .worked .grown .new) c → SettledOr v′ (p .grown .new) c) → SettledOr v′ (p .grown .new) (clauseAt ws at)
+      on :
+          {v′ t′ : List ℕ} {count′ : ℕ} (p : Worked (clausesIn ws) v₀ t₀ start v′ t′ false count′)
+          → ((c : List ℕ) → SettledOr v (i .worked .grown .new) c → SettledOr v′ (p .grown .new) c) → SettledOr v′ (p .grown .new) (clauseAt ws at)
           → Passing ws v₀ t₀ start v′ t′ count′ (at + 1 + getD ws at 0)
       on {v′} p k s = record { before = before-next (i .before) h; worked = p; passed = λ c m. go c (i .passed c m) }
         where
-          pick : (c : List ℕ) → (c ≡ clauseAt ws at) ⊎ List·Memᴰ c (clausesIn (drop (at + 1 + getD ws at 0) ws)) → List·Memᴰ c (clausesIn (drop (at + 1 + getD ws at 0) ws)) ⊎ SettledOr v′ (p .grown .new) c
+          pick :
+              (c : List ℕ) → (c ≡ clauseAt ws at) ⊎ List·Memᴰ c (clausesIn (drop (at + 1 + getD ws at 0) ws))
+              → List·Memᴰ c (clausesIn (drop (at + 1 + getD ws at 0) ws)) ⊎ SettledOr v′ (p .grown .new) c
           pick c (inl e) = inr (subst (SettledOr v′ (p .grown .new)) (sym e) s)
           pick c (inr m) = inl m
 
@@ -59,7 +63,9 @@ module _ {ws v₀ t₀ : List ℕ} {start : ℕ} (ready : Ready (clausesIn ws) v
       pub pass-quiet : quiet ≡ seen v (clauseAt ws at) → Passing ws v₀ t₀ start v t count (at + 1 + getD ws at 0)
       pass-quiet e = on (i .worked) (λ c s. s) (asked-quiet v (clauseAt ws at) (i .worked .grown .new) e)
 
-      pub pass-stored : {l n more : ℕ} {v′ t′ joined apart : List ℕ} → forcing l ≡ seen v (clauseAt ws at) → Forced n v t count l v′ t′ joined apart more → Passing ws v₀ t₀ start v′ t′ more (at + 1 + getD ws at 0)
+      pub pass-stored :
+          {l n more : ℕ} {v′ t′ joined apart : List ℕ} → forcing l ≡ seen v (clauseAt ws at) → Forced n v t count l v′ t′ joined apart more
+          → Passing ws v₀ t₀ start v′ t′ more (at + 1 + getD ws at 0)
       pass-stored e f =
           let m = clause-in (i .before) h in
           on (worked-store ready (i .worked) m e f) (λ c s. store-keeps ready (i .worked) m e f s) (store-own ready (i .worked) m e f)

@@ -49,7 +49,9 @@ pub record Sifting (ws v₀ t₀ : List ℕ) (start : ℕ) (v t room : List ℕ)
   pub passed : kept ≤ length room → (c : List ℕ) → List·Memᴰ c (clausesIn ws) → List·Memᴰ c (clausesIn (drop at ws)) ⊎ ((any (isRight v) c ≡ true) ⊎ Kept ws (take kept room) c)
 
 -- in the clause nothing is put down yet
-pub scan-clauses-same : {ws v₀ t₀ v t room room′ : List ℕ} {start count kept kept′ at : ℕ} → Sifting ws v₀ t₀ start v t room count kept at → kept′ ≡ kept → room′ ≡ room → Sifting ws v₀ t₀ start v t room′ count kept′ at
+pub scan-clauses-same :
+    {ws v₀ t₀ v t room room′ : List ℕ} {start count kept kept′ at : ℕ} → Sifting ws v₀ t₀ start v t room count kept at → kept′ ≡ kept → room′ ≡ room
+    → Sifting ws v₀ t₀ start v t room′ count kept′ at
 scan-clauses-same i p q = rw (p, q) i
 
 module _ {ws v₀ t₀ : List ℕ} {start : ℕ} (ready : Ready (clausesIn ws) v₀ t₀ start) where
@@ -70,7 +72,9 @@ module _ {ws v₀ t₀ : List ℕ} {start : ℕ} (ready : Ready (clausesIn ws) v
       scan-clauses-broken e = record { pass = pass-broken ready (i .passing) h e; left = λ b. absurd (true≢false b) }
 
       -- the clause is passed, and no place is put down
-      on : {v′ t′ : List ℕ} {count′ : ℕ} → Passing ws v₀ t₀ start v′ t′ count′ (at + 1 + getD ws at 0) → v ⊑ v′ → any (isRight v′) (clauseAt ws at) ≡ true → Sifting ws v₀ t₀ start v′ t′ room count′ kept (at + 1 + getD ws at 0)
+      on :
+          {v′ t′ : List ℕ} {count′ : ℕ} → Passing ws v₀ t₀ start v′ t′ count′ (at + 1 + getD ws at 0) → v ⊑ v′ → any (isRight v′) (clauseAt ws at) ≡ true
+          → Sifting ws v₀ t₀ start v′ t′ room count′ kept (at + 1 + getD ws at 0)
       on {v′} p x e = record { passing = p; few = omega (arith, i .few); stand = i .stand; passed = λ k c m. go k c (i .passed k c m) }
         where
           pick : (k : kept ≤ length room) (c : List ℕ) → (c ≡ clauseAt ws at) ⊎ List·Memᴰ c (clausesIn (drop (at + 1 + getD ws at 0) ws))
@@ -89,14 +93,18 @@ module _ {ws v₀ t₀ : List ℕ} {start : ℕ} (ready : Ready (clausesIn ws) v
           let r = any-true (isRight v) (clauseAt ws at) e in
           on (pass-quiet ready (i .passing) h (right-tells v (clauseAt ws at) (r .0) (r .1) (r .2))) (record { keeps = λ x k. refl }) e
 
-      pub scan-clauses-forced : {l n more : ℕ} {v′ t′ joined apart : List ℕ} → forcing l ≡ seen v (clauseAt ws at) → Forced n v t count l v′ t′ joined apart more → Sifting ws v₀ t₀ start v′ t′ room more kept (at + 1 + getD ws at 0)
+      pub scan-clauses-forced :
+          {l n more : ℕ} {v′ t′ joined apart : List ℕ} → forcing l ≡ seen v (clauseAt ws at) → Forced n v t count l v′ t′ joined apart more
+          → Sifting ws v₀ t₀ start v′ t′ room more kept (at + 1 + getD ws at 0)
       scan-clauses-forced {l} {v′ = v′} e f =
           let own = forced-literal ready (i .passing .worked) (clause-in (i .passing .before) h) e f in
           on (pass-stored ready (i .passing) h e f) (own .extends) (any-of (isRight v′) (clauseAt ws at) l (own .has) (right-of v′ l (own .right)))
 
       -- the clause stays: its place is put down where there is room
       module _ (e : quiet ≡ seen v (clauseAt ws at)) where
-        pub scan-clauses-kept : {room′ : List ℕ} → length room′ ≡ length room → (kept < length room → room′ ≡ set room kept at) → Sifting ws v₀ t₀ start v t room′ count (kept + 1) (at + 1 + getD ws at 0)
+        pub scan-clauses-kept :
+            {room′ : List ℕ} → length room′ ≡ length room → (kept < length room → room′ ≡ set room kept at)
+            → Sifting ws v₀ t₀ start v t room′ count (kept + 1) (at + 1 + getD ws at 0)
         scan-clauses-kept {room′} q put = record {
           passing = pass-quiet ready (i .passing) h e;
           few = omega (arith, i .few);

@@ -29,14 +29,18 @@ pub marked-guess : (ms : List ℕ) {depth at : ℕ} → depth < length ms → Ma
 marked-guess ms {depth} {at} h = record { before = λ d z. let same : d ≡ depth = omega (arith, z) in rw same (omega (arith, getD-set-same ms depth at 0 h)) }
 
 -- what is prepared does not depend on what the words and notes are
-pub prepared-on : {ws firsts clauses starts masks words noted words′ noted′ : List ℕ} → length words′ ≡ length words → length noted′ ≡ length noted → Prepared ws firsts clauses starts masks words noted → Prepared ws firsts clauses starts masks words′ noted′
+pub prepared-on :
+    {ws firsts clauses starts masks words noted words′ noted′ : List ℕ} → length words′ ≡ length words → length noted′ ≡ length noted
+    → Prepared ws firsts clauses starts masks words noted → Prepared ws firsts clauses starts masks words′ noted′
 prepared-on a b p = record { all-there = p .all-there; indexed = p .indexed; marked = p .marked; room = record { few = omega (arith, a, p .room .few); noted-room = omega (arith, b, p .room .noted-room); short = omega (arith, b, p .room .short) } }
 
 pub prepared-sized : {ws firsts clauses starts masks words noted words′ : List ℕ} → length words′ ≡ length words → Prepared ws firsts clauses starts masks words noted → Sized clauses words′
 prepared-sized a p = record { few = omega (arith, p .room .noted-room, p .room .short); small = omega (arith, a, p .room .few) }
 
 -- the first closing is done
-pub lags-first : {ws v t words : List ℕ} {count : ℕ} (clauses : List ℕ) → CountersOfIf ws clauses v words → count + unsetCount v ≡ length v → count ≤ length t → CountersBeforeIf ws clauses v t count count words
+pub lags-first :
+    {ws v t words : List ℕ} {count : ℕ} (clauses : List ℕ) → CountersOfIf ws clauses v words → count + unsetCount v ≡ length v → count ≤ length t
+    → CountersBeforeIf ws clauses v t count count words
 lags-first clauses t c h = λ k. behind-rested c h (t k)
 
 module _ (ws : List ℕ) (m : ℕ) {v t ms w s : List ℕ} {n b most from count depth made low more : ℕ} {isBroken : Bool} (i : Turning (withTriangles ws m) n b most v t ms from count depth made low) (c : Settles (withTriangles ws m) v t count w s isBroken more) where
@@ -52,7 +56,9 @@ module _ (ws : List ℕ) (m : ℕ) {v t ms w s : List ℕ} {n b most from count 
   }
 
   -- the words that were saved
-  pub saved-on : {words saved : List ℕ} (clauses : List ℕ) → (length ws ≤ length clauses → saved ≡ words) → CountersBeforeIf ws clauses v t from count words → CountersBeforeIf ws clauses w s from more saved
+  pub saved-on :
+      {words saved : List ℕ} (clauses : List ℕ) → (length ws ≤ length clauses → saved ≡ words) → CountersBeforeIf ws clauses v t from count words
+      → CountersBeforeIf ws clauses w s from more saved
   saved-on clauses e l = λ k. rw (e k) (behind-grown (c .grown) (i .queue .inside) trail-room (l k))
 
   -- a clause is broken
@@ -67,7 +73,9 @@ module _ (ws : List ℕ) (m : ℕ) {v t ms w s : List ℕ} {n b most from count 
   }
 
   -- a guess is made
-  pub lags-guess : {x l k last : ℕ} {words u r joined apart : List ℕ} (clauses : List ℕ) (e : isBroken ≡ false) (f : LowestUnset w low x) → CountersAtRestIf ws clauses w words isBroken → l ≡ 2 * x → Forced k w s more l u r joined apart last → CountersBeforeIf ws clauses u r more last words
+  pub lags-guess :
+      {x l k last : ℕ} {words u r joined apart : List ℕ} (clauses : List ℕ) (e : isBroken ≡ false) (f : LowestUnset w low x)
+      → CountersAtRestIf ws clauses w words isBroken → l ≡ 2 * x → Forced k w s more l u r joined apart last → CountersBeforeIf ws clauses u r more last words
   lags-guess {x} {l} clauses e f g z h =
       let half : l / 2 ≡ x = omega (arith, z) in
       λ y. rw (h .assigned .values, h .trail, h .count-more, half) (behind-guess s more x (1 - l % 2) (g y e) (c .grown .counted) (f .first .found (f .inside)) (omega (arith, room-left i c e f, after-count i c)))

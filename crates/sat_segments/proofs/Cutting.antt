@@ -70,7 +70,9 @@ pub record Noting (ls : List ℕ) (k : ℕ) (masks masks′ : List ℕ) (i : ℕ
 pub noting : (ls : List ℕ) (k : ℕ) (masks : List ℕ) → Noting ls k masks masks 0
 noting ls k masks = record { noted = record { long = refl; kept = λ i b q. q; own = λ l m. absurd (not-nil m) } }
 
-pub note-on : {ls m₀ m : List ℕ} {k i x w : ℕ} → Noting ls k m₀ m i → i < length ls → x ≡ getD ls i 0 / 2 → x < 780 → k < 1024 → length m₀ ≡ 12480 → w ≡ 2 ^ (k % 64) → Noting ls k m₀ (set m (x * 16 + k / 64) (bitOr (getD m (x * 16 + k / 64) 0) w)) (i + 1)
+pub note-on :
+    {ls m₀ m : List ℕ} {k i x w : ℕ} → Noting ls k m₀ m i → i < length ls → x ≡ getD ls i 0 / 2 → x < 780 → k < 1024 → length m₀ ≡ 12480 → w ≡ 2 ^ (k % 64)
+    → Noting ls k m₀ (set m (x * 16 + k / 64) (bitOr (getD m (x * 16 + k / 64) 0) w)) (i + 1)
 note-on {ls} {m₀} {m} {k} {i} {x} {w} n h e s f size o = record {
   noted = record {
     long = length-set m (x * 16 + k / 64) (bitOr (getD m (x * 16 + k / 64) 0) w) ∙ n .noted .long;
@@ -171,11 +173,15 @@ module _ {ws starts masks : List ℕ} {k at : ℕ} (i : Marking ws starts masks 
         own c (inl m) = i .mine c m
         own c (inr m) = subst (λ (d : List ℕ). List·Memᴰ d (clausesIn ws)) (sym (eq-of-singleton m)) (clause-in (i .before) h)
 
-        pick : (c : List ℕ) → (c ≡ clauseAt ws at) ⊎ List·Memᴰ c (clausesIn (drop (at + 1 + getD ws at 0) ws)) → List·Memᴰ c (clausesIn (drop (at + 1 + getD ws at 0) ws)) ⊎ (Open masks′ k (i .clauses ++ (clauseAt ws at ∷ [])) c ⊎ Placed ws starts masks′ k c)
+        pick :
+            (c : List ℕ) → (c ≡ clauseAt ws at) ⊎ List·Memᴰ c (clausesIn (drop (at + 1 + getD ws at 0) ws))
+            → List·Memᴰ c (clausesIn (drop (at + 1 + getD ws at 0) ws)) ⊎ (Open masks′ k (i .clauses ++ (clauseAt ws at ∷ [])) c ⊎ Placed ws starts masks′ k c)
         pick c (inl e) = inr (inl (Memᴰ·append-right (i .clauses) (List·Memᴰ·head e), λ l q. n .own l (subst (λ (d : List ℕ). List·Memᴰ l d) e q)))
         pick c (inr m) = inl m
 
-        go : (c : List ℕ) → List·Memᴰ c (clausesIn (drop at ws)) ⊎ (Open masks k (i .clauses) c ⊎ Placed ws starts masks k c) → List·Memᴰ c (clausesIn (drop (at + 1 + getD ws at 0) ws)) ⊎ (Open masks′ k (i .clauses ++ (clauseAt ws at ∷ [])) c ⊎ Placed ws starts masks′ k c)
+        go :
+            (c : List ℕ) → List·Memᴰ c (clausesIn (drop at ws)) ⊎ (Open masks k (i .clauses) c ⊎ Placed ws starts masks k c)
+            → List·Memᴰ c (clausesIn (drop (at + 1 + getD ws at 0) ws)) ⊎ (Open masks′ k (i .clauses ++ (clauseAt ws at ∷ [])) c ⊎ Placed ws starts masks′ k c)
         go c (inl m) = pick c (clause-cases (i .before) h c m)
         go c (inr (inl p)) = inr (inl (Memᴰ·append-left (clauseAt ws at ∷ []) (p .0), λ l q. n .kept (l / 2 * 16 + k / 64) (k % 64) (p .1 l q)))
         go c (inr (inr p)) = inr (inr (record { number = p .number; few = p .few; has = p .has; marked = λ l q. n .kept (l / 2 * 16 + p .number / 64) (p .number % 64) (p .marked l q) }))
@@ -226,7 +232,9 @@ module _ {ws starts masks : List ℕ} {k at : ℕ} (i : Marking ws starts masks 
         span j l (yes e) = rw e own-span
         span j l (no n) = rw (stays j l, stays (j + 1) (omega arith)) (i .closed j (omega arith))
 
-        go : (c : List ℕ) → List·Memᴰ c (clausesIn (drop at ws)) ⊎ (Open masks k (i .clauses) c ⊎ Placed ws starts masks k c) → List·Memᴰ c (clausesIn (drop at ws)) ⊎ (Open masks (k + 1) [] c ⊎ Placed ws (set starts (k + 1) at) masks (k + 1) c)
+        go :
+            (c : List ℕ) → List·Memᴰ c (clausesIn (drop at ws)) ⊎ (Open masks k (i .clauses) c ⊎ Placed ws starts masks k c)
+            → List·Memᴰ c (clausesIn (drop at ws)) ⊎ (Open masks (k + 1) [] c ⊎ Placed ws (set starts (k + 1) at) masks (k + 1) c)
         go c (inl m) = inl m
         go c (inr (inl p)) = inr (inr (record { number = k; few = omega arith; has = rw (ends-there, stays k (omega arith)) (subst (λ (cs : List (List ℕ)). List·Memᴰ c cs) (sym own-clauses) (p .0)); marked = p .1 }))
         go c (inr (inr p)) = inr (inr (record { number = p .number; few = omega (arith, p .few); has = rw (stays (p .number + 1) (omega (arith, p .few)), stays (p .number) (omega (arith, p .few))) (p .has); marked = p .marked }))

@@ -72,7 +72,9 @@ module _ {ws starts set v₀ t₀ : List ℕ} {start : ℕ} (ready : Ready (clau
         scan-broken p = record { worked = segment-worked p; waiting = λ b. absurd (true≢false b) }
 
         -- the set may gain segments
-        pub scan-on : {more-set : List ℕ} → ((n : ℕ) → n < 1024 → Bit (getD set (n / 64) 0) (n % 64) → Bit (getD more-set (n / 64) 0) (n % 64)) → OnePass (clausesIn (segmentOf ws starts k)) v t count w r false more → Scanning ws starts more-set v₀ t₀ start w r more (k + 1)
+        pub scan-on :
+            {more-set : List ℕ} → ((n : ℕ) → n < 1024 → Bit (getD set (n / 64) 0) (n % 64) → Bit (getD more-set (n / 64) 0) (n % 64))
+            → OnePass (clausesIn (segmentOf ws starts k)) v t count w r false more → Scanning ws starts more-set v₀ t₀ start w r more (k + 1)
         unfolding worked-trans worked-part grown-trans
         scan-on {more-set} kept p = record {
           worked = worked-trans (i .worked) (worked-part (clausesIn (segmentOf ws starts k)) (clausesIn ws) (u .each k h .part) (p .worked));

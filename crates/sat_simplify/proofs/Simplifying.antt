@@ -119,11 +119,15 @@ unfolding units
 units-snoc v xs x e =
     ap wordsOf (mapped-snoc (λ x. saying x (valueOf v x) ∷ []) xs x) ∙ words-snoc (units v xs) (saying x (valueOf v x) ∷ []) ∙ ap (λ (k : ℕ). wordsOf (units v xs) ++ (1 ∷ k ∷ [])) (sym e)
 
-unit-put : (v xs ys out out′ : List ℕ) (at l x r : ℕ) → Written out at (units v xs) → ys ≡ xs ++ (x ∷ []) → l ≡ saying x (valueOf v x) → take r out′ ≡ take at out ++ (1 ∷ l ∷ []) → Written out′ r (units v ys)
+unit-put :
+    (v xs ys out out′ : List ℕ) (at l x r : ℕ) → Written out at (units v xs) → ys ≡ xs ++ (x ∷ []) → l ≡ saying x (valueOf v x)
+    → take r out′ ≡ take at out ++ (1 ∷ l ∷ []) → Written out′ r (units v ys)
 unit-put v xs ys out out′ at l x r w q e p = p ∙ ap (λ (k : List ℕ). k ++ (1 ∷ l ∷ [])) w ∙ sym (units-snoc v xs x e) ∙ ap (λ (z : List ℕ). wordsOf (units v z)) (sym q)
 
 module _ {v xs out : List ℕ} {at i : ℕ} (u : Uniting v xs out at i) where
-  pub unite-on : {out′ : List ℕ} {l r : ℕ} → i < length xs → l ≡ saying (getD xs i 0) (valueOf v (getD xs i 0)) → (r ≡ at + 2) × (take r out′ ≡ take at out ++ (1 ∷ l ∷ [])) → Uniting v xs out′ r (i + 1)
+  pub unite-on :
+      {out′ : List ℕ} {l r : ℕ} → i < length xs → l ≡ saying (getD xs i 0) (valueOf v (getD xs i 0))
+      → (r ≡ at + 2) × (take r out′ ≡ take at out ++ (1 ∷ l ∷ [])) → Uniting v xs out′ r (i + 1)
   unite-on {out′} {l} {r} h e p = record { inside = omega arith; place = omega (arith, p .0, u .place); words = unit-put v (take i xs) (take (i + 1) xs) out out′ at l (getD xs i 0) r (u .words) (rw add-one (take-suc xs i 0 h)) e (p .1) }
 
   pub unite-all : length xs ≤ i → (at ≡ 2 * length xs) × Written out at (units v xs)
@@ -214,7 +218,9 @@ module _ {ws v xs ps : List ℕ} where
     simplify-holding h e = simplify-on h (w .so-far .room) (put-held v (clauseAt ws (getD ps i 0)) out at e)
 
     -- it does not, and is put
-    pub simplify-put : {out′ put : List ℕ} {r : ℕ} → i < length ps → any (isRight v) (clauseAt ws (getD ps i 0)) ≡ false → r ≤ length out′ → take r out′ ≡ take at out ++ put → put ≡ length (clauseAt ws (getD ps i 0)) ∷ clauseAt ws (getD ps i 0) → Lightening ws v xs ps out′ r (i + 1)
+    pub simplify-put :
+        {out′ put : List ℕ} {r : ℕ} → i < length ps → any (isRight v) (clauseAt ws (getD ps i 0)) ≡ false → r ≤ length out′ → take r out′ ≡ take at out ++ put
+        → put ≡ length (clauseAt ws (getD ps i 0)) ∷ clauseAt ws (getD ps i 0) → Lightening ws v xs ps out′ r (i + 1)
     simplify-put h e k p q = simplify-on h k (put-unheld v (clauseAt ws (getD ps i 0)) out at e p q)
 
     pub simplify-all : length ps ≤ i → Written out at (lightened v xs (clausesAt ws ps))
@@ -243,7 +249,9 @@ module _ {ws v xs : List ℕ} where
     pub walk-holding : end < length ws → any (isRight v) (clauseAt ws end) ≡ true → Walked ws v xs out at (end + 1 + getD ws end 0)
     walk-holding h e = walk-on h (w .so-far .room) (put-held v (clauseAt ws end) out at e)
 
-    pub walk-put : {out′ put : List ℕ} {r : ℕ} → end < length ws → any (isRight v) (clauseAt ws end) ≡ false → r ≤ length out′ → take r out′ ≡ take at out ++ put → put ≡ length (clauseAt ws end) ∷ clauseAt ws end → Walked ws v xs out′ r (end + 1 + getD ws end 0)
+    pub walk-put :
+        {out′ put : List ℕ} {r : ℕ} → end < length ws → any (isRight v) (clauseAt ws end) ≡ false → r ≤ length out′ → take r out′ ≡ take at out ++ put
+        → put ≡ length (clauseAt ws end) ∷ clauseAt ws end → Walked ws v xs out′ r (end + 1 + getD ws end 0)
     walk-put h e k p q = walk-on h k (put-unheld v (clauseAt ws end) out at e p q)
 
     pub walk-all : length ws ≤ end → Written out at (lightened v xs (clausesIn ws))

@@ -59,13 +59,19 @@ module _ {ws clauses words saved noted : List ℕ} (r : WordRoom ws clauses word
   pub short-list : length ws ≤ 32768
   short-list = omega (arith, r .clauses-room, r .few)
 
-  pub prepared : {firsts clauses′ starts masks words′ noted′ : List ℕ} → whole ws ≡ true → length clauses′ ≡ length clauses → (k : ℕ) → length words′ ≡ k → k ≤ length words → length noted′ ≡ length noted → Indexed ws firsts clauses′ → Prepared ws firsts clauses′ starts masks words′ noted′
+  pub prepared :
+      {firsts clauses′ starts masks words′ noted′ : List ℕ} → whole ws ≡ true → length clauses′ ≡ length clauses → (k : ℕ) → length words′ ≡ k
+      → k ≤ length words → length noted′ ≡ length noted → Indexed ws firsts clauses′ → Prepared ws firsts clauses′ starts masks words′ noted′
   prepared w a k b h c i = record { all-there = w; indexed = λ _. i; marked = λ l. absurd (omega (arith, l, a, r .clauses-room)); room = record { few = omega (arith, b, h, r .small); noted-room = omega (arith, a, c, r .noted-room); short = omega (arith, c, r .short) } }
 
 -- room of 2k places
-pub word-room : {ws clauses words saved noted : List ℕ} (k : ℕ) → k ≤ 16384 → length ws ≤ 2 * k → length clauses ≡ 2 * k → length words ≡ k → length saved ≡ k → length noted ≡ 2 * k → WordRoom ws clauses words saved noted
+pub word-room :
+    {ws clauses words saved noted : List ℕ} (k : ℕ) → k ≤ 16384 → length ws ≤ 2 * k → length clauses ≡ 2 * k → length words ≡ k → length saved ≡ k
+    → length noted ≡ 2 * k → WordRoom ws clauses words saved noted
 word-room k h l a b c d = record { clauses-room = omega arith; few = omega arith; words-room = omega arith; small = omega arith; same = omega arith; noted-room = omega arith; short = omega arith }
 
 -- no room, and an index by segments
-pub unprepared : {ws firsts clauses starts masks words noted : List ℕ} → whole ws ≡ true → length clauses < length ws → Marked ws starts masks → length clauses ≤ length noted → length noted ≤ 32768 → length words ≤ 32768 → Prepared ws firsts clauses starts masks words noted
+pub unprepared :
+    {ws firsts clauses starts masks words noted : List ℕ} → whole ws ≡ true → length clauses < length ws → Marked ws starts masks
+    → length clauses ≤ length noted → length noted ≤ 32768 → length words ≤ 32768 → Prepared ws firsts clauses starts masks words noted
 unprepared w h m a b c = record { all-there = w; indexed = λ k. absurd (omega (arith, h, k)); marked = λ _. m; room = record { few = c; noted-room = a; short = b } }

@@ -124,7 +124,10 @@ module _ {n : ℕ} {v joined apart : List ℕ} (o : Rows n v joined apart) (p q 
         to r s l (inl c) = apart-more 0 r s (o .apart-of r s l c)
         to r s l (inr e) = let i = swapped-in r s e in record { inside = i .0; different = i .1; false-pair = pair-same (set v x 0) p q r s e ∙ now-set 0 }
 
-        from : (r s : ℕ) → r < n → IsApart n (set v x 0) r s → ((variableOf r s ≡ x) × (valueOf (set v x 0) (variableOf r s) ≡ 0)) ⊎ (valueOf (set v x 0) (variableOf r s) ≡ valueOf v (variableOf r s)) → Bit (getD (marked apart p q) r 0) s
+        from :
+            (r s : ℕ) → r < n → IsApart n (set v x 0) r s
+            → ((variableOf r s ≡ x) × (valueOf (set v x 0) (variableOf r s) ≡ 0)) ⊎ (valueOf (set v x 0) (variableOf r s) ≡ valueOf v (variableOf r s))
+            → Bit (getD (marked apart p q) r 0) s
         from r s l c (inl y) = marked-own apart p q (in-apart p a) (in-apart q b) r s (pair-cases p q r s d (λ z. c .different (sym z)) (y .0))
         from r s l c (inr y) = marked-keeps apart p q (in-apart p a) (in-apart q b) r s (o .of-apart r s l (record { inside = c .inside; different = c .different; false-pair = sym y ∙ c .false-pair }))
 

@@ -62,7 +62,9 @@ module _ {n : ℕ} {v joined apart : List ℕ} (o : Rows n v joined apart) {x i 
       unset-apart z = record { values = rw e; rows = rw (e, ← (g .is-x)) (rows-unparted o p q low-in (g .inside) differ (omega (arith, value-was))) }
 
 -- a pair is put: the literal that says so is made true
-pub put-forced : {n : ℕ} {v t joined apart w s joined′ apart′ : List ℕ} {count x p q k r : ℕ} → Rows n v joined apart → x ≡ variableOf p q → p < n → q < n → p ≢ q → valueOf v (variableOf p q) ≡ 2 → k ≤ 1
+pub put-forced :
+    {n : ℕ} {v t joined apart w s joined′ apart′ : List ℕ} {count x p q k r : ℕ} → Rows n v joined apart → x ≡ variableOf p q → p < n → q < n → p ≢ q
+    → valueOf v (variableOf p q) ≡ 2 → k ≤ 1
     → Put v t joined apart count x p q k w s joined′ apart′ r → Forced n v t count (saying (variableOf p q) k) w s joined′ apart′ r
 put-forced {p = p} {q = q} {k = k} o e a b d u l h =
     let half : saying (variableOf p q) k / 2 ≡ variableOf p q = omega arith in

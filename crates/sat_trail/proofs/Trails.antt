@@ -91,7 +91,9 @@ module _ {v t w s : List ℕ} {count more : ℕ} (g : Grown v t count w s more) 
       pick y (inr m) = rw (← grown-length) (h .below y m)
 
 -- one more variable
-unfoldable pub grown-store : {v t : List ℕ} {count x k : ℕ} → count + unsetCount v ≡ length v → length v ≤ length t → x < length v → valueOf v x ≡ 2 → k ≢ 2 → Grown v t count (set v x k) (set t count x) (count + 1)
+unfoldable pub grown-store :
+    {v t : List ℕ} {count x k : ℕ} → count + unsetCount v ≡ length v → length v ≤ length t → x < length v → valueOf v x ≡ 2 → k ≢ 2
+    → Grown v t count (set v x k) (set t count x) (count + 1)
 grown-store {v} {t} {count} {x} {k} e room h u n =
     let one = unset-set v x k h u n in
     record {

@@ -56,7 +56,9 @@ module _ {cs : List (List ℕ)} {v t : List ℕ} {start : ℕ} (ready : Ready cs
     set-on {x} b = (rw worked-length (b .0), λ z. b .1 (sym (worked-extends .keeps x (b .1)) ∙ z))
 
 -- one after the other
-unfoldable pub worked-trans : {cs : List (List ℕ)} {v t w s u r : List ℕ} {start count more : ℕ} {isBroken isBroken′ : Bool} → Worked cs v t start w s isBroken count → Worked cs w s count u r isBroken′ more → Worked cs v t start u r isBroken′ more
+unfoldable pub worked-trans :
+    {cs : List (List ℕ)} {v t w s u r : List ℕ} {start count more : ℕ} {isBroken isBroken′ : Bool} → Worked cs v t start w s isBroken count
+    → Worked cs w s count u r isBroken′ more → Worked cs v t start u r isBroken′ more
 unfolding grown-trans
 worked-trans {cs = cs} {w = w} {u = u} a b = record {
   grown = grown-trans (a .grown) (b .grown);
@@ -188,6 +190,8 @@ pub drained-broken : {cs : List (List ℕ)} {v t w s : List ℕ} {start count : 
 drained-broken p e = record { worked = p; at-rest = λ f. absurd (true≢false (sym e ∙ f)) }
 
 -- such steps close the values
-pub drained-settles : {cs : List (List ℕ)} {v t w s : List ℕ} {start count : ℕ} {isBroken : Bool} → Ready cs v t start → Drained cs v t start w s isBroken count → Settles cs v t start w s isBroken count
+pub drained-settles :
+    {cs : List (List ℕ)} {v t w s : List ℕ} {start count : ℕ} {isBroken : Bool} → Ready cs v t start → Drained cs v t start w s isBroken count
+    → Settles cs v t start w s isBroken count
 drained-settles {cs} {v} {w = w} {isBroken = true} r d = record { grown = d .worked .grown; values = units-values cs (length v) v w (d .worked .units) (r .values); closes = units-break cs v w (d .worked .units) (d .worked .breaking refl) }
 drained-settles {cs} {v} {w = w} {isBroken = false} r d = record { grown = d .worked .grown; values = units-values cs (length v) v w (d .worked .units) (r .values); closes = units-rest cs (length v) v w (r .values) (d .worked .units) (d .at-rest refl) }

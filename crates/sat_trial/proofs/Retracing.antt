@@ -32,7 +32,9 @@ unfolding backAlong
 back-none cs ms v p zero e z = rw (backAlong, e)
 back-none cs ms v p (suc d) e z = absurd (omega arith)
 
-back-on : (cs : List (List ℕ)) (ms v t : List ℕ) (count d : ℕ) → satisfied cs (onlyTrue v) ≡ false → backAlong cs ms v (take count t) (suc d) ≡ backAlong cs ms (unsetting v (slice (getD ms d 0) count t)) (take (getD ms d 0) (take count t)) d
+back-on :
+    (cs : List (List ℕ)) (ms v t : List ℕ) (count d : ℕ) → satisfied cs (onlyTrue v) ≡ false
+    → backAlong cs ms v (take count t) (suc d) ≡ backAlong cs ms (unsetting v (slice (getD ms d 0) count t)) (take (getD ms d 0) (take count t)) d
 unfolding backAlong
 back-on cs ms v t count d e = rw (backAlong, e)
 

@@ -67,7 +67,9 @@ module _ {ws words noted v₀ t₀ v t : List ℕ} {start count k : ℕ} (p : He
     hear-none low = heeded-broken (none-left extends (numbered ws c) (rw (← weighs) low))
 
     -- the clause is seen to
-    on : {v′ t′ : List ℕ} {count′ : ℕ} (q : Worked (clausesIn ws) v₀ t₀ start v′ t′ false count′) → ((d : List ℕ) → SettledOr v (p .worked .grown .new) d → SettledOr v′ (q .grown .new) d) → SettledOr v′ (q .grown .new) (numbered ws c)
+    on :
+        {v′ t′ : List ℕ} {count′ : ℕ} (q : Worked (clausesIn ws) v₀ t₀ start v′ t′ false count′)
+        → ((d : List ℕ) → SettledOr v (p .worked .grown .new) d → SettledOr v′ (q .grown .new) d) → SettledOr v′ (q .grown .new) (numbered ws c)
         → Hearing ws words noted v₀ t₀ start v′ t′ count′ (k + 1)
     on {v′} q more s = record { ready = p .ready; told = p .told; worked = q; heard = λ j b. go j b (ℕ-discrete j k) }
       where

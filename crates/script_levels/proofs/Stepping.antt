@@ -145,7 +145,9 @@ module _ {w n : ℕ} {s : List ℕ} (wide : 3 ≤ w) (few : n ≤ stateMost) (h 
           }
 
       -- the records of the state by the symbol
-      pub step-by : (rule : List ℕ → ℕ) {i j : ℕ} {g' : Level} → ((r : List ℕ) → getD r 0 0 ≡ q → rule r ≡ gain r) → i ≡ getD starts (q * symbolMost + a) 0 → j ≡ getD starts (q * symbolMost + a + 1) 0 → g' ≡ allGain rule to (slice i j rs) g → Stepping gain to a rs starts n before (q + 1) g'
+      pub step-by :
+          (rule : List ℕ → ℕ) {i j : ℕ} {g' : Level} → ((r : List ℕ) → getD r 0 0 ≡ q → rule r ≡ gain r) → i ≡ getD starts (q * symbolMost + a) 0
+          → j ≡ getD starts (q * symbolMost + a + 1) 0 → g' ≡ allGain rule to (slice i j rs) g → Stepping gain to a rs starts n before (q + 1) g'
       step-by rule {i} {j} {g'} same d e f =
           let y = q * symbolMost in
           let one = skip gain to a rs before (p .passing) (begin-rising x y (y + a) (omega arith) (omega arith)) (x .each (y + a) (omega arith) .within)

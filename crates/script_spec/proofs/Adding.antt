@@ -84,7 +84,9 @@ module _ (gain : List ℕ → ℕ) (to a : ℕ) where
       go (inl c) = gains-bit r g rs p x c
       go (inr c) = inr (further c)
 
-  gained-own : (x : ℕ) (rs : List (List ℕ)) (g : Level) → ((r : List ℕ) → List·Memᴰ r rs → getD r to 0 < length g) → (r : List ℕ) → List·Memᴰ r rs → getD r 1 0 ≡ a → Bit (gain r) x → Bit (getD (gained gain to a rs g) (getD r to 0) 0) x
+  gained-own :
+      (x : ℕ) (rs : List (List ℕ)) (g : Level) → ((r : List ℕ) → List·Memᴰ r rs → getD r to 0 < length g) → (r : List ℕ) → List·Memᴰ r rs → getD r 1 0 ≡ a
+      → Bit (gain r) x → Bit (getD (gained gain to a rs g) (getD r to 0) 0) x
   unfolding gained
   gained-own x [] g l r m e b = elim m [ ]
   gained-own x (s ∷ rs) g l r (List·Memᴰ·head q) e b =

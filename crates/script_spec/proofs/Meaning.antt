@@ -84,7 +84,9 @@ return-own f g r x h b = rw (has-of f (getD r 0 0) (getD r 2 0) h, byReturn) b
 three : {gain : List ℕ → ℕ} {a p x : ℕ} {rs : List (List ℕ)} → ((r : List ℕ) → List·Memᴰ r rs → length r ≡ 3) → (b : Gains gain 2 a rs p x) → List·Memᴰ (getD (b .by) 0 0 ∷ a ∷ p ∷ []) rs
 three {rs = rs} wide b = subst (λ r. List·Memᴰ r rs) (three-bytes (b .by) (wide (b .by) (b .among)) ∙ (λ i. getD (b .by) 0 0 ∷ b .symbol i ∷ b .target i ∷ [])) (b .among)
 
-four : {gain : List ℕ → ℕ} {a p x : ℕ} {rs : List (List ℕ)} → ((r : List ℕ) → List·Memᴰ r rs → length r ≡ 4) → (b : Gains gain 3 a rs p x) → List·Memᴰ (getD (b .by) 0 0 ∷ a ∷ getD (b .by) 2 0 ∷ p ∷ []) rs
+four :
+    {gain : List ℕ → ℕ} {a p x : ℕ} {rs : List (List ℕ)} → ((r : List ℕ) → List·Memᴰ r rs → length r ≡ 4) → (b : Gains gain 3 a rs p x)
+    → List·Memᴰ (getD (b .by) 0 0 ∷ a ∷ getD (b .by) 2 0 ∷ p ∷ []) rs
 four {rs = rs} wide b = subst (λ r. List·Memᴰ r rs) (four-bytes (b .by) (wide (b .by) (b .among)) ∙ (λ i. getD (b .by) 0 0 ∷ b .symbol i ∷ getD (b .by) 2 0 ∷ b .target i ∷ [])) (b .among)
 
 module _ {L : Limits} {t : Table} (wf : WellFormed L t) where

@@ -139,7 +139,9 @@ module _ (most : ℕ) (ws : List ℕ) (n b : ℕ) (a : List ℕ) where
   }
 
   -- the contract
-  pub promised : {r : Solution} {out : List ℕ} → record { solution = r; answer = out } ≡ searchAt most ws n b a → (record { solution = r; answer = out } ≡ searchAt most ws n b a) × SearchSound ws n r out
+  pub promised :
+      {r : Solution} {out : List ℕ} → record { solution = r; answer = out } ≡ searchAt most ws n b a
+      → (record { solution = r; answer = out } ≡ searchAt most ws n b a) × SearchSound ws n r out
   promised e = (e, subst (λ (s : Searched). SearchSound ws n (s .solution) (s .answer)) (sym e) (sound-ways ways))
 
 -- ---- 39, and the limits in force
@@ -167,7 +169,9 @@ module _ (L : Limits) (ws : List ℕ) (n b : ℕ) (a : List ℕ) where
           (λ z. end-says (searchFrom (clausesIn ws) n b) (passes 39 _ l ∙ stage-passes _ _ z ∙ last-stage _))
           (λ z. refused-says _ (passes 39 _ l ∙ stage-fails _ _ refl z) z)
 
-      go : (t : Bool) → limitsFit L ≡ t → SearchSays L ws n b a (elim t as (λ _. Searched) [ true ↦ searchAt (pairs (L .states)) ws n b a | false ↦ record { solution = Refused 39; answer = a } ] .solution)
+      go :
+          (t : Bool) → limitsFit L ≡ t
+          → SearchSays L ws n b a (elim t as (λ _. Searched) [ true ↦ searchAt (pairs (L .states)) ws n b a | false ↦ record { solution = Refused 39; answer = a } ] .solution)
       go true l = by l
       go false l = refused-says _ (fails 39 _ l) (omega arith)
 

@@ -155,7 +155,9 @@ module _ (L : Limits) (share : ℕ) (lengths tables list maps out : List ℕ) wh
       first = ap (λ (ns : List ℕ). reductionsFrom L share saved ns (drop at tables) list' (drop m maps') (drop o out')) (drop-cons lengths i 0 h)
 
       -- the turn, over the parts that were lent to the ends of their buffers
-      pub of-parts : {turn : Turn} {list'' map'' out'' : List ℕ} → Turned L (take (at + n - at) (drop at tables)) (share + saved) list' (take (length maps' - m) (drop m maps')) (take (length out' - o) (drop o out')) turn list'' map'' out''
+      pub of-parts :
+          {turn : Turn} {list'' map'' out'' : List ℕ}
+          → Turned L (take (at + n - at) (drop at tables)) (share + saved) list' (take (length maps' - m) (drop m maps')) (take (length out' - o) (drop o out')) turn list'' map'' out''
           → Turned L b (share + saved) list' (drop m maps') (drop o out') turn list'' map'' out''
       of-parts {turn} {list''} {map''} {out''} t =
           let e : at + n - at ≡ n = omega arith in
@@ -231,7 +233,9 @@ module _ (L : Limits) (share : ℕ) (lengths tables list maps out : List ℕ) wh
             }
 
         -- the same, where the parts are back
-        pub next-back : {values' : List ℕ} → values' ≡ paste values (8 * i) (turn .row) 8 → length list'' ≡ length list' → length map'' ≡ length (take (length maps' - m) (drop m maps')) → length out'' ≡ length (take (length out' - o) (drop o out'))
+        pub next-back :
+            {values' : List ℕ} → values' ≡ paste values (8 * i) (turn .row) 8 → length list'' ≡ length list'
+            → length map'' ≡ length (take (length maps' - m) (drop m maps')) → length out'' ≡ length (take (length out' - o) (drop o out'))
             → Going values' list'' (take m maps' ++ (map'' ++ drop (length maps' - m) (drop m maps'))) (take o out' ++ (out'' ++ drop (length out' - o) (drop o out'))) (share + saved - turn .guesses) (at + n) (m + turn .states) (o + turn .length) (i + 1)
         next-back {values'} e ll lm lo =
             subst (λ x. x) (λ j. Going values' list'' (sym (back m maps' map'') j) (sym (back o out' out'') j) (share + saved - turn .guesses) (at + n) (m + turn .states) (o + turn .length) (i + 1))

@@ -24,16 +24,22 @@ module _ (L : Limits) (tables lengths : List ℕ) (guesses : ℕ) (list maps out
   refused-number k e n {r} f = (λ j. record { answer = f j; list = list; maps = maps; out = out }) ∙ refuses (seasonNumber L tables lengths) _ (λ k. record { answer = refusedBy k; list = list; maps = maps; out = out }) e n
 
   -- "39 .. before anything else"
-  pub refused-limits : limitsFit L ≡ false → {r : Season} → r ≡ refusedBy 39 → _≡_ {A = SeasonDone} (record { answer = r; list = list; maps = maps; out = out }) (seasonOf L tables lengths guesses list maps out)
+  pub refused-limits :
+      limitsFit L ≡ false → {r : Season} → r ≡ refusedBy 39
+      → _≡_ {A = SeasonDone} (record { answer = r; list = list; maps = maps; out = out }) (seasonOf L tables lengths guesses list maps out)
   unfolding seasonNumber
   refused-limits p = refused-number 39 (fails 39 _ p) (λ z. omega (arith, z))
 
   -- "then 34"
-  pub refused-lengths : limitsFit L ≡ true → lengthsFit (length tables) lengths ≡ false → {r : Season} → r ≡ refusedBy 34 → _≡_ {A = SeasonDone} (record { answer = r; list = list; maps = maps; out = out }) (seasonOf L tables lengths guesses list maps out)
+  pub refused-lengths :
+      limitsFit L ≡ true → lengthsFit (length tables) lengths ≡ false → {r : Season} → r ≡ refusedBy 34
+      → _≡_ {A = SeasonDone} (record { answer = r; list = list; maps = maps; out = out }) (seasonOf L tables lengths guesses list maps out)
   unfolding seasonNumber
   refused-lengths p q = refused-number 34 (passes 39 _ p ∙ fails 34 _ q) (λ z. omega (arith, z))
 
-  pub reduced : limitsFit L ≡ true → lengthsFit (length tables) lengths ≡ true → {values list' maps' out' : List ℕ} → Ran L (guesses / length lengths) lengths tables list maps out values list' maps' out'
+  pub reduced :
+      limitsFit L ≡ true → lengthsFit (length tables) lengths ≡ true → {values list' maps' out' : List ℕ}
+      → Ran L (guesses / length lengths) lengths tables list maps out values list' maps' out'
       → _≡_ {A = SeasonDone} (record { answer = record { number = 0; values = values }; list = list'; maps = maps'; out = out' }) (seasonOf L tables lengths guesses list maps out)
   unfolding seasonNumber seasonOf shareOf
   reduced p q {values} {list'} {maps'} {out'} w =

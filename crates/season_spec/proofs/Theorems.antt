@@ -134,7 +134,9 @@ module _ (L : Limits) (tables lengths : List ℕ) (guesses : ℕ) (list maps out
   -- the two ways in which a season ends
   data Ends : SeasonDone → Type 0 where
     refused : (k : ℕ) → k ≢ 0 → Ends (record { answer = record { number = k; values = replicate 64 0 }; list = list; maps = maps; out = out })
-    reduced : 1 ≤ length lengths → length lengths ≤ 8 → Ends (record { answer = record { number = 0; values = over (concatMap row (run .answers)) (replicate 64 0) }; list = run .list; maps = run .maps; out = run .out })
+    reduced :
+        1 ≤ length lengths → length lengths ≤ 8
+        → Ends (record { answer = record { number = 0; values = over (concatMap row (run .answers)) (replicate 64 0) }; list = run .list; maps = run .maps; out = run .out })
 
   lengths-few : seasonNumber L tables lengths ≡ 0 → (1 ≤ length lengths) × (length lengths ≤ 8)
   unfolding seasonNumber lengthsFit

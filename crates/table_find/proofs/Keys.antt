@@ -118,7 +118,9 @@ from-order (x ∷ r) (y ∷ s) k n b d = go (decLt x y) (decLt y x) (from-order 
     bytes : Bytes first
     bytes = part-bytes r (λ i. b (suc i)) 0 (length s)
 
-    go : Dec (x < y) → Dec (y < x) → before r s ≡ ltb (keyFrom (k * 256 + x) first) (keyFrom (k * 256 + x) s) → (ltb x y || (eqb x y && before r s)) ≡ ltb (keyFrom (k * 256 + x) first) (keyFrom (k * 256 + y) s)
+    go :
+        Dec (x < y) → Dec (y < x) → before r s ≡ ltb (keyFrom (k * 256 + x) first) (keyFrom (k * 256 + x) s)
+        → (ltb x y || (eqb x y && before r s)) ≡ ltb (keyFrom (k * 256 + x) first) (keyFrom (k * 256 + y) s)
     go (yes h) _ ih =
         let l = from-less first s (k * 256 + x) (k * 256 + y) long bytes (λ i. d (suc i)) (omega arith) in
         rw (lt-ltb x y h) (sym (lt-ltb _ _ l))

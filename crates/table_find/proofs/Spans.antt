@@ -81,7 +81,9 @@ module _ (key : List ℕ) where
       go false e = rw (e, filter, leading)
   from-first r (s ∷ rs) a b = go (startsWith key r) refl (from-first s rs (and-true (before r s) (ascendFrom s rs) a .1) (not-before r s (and-true (before r s) (ascendFrom s rs) a .0) b))
     where
-      go : (t : Bool) → startsWith key r ≡ t → filter (startsWith key) (s ∷ rs) ≡ take (leading (s ∷ rs) key) (s ∷ rs) → filter (startsWith key) (r ∷ s ∷ rs) ≡ take (leading (r ∷ s ∷ rs) key) (r ∷ s ∷ rs)
+      go :
+          (t : Bool) → startsWith key r ≡ t → filter (startsWith key) (s ∷ rs) ≡ take (leading (s ∷ rs) key) (s ∷ rs)
+          → filter (startsWith key) (r ∷ s ∷ rs) ≡ take (leading (r ∷ s ∷ rs) key) (r ∷ s ∷ rs)
       go true e ih = rw (e, filter, leading) (ap (λ xs. r ∷ xs) ih)
       go false e ih = rw (e, filter, leading) (filter-all (s ∷ rs) (none-later r (s ∷ rs) a b e))
 
@@ -95,7 +97,9 @@ module _ (key : List ℕ) where
           → filter (startsWith key) (r ∷ rs) ≡ take (leading (drop (firstAt (r ∷ rs) key) (r ∷ rs)) key) (drop (firstAt (r ∷ rs) key) (r ∷ rs))
       go true e ih = rw (e, firstAt) (past (startsWith key r) refl ih)
         where
-          past : (t : Bool) → startsWith key r ≡ t → filter (startsWith key) rs ≡ take (leading (drop (firstAt rs key) rs) key) (drop (firstAt rs key) rs) → filter (startsWith key) (r ∷ rs) ≡ take (leading (drop (firstAt rs key) rs) key) (drop (firstAt rs key) rs)
+          past :
+              (t : Bool) → startsWith key r ≡ t → filter (startsWith key) rs ≡ take (leading (drop (firstAt rs key) rs) key) (drop (firstAt rs key) rs)
+              → filter (startsWith key) (r ∷ rs) ≡ take (leading (drop (firstAt rs key) rs) key) (drop (firstAt rs key) rs)
           past true f ih = absurd (true≢false (sym e ∙ starts-not-before key r f))
           past false f ih = rw (f, filter) ih
       go false e ih = rw (e, firstAt) (from-first r rs a e)

@@ -76,7 +76,9 @@ module _ {w n : ℕ} {s : List ℕ} (wide : 3 ≤ w) (h : Lent w n s) where
       long : (m : ℕ) → m < length (records w s) → 2 ≤ length (getD (records w s) m [])
       long m d = omega (arith, records-wide w s _ (getD-mem (records w s) m [] d))
 
-      by : (getD (getD (records w s) i []) 0 0 < getD (getD (records w s) j []) 0 0) ⊎ ((getD (getD (records w s) i []) 0 0 ≡ getD (getD (records w s) j []) 0 0) × (getD (getD (records w s) i []) 1 0 ≤ getD (getD (records w s) j []) 1 0)) → placeOf (getD (records w s) i []) ≤ placeOf (getD (records w s) j [])
+      by :
+          (getD (getD (records w s) i []) 0 0 < getD (getD (records w s) j []) 0 0) ⊎ ((getD (getD (records w s) i []) 0 0 ≡ getD (getD (records w s) j []) 0 0) × (getD (getD (records w s) i []) 1 0 ≤ getD (getD (records w s) j []) 1 0))
+          → placeOf (getD (records w s) i []) ≤ placeOf (getD (records w s) j [])
       by (inl d) = omega (arith, d, symbol-small h i (omega arith))
       by (inr d) = omega (arith, d .0, d .1)
 

@@ -22,7 +22,9 @@ use Rattle.table_view.proofs.Parts.{states-read, internals-read, calls-read, re
 use Rattle.table_index.specs.Index.{Lent, LentParts}
 
 -- a section's records, by the table's
-lent : {t : Table} {kind w n : ℕ} {rs : List (List ℕ)} {section : List ℕ} → n ≡ count t → length (t .symbols) ≤ symbolMost → records w section ≡ rs → ascend rs ≡ true → length rs ≤ returnLimit → Fit t kind w rs → Lent w n section
+lent :
+    {t : Table} {kind w n : ℕ} {rs : List (List ℕ)} {section : List ℕ} → n ≡ count t → length (t .symbols) ≤ symbolMost → records w section ≡ rs
+    → ascend rs ≡ true → length rs ≤ returnLimit → Fit t kind w rs → Lent w n section
 lent e most f up few fit =
     record {
       in-order = ap ascend f ∙ up;
@@ -31,7 +33,9 @@ lent e most f up few fit =
       symbols = λ r m. omega (arith, most, fit .symbol r (subst (λ xs. List·Memᴰ r xs) f m) .0);
     }
 
-pub parts-lent : {L : Limits} (b : List ℕ) {s : Starts} → ReadAs L b s → {states internals calls returns : List ℕ} → states ≡ partOf b s States → internals ≡ partOf b s Internals → calls ≡ partOf b s Calls → returns ≡ partOf b s Returns → LentParts states internals calls returns
+pub parts-lent :
+    {L : Limits} (b : List ℕ) {s : Starts} → ReadAs L b s → {states internals calls returns : List ℕ} → states ≡ partOf b s States
+    → internals ≡ partOf b s Internals → calls ≡ partOf b s Calls → returns ≡ partOf b s Returns → LentParts states internals calls returns
 parts-lent {L} b h e1 e2 e3 e4 =
     let wf = read-well-formed L b (h .readable) in
     let c = formed-tested wf in

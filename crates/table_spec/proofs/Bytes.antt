@@ -273,7 +273,9 @@ module _ (L : Limits) (t : Table) (f : WellFormed L t) where
       ap (slice (length (fromSymbols t) - length (x ++ q)) (length (fromSymbols t) - length q)) whole ∙ slice-middle p x (q ++ trailerOf t) f g
 
   -- the sections at their starts
-  at-starts : (j k : ℕ) {x y : ℕ} → distance (bytesOf t) j ≡ x → distance (bytesOf t) k ≡ y → slice (start (bytesOf t) j) (start (bytesOf t) k) (bytesOf t) ≡ slice (length (fromSymbols t) - x) (length (fromSymbols t) - y) (bytesOf t)
+  at-starts :
+      (j k : ℕ) {x y : ℕ} → distance (bytesOf t) j ≡ x → distance (bytesOf t) k ≡ y
+      → slice (start (bytesOf t) j) (start (bytesOf t) k) (bytesOf t) ≡ slice (length (fromSymbols t) - x) (length (fromSymbols t) - y) (bytesOf t)
   unfolding start
   at-starts j k d e = λ i. slice (trailer-at i - d i) (trailer-at i - e i) (bytesOf t)
 

@@ -71,7 +71,9 @@ before-total (x ∷ xs) (y ∷ ys) = go (decLt x y) (decLt y x) (before-total xs
     tails e (inr (inl h)) = inr (inl (by-others y x ys xs (sym e) h))
     tails e (inr (inr h)) = inr (inr (λ i. e i ∷ h i))
 
-    go : Dec (x < y) → Dec (y < x) → (before xs ys ≡ true) ⊎ ((before ys xs ≡ true) ⊎ (xs ≡ ys)) → (before (x ∷ xs) (y ∷ ys) ≡ true) ⊎ ((before (y ∷ ys) (x ∷ xs) ≡ true) ⊎ (_≡_ {A = List ℕ} (x ∷ xs) (y ∷ ys)))
+    go :
+        Dec (x < y) → Dec (y < x) → (before xs ys ≡ true) ⊎ ((before ys xs ≡ true) ⊎ (xs ≡ ys))
+        → (before (x ∷ xs) (y ∷ ys) ≡ true) ⊎ ((before (y ∷ ys) (x ∷ xs) ≡ true) ⊎ (_≡_ {A = List ℕ} (x ∷ xs) (y ∷ ys)))
     go (yes h) d t = inl (by-first x y xs ys h)
     go (no h) (yes k) t = inr (inl (by-first y x ys xs k))
     go (no h) (no k) t = tails (omega arith) t

@@ -26,7 +26,9 @@ same-long {rest} {end} {out} {at} w =
     omega (arith, w .room, ap length (w .meets), length-append (take at out) (over rest (drop at out)), length-take-le at out (omega (arith, w .room)), length-over rest (drop at out) (omega (arith, w .room)))
 
 -- the next part is written
-pub written : (x : List ℕ) {todo rest end out out' : List ℕ} {at n : ℕ} → Writing todo end out at → todo ≡ x ++ rest → length x ≡ n → out' ≡ take at out ++ over x (drop at out) → Writing rest end out' (at + n)
+pub written :
+    (x : List ℕ) {todo rest end out out' : List ℕ} {at n : ℕ} → Writing todo end out at → todo ≡ x ++ rest → length x ≡ n
+    → out' ≡ take at out ++ over x (drop at out) → Writing rest end out' (at + n)
 unfolding over
 written x {todo} {rest} {end} {out} {out'} {at} {n} w s l e = record {
   room = omega (arith, ap length split ∙ length-append (take at out ++ x) (drop n (drop at out)), front, long, length-drop at out, length-drop n (drop at out), w .room);
@@ -60,7 +62,9 @@ unfolding over
 finished {end} {out} {at} w = sym (w .meets ∙ take-append-drop at out)
 
 -- a part of the output that was lent, and is back
-pub part-put : (x out : List ℕ) (at : ℕ) {ys : List ℕ} → ys ≡ over x (take (length out - at) (drop at out)) → take at out ++ (ys ++ drop (length out - at) (drop at out)) ≡ take at out ++ over x (drop at out)
+pub part-put :
+    (x out : List ℕ) (at : ℕ) {ys : List ℕ} → ys ≡ over x (take (length out - at) (drop at out))
+    → take at out ++ (ys ++ drop (length out - at) (drop at out)) ≡ take at out ++ over x (drop at out)
 part-put x out at {ys} e =
     let n : length (drop at out) ≤ length out - at = omega (arith, length-drop at out) in
     let a : ys ≡ over x (drop at out) = e ∙ ap (over x) (take-all (length out - at) (drop at out) n) in

@@ -60,11 +60,15 @@ module _ (k : ℕ) where
       (λ i. elim (hasBit (getD-padded g k (getD r 0 0) i) (getD r 2 0)) as (λ _. List ℕ) [ true ↦ add (pad g) (getD r 3 0) (getD-padded g k (getD r 2 0) i) | false ↦ pad g ])
       ∙ go (hasBit (getD g (getD r 0 0) 0) (getD r 2 0))
     where
-      go : (b : Bool) → elim b as (λ _. List ℕ) [ true ↦ add (pad g) (getD r 3 0) (getD g (getD r 2 0) 0) | false ↦ pad g ] ≡ pad (elim b [ true ↦ add g (getD r 3 0) (getD g (getD r 2 0) 0) | false ↦ g ])
+      go :
+          (b : Bool)
+          → elim b as (λ _. List ℕ) [ true ↦ add (pad g) (getD r 3 0) (getD g (getD r 2 0) 0) | false ↦ pad g ] ≡ pad (elim b [ true ↦ add g (getD r 3 0) (getD g (getD r 2 0) 0) | false ↦ g ])
       go true = add-padded g (getD r 3 0) (getD g (getD r 2 0) 0) (omega (arith, m .to))
       go false = refl
 
-  walk-padded : (step : List ℕ → List ℕ → List ℕ) → Grows step → (n : ℕ) (rs : List (List ℕ)) → ((r : List ℕ) → List·Memᴰ r rs → Unseen step n r) → (f : List ℕ) → length f ≡ n → walk step rs (pad f) ≡ pad (walk step rs f)
+  walk-padded :
+      (step : List ℕ → List ℕ → List ℕ) → Grows step → (n : ℕ) (rs : List (List ℕ)) → ((r : List ℕ) → List·Memᴰ r rs → Unseen step n r) → (f : List ℕ)
+      → length f ≡ n → walk step rs (pad f) ≡ pad (walk step rs f)
   unfolding Unseen walk
   walk-padded step grows n [] h f e = refl
   walk-padded step grows n (r ∷ rs) h f e = ap (walk step rs) (h r (List·Memᴰ·head refl) f e) ∙ walk-padded step grows n rs (λ s m. h s (List·Memᴰ·tail m)) (step r f) (grows .wide r f ∙ e)
@@ -94,7 +98,9 @@ module _ (k : ℕ) where
         ∙ ap (λ (b : Bool). elim b as (λ _. List ℕ) [ true ↦ pad f | false ↦ rounds n t (pad (round t f)) ]) (same-append (round t f) f (replicate k 0) (round-wide f))
         ∙ go (same (round t f) f) (rounds-padded n (round t f) (round-wide f ∙ e))
       where
-        go : (b : Bool) → rounds n t (pad (round t f)) ≡ pad (rounds n t (round t f)) → elim b as (λ _. List ℕ) [ true ↦ pad f | false ↦ rounds n t (pad (round t f)) ] ≡ pad (elim b [ true ↦ f | false ↦ rounds n t (round t f) ])
+        go :
+            (b : Bool) → rounds n t (pad (round t f)) ≡ pad (rounds n t (round t f))
+            → elim b as (λ _. List ℕ) [ true ↦ pad f | false ↦ rounds n t (pad (round t f)) ] ≡ pad (elim b [ true ↦ f | false ↦ rounds n t (round t f) ])
         go true h = refl
         go false h = h
 
@@ -118,12 +124,16 @@ unfolding sectioned
 sections-bounded h = record { states = h .few; internals = moves-of (h .internals-whole); calls = moves-of (h .calls-whole); returns = pops-of (h .returns-whole) }
 
 -- the words that the code starts with, and those that its rounds come to
-pub words-made : {s i c r start end : List ℕ} → StateParts s i c r → start ≡ startWords stateMost (sectioned 0 [] s [] [] []) ++ replicate (stateMost - length s) 0 → end ≡ rounds (suc (length s * suc (length s))) (sectioned 0 [] s i c r) start → end ≡ topWords (sectioned 0 [] s i c r)
+pub words-made :
+    {s i c r start end : List ℕ} → StateParts s i c r → start ≡ startWords stateMost (sectioned 0 [] s [] [] []) ++ replicate (stateMost - length s) 0
+    → end ≡ rounds (suc (length s * suc (length s))) (sectioned 0 [] s i c r) start → end ≡ topWords (sectioned 0 [] s i c r)
 unfolding startWords sectioned
 words-made {s} {i} {c} {r} h e f = f ∙ ap (rounds (suc (length s * suc (length s))) (sectioned 0 [] s i c r)) e ∙ words-padded (sections-bounded h)
 
 -- .. and the answer made of them
-pub answer-made : {s i c r words : List ℕ} {found : ℕ} → StateParts s i c r → words ≡ topWords (sectioned 0 [] s i c r) → found ≡ onesOver 64 (take (length s) words) → record { number = 0; words = words; found = found } ≡ topsFound (sectioned 0 [] s i c r)
+pub answer-made :
+    {s i c r words : List ℕ} {found : ℕ} → StateParts s i c r → words ≡ topWords (sectioned 0 [] s i c r) → found ≡ onesOver 64 (take (length s) words)
+    → record { number = 0; words = words; found = found } ≡ topsFound (sectioned 0 [] s i c r)
 unfolding topsFound sectioned
 answer-made {s} h e f =
     let n = f ∙ ap (λ (ws : List ℕ). onesOver 64 (take (length s) ws)) e ∙ ones-first (sections-bounded h) 64 ∙ count-ones (sections-bounded h) 64 (omega arith) in

@@ -71,7 +71,9 @@ module _ (L : Limits) (b : List ℕ) (readable : Readable L b) where
       }
 
 -- the answer is that of the sections
-pub tops-read : (b : List ℕ) → topsFound (sectioned 0 [] (slice (start b 1) (start b 2) b) (slice (start b 2) (start b 3) b) (slice (start b 3) (start b 4) b) (slice (start b 4) (trailer b) b)) ≡ topsFound (tableOf b)
+pub tops-read :
+    (b : List ℕ)
+    → topsFound (sectioned 0 [] (slice (start b 1) (start b 2) b) (slice (start b 2) (start b 3) b) (slice (start b 3) (start b 4) b) (slice (start b 4) (trailer b) b)) ≡ topsFound (tableOf b)
 unfolding tableOf sectioned
 tops-read b = let t = tableOf b in found-alike (t .states) (t .internals) (t .calls) (t .returns) (0, []) (t .version, t .symbols)
 
@@ -97,7 +99,9 @@ module _ (L : Limits) (b : List ℕ) where
       let r = read-as L b s (sym e) in
       rw (eq-eqb (readNumber L b) 0 (r .readable), examinedOf) (λ i. record { number = 0; starts = r .starts i; words = f i .words; found = f i .found })
 
-  pub examined-refused : {k : ℕ} → RefusedBy k ≡ readOf L b → record { number = k; starts = record { symbols = 0; states = 0; internals = 0; calls = 0; returns = 0 }; words = replicate stateMost 0; found = 0 } ≡ examinedOf L b
+  pub examined-refused :
+      {k : ℕ} → RefusedBy k ≡ readOf L b
+      → record { number = k; starts = record { symbols = 0; states = 0; internals = 0; calls = 0; returns = 0 }; words = replicate stateMost 0; found = 0 } ≡ examinedOf L b
   unfolding examinedOf
   examined-refused {k} e =
       let r = read-refused L b k (sym e) in
@@ -110,7 +114,9 @@ module _ (L : Limits) (b : List ℕ) where
       let g : t ≡ topsOf L b = rw (eq-eqb (readNumber L b) 0 (read-as L b s (sym e) .readable), topsOf) f in
       (g, subst (λ (t : TopWords). TopsExact L b t) (sym g) (tops-exact L b))
 
-  pub tops-refused : {k : ℕ} → RefusedBy k ≡ readOf L b → (record { number = k; words = replicate stateMost 0; found = 0 } ≡ topsOf L b) × TopsExact L b (record { number = k; words = replicate stateMost 0; found = 0 })
+  pub tops-refused :
+      {k : ℕ} → RefusedBy k ≡ readOf L b
+      → (record { number = k; words = replicate stateMost 0; found = 0 } ≡ topsOf L b) × TopsExact L b (record { number = k; words = replicate stateMost 0; found = 0 })
   unfolding topsOf
   tops-refused {k} e =
       let r = read-refused L b k (sym e) in

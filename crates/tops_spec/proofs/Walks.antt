@@ -149,7 +149,9 @@ return-grows = record { longer = λ r f. below r f (live f r); wide = λ r f. wi
     wide r f false = refl
 
 -- what each step keeps, the walk keeps
-pub walk-keeps : (P : List ℕ → Type 0) (step : List ℕ → List ℕ → List ℕ) (rs : List (List ℕ)) (f : List ℕ) → ((r : List ℕ) → List·Memᴰ r rs → (g : List ℕ) → P g → P (step r g)) → P f → P (walk step rs f)
+pub walk-keeps :
+    (P : List ℕ → Type 0) (step : List ℕ → List ℕ → List ℕ) (rs : List (List ℕ)) (f : List ℕ)
+    → ((r : List ℕ) → List·Memᴰ r rs → (g : List ℕ) → P g → P (step r g)) → P f → P (walk step rs f)
 unfolding walk
 walk-keeps P step [] f h p = p
 walk-keeps P step (r ∷ rs) f h p = walk-keeps P step rs (step r f) (λ s m. h s (List·Memᴰ·tail m)) (h r (List·Memᴰ·head refl) f p)

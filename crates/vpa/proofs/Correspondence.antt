@@ -28,7 +28,9 @@ module _ {S T : Type 0} (A : Automaton S) (m : S → T) where
       λ i. record { state = h .states i; stack = stacks i }
 
   -- the configurations of the class run are, one by one, the images of the input's
-  pub steps-image : {B : Automaton T} {c d : Configuration S} {C D : Configuration T} {w : List ℕ} {r : Run A c w d} {u : Run B C w D} → AtEveryStep (Corresponds A m) r u → map image (trace r) ≡ trace u
+  pub steps-image :
+      {B : Automaton T} {c d : Configuration S} {C D : Configuration T} {w : List ℕ} {r : Run A c w d} {u : Run B C w D} → AtEveryStep (Corresponds A m) r u
+      → map image (trace r) ≡ trace u
   unfolding trace
   steps-image (at-end h) = λ i. image-path h i ∷ []
   steps-image (at-step h k) = λ i. image-path h i ∷ steps-image k i
@@ -67,7 +69,9 @@ module _ {S T : Type 0} (A : Automaton S) (m : S → T) where
   joined h e k f = record { left = h; right = k; classes = e ∙ sym f }
 
   module _ (lawful : Lawful A) (raq : Raq A (Joined A m)) where
-    lift-return : {P U Q : T} {a : ℕ} {ξ : List T} {q : S} (τ : List S) → quotient A m .return P a U Q → m q ≡ P → map m τ ≡ U ∷ ξ → Reachable A (q at τ) → (d : Configuration S) × Step A (q at τ) a d × Linked d (Q at ξ)
+    lift-return :
+        {P U Q : T} {a : ℕ} {ξ : List T} {q : S} (τ : List S) → quotient A m .return P a U Q → m q ≡ P → map m τ ≡ U ∷ ξ → Reachable A (q at τ)
+        → (d : Configuration S) × Step A (q at τ) a d × Linked d (Q at ξ)
     unfolding quotient
     lift-return [] r e f h = let z : _≡_ {A = ℕ} 0 1 = cc in absurd (omega arith)
     lift-return (u ∷ τ) (p, s, p', ep, es, ep', r, k) e f h =
@@ -113,7 +117,10 @@ module _ {S T : Type 0} (A : Automaton S) (m : S → T) where
 
     -- ---- the same words, for any acceptance that corresponding configurations agree on
 
-    pub quotient-exact : {F : Configuration S → Type 0} {G : Configuration T → Type 0} → ((c : Configuration S) (C : Configuration T) → Reachable A c → Corresponds A m c C → F c ↔ G C) → (w : List ℕ) → AcceptsBy A F w ↔ AcceptsBy (quotient A m) G w
+    pub quotient-exact :
+        {F : Configuration S → Type 0} {G : Configuration T → Type 0}
+        → ((c : Configuration S) (C : Configuration T) → Reachable A c → Corresponds A m c C → F c ↔ G C) → (w : List ℕ)
+        → AcceptsBy A F w ↔ AcceptsBy (quotient A m) G w
     quotient-exact f w = (
       sim-accepts A (quotient A m) Linked image-sim (λ c C h. f c C (h .reachable) (h .corresponds) .0),
       sim-accepts (quotient A m) A (λ C c. Linked c C) (lift-sim lawful raq) (λ C c h. f c C (h .reachable) (h .corresponds) .1),

@@ -25,7 +25,9 @@ module _ {S T : Type 0} {A : Automaton S} {B : Automaton T} where
   steps-map f (at-end h) = at-end (f _ _ h)
   steps-map f (at-step h k) = at-step (f _ _ h) (steps-map f k)
 
-  pub steps-swap : {R : Configuration S → Configuration T → Type 0} {c d : Configuration S} {C D : Configuration T} {w : List ℕ} {r : Run A c w d} {u : Run B C w D} → AtEveryStep R r u → AtEveryStep (λ C c. R c C) u r
+  pub steps-swap :
+      {R : Configuration S → Configuration T → Type 0} {c d : Configuration S} {C D : Configuration T} {w : List ℕ} {r : Run A c w d} {u : Run B C w D}
+      → AtEveryStep R r u → AtEveryStep (λ C c. R c C) u r
   steps-swap (at-end h) = at-end h
   steps-swap (at-step h k) = at-step h (steps-swap k)
 
@@ -44,7 +46,9 @@ module _ {S T : Type 0} (A : Automaton S) (B : Automaton T) (R : Configuration S
       (l .0, then (k .1) (l .1), at-step h (l .2))
 
   -- a word that A accepts by F is accepted by B by G, where G holds whenever F holds of a related configuration
-  pub sim-accepts : Simulation → {F : Configuration S → Type 0} {G : Configuration T → Type 0} → ((c : Configuration S) (C : Configuration T) → R c C → F c → G C) → {w : List ℕ} → AcceptsBy A F w → AcceptsBy B G w
+  pub sim-accepts :
+      Simulation → {F : Configuration S → Type 0} {G : Configuration T → Type 0} → ((c : Configuration S) (C : Configuration T) → R c C → F c → G C)
+      → {w : List ℕ} → AcceptsBy A F w → AcceptsBy B G w
   sim-accepts sim ends h =
       let i = sim .starts (h .initially) in
       let k = sim-steps sim (h .run) (i .2) in

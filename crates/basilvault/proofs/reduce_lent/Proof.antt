@@ -46,7 +46,9 @@ few-states c = c .state-count .ensures .0
 map-room : (c : tie.After-state-count) → c .state-count .result ≤ length (c .before .before .before .before .before .before .before .reduce-within .last .1 .1 .1 .1 .0)
 map-room c = omega (arith, c .state-count .ensures .0, c .before .before .before .before .before .before .before .reduce-within .kept .1 .1 .1 .1 .0, length-replicate {A = ℕ} 40 0)
 
-checked : (c : tie.After-state-count) → (c .state-count .result ≡ count (tableOf (c .before .before .before .before .before .before .before .before .before .before .before .before .before .before .args .table .now))) × (checkNumber widest (c .before .before .before .before .before .before .before .before .before .before .before .before .before .before .args .table .now) (take (c .state-count .result) (c .before .before .before .before .before .before .before .reduce-within .last .1 .1 .1 .1 .0)) ≡ 0)
+checked :
+    (c : tie.After-state-count)
+    → (c .state-count .result ≡ count (tableOf (c .before .before .before .before .before .before .before .before .before .before .before .before .before .before .args .table .now))) × (checkNumber widest (c .before .before .before .before .before .before .before .before .before .before .before .before .before .before .args .table .now) (take (c .state-count .result) (c .before .before .before .before .before .before .before .reduce-within .last .1 .1 .1 .1 .0)) ≡ 0)
 checked c =
     let c2 = c .before .before in
     let c7 = c2 .before .before .before .before .before in

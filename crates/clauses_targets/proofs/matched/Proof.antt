@@ -22,7 +22,9 @@ abbrev start : tie.After-writes → tie.Start
 start c = c .before .before .before .before .before .before
 
 -- it is written, and fits
-fits : (c : tie.Else2) → start (c .before) .args .tally .words + 1 + (start (c .before) .args .premises .n + length (start (c .before) .args .found .now) / start (c .before) .args .width) ≤ length (start (c .before) .args .list .now)
+fits :
+    (c : tie.Else2)
+    → start (c .before) .args .tally .words + 1 + (start (c .before) .args .premises .n + length (start (c .before) .args .found .now) / start (c .before) .args .width) ≤ length (start (c .before) .args .list .now)
 fits c = let a = start (c .before) .args in put-room (a .tally) (clause (a .premises) (three-words (start (c .before))) (start (c .before) .pre .0 .two) (a .target) (start (c .before) .pre .0)) (a .list .now) _ (c .before .writes .ensures) (not-false _ (c .if2 .left))
 
 div-count : tie.Need-div-count

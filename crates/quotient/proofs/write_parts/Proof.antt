@@ -11,7 +11,9 @@ use Rattle.quotient.proofs.write_parts.Tie as tie
 abbrev start : tie.After-return-keys2 → tie.Start
 start c = c .before .before .before .before .before .before .before .before .before .before .before .before .before .before .before .before .before .before
 
-few : (c : tie.After-return-keys2) → Few (start c .args .symbols .now) (c .before .before .before .before .before .before .before .before .before .class-count .result) (c .before .before .before .before .before .before .before .collect .result) (c .before .before .before .before .collect2 .result) (c .before .collect3 .result)
+few :
+    (c : tie.After-return-keys2)
+    → Few (start c .args .symbols .now) (c .before .before .before .before .before .before .before .before .before .class-count .result) (c .before .before .before .before .before .before .before .collect .result) (c .before .before .before .before .collect2 .result) (c .before .collect3 .result)
 few c =
     let c1 = c .before in
     let c4 = c1 .before .before .before in

@@ -27,10 +27,14 @@ records-holds c = ending _ _
 here : (c : tie.In-records Inv-records μ-records) → c .before .records .i < recordsIn (c .before .before .before .before .args .width) (c .before .before .before .before .args .section .now)
 here c = let a = c .before .before .before .before in omega (arith, c .records-test .taken, records-count (a .args .width) (a .args .section .now))
 
-room : (c : tie.In-records Inv-records μ-records) → c .before .records .i * c .before .before .before .before .args .width + c .before .before .before .before .args .width ≤ length (c .before .before .before .before .args .section .now)
+room :
+    (c : tie.In-records Inv-records μ-records)
+    → c .before .records .i * c .before .before .before .before .args .width + c .before .before .before .before .args .width ≤ length (c .before .before .before .before .args .section .now)
 room c = let a = c .before .before .before .before in index-room (a .args .width) (a .args .section .now) (omega (arith, a .pre .moves)) (c .before .records .i) (here c)
 
-state : (c : tie.After-wide Inv-records μ-records) → c .wide .result ≡ stateAt (c .before .before .before .before .before .before .args .width) (c .before .before .before .before .before .before .args .section .now) (c .before .before .before .records .i)
+state :
+    (c : tie.After-wide Inv-records μ-records)
+    → c .wide .result ≡ stateAt (c .before .before .before .before .before .before .args .width) (c .before .before .before .before .before .before .args .section .now) (c .before .before .before .records .i)
 state c =
     let c2 = c .before .before in
     let c3 = c2 .before in

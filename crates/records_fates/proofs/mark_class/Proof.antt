@@ -25,17 +25,23 @@ records-holds : tie.Need-records-holds Inv-records μ-records
 records-holds c = let a = c .before .before .before .before in going _ _ _ _ _ _ _ _ (a .pre .1 .0) (a .pre .1 .1)
 
 -- a record stands at the index, and its state is there
-here : (c : tie.In-records Inv-records μ-records) → c .before .records .i < recordsIn (c .before .before .before .before .before .before .args .width) (c .before .before .before .before .before .before .args .section .now)
+here :
+    (c : tie.In-records Inv-records μ-records)
+    → c .before .records .i < recordsIn (c .before .before .before .before .before .before .args .width) (c .before .before .before .before .before .before .args .section .now)
 here c = let a = c .before .before .before .before .before .before in omega (arith, c .records-test .taken, records-count (a .args .width) (a .args .section .now))
 
 some : (c : tie.In-records Inv-records μ-records) → 0 < c .before .before .before .before .before .before .args .width
 some c = let a = c .before .before .before .before .before .before in omega (arith, a .pre .0 .0 .moves)
 
-room : (c : tie.In-records Inv-records μ-records) → c .before .records .i * c .before .before .before .before .before .before .args .width + c .before .before .before .before .before .before .args .width ≤ length (c .before .before .before .before .before .before .args .section .now)
+room :
+    (c : tie.In-records Inv-records μ-records)
+    → c .before .records .i * c .before .before .before .before .before .before .args .width + c .before .before .before .before .before .before .args .width ≤ length (c .before .before .before .before .before .before .args .section .now)
 room c = let a = c .before .before .before .before .before .before in index-room (a .args .width) (a .args .section .now) (some c) (c .before .records .i) (here c)
 
 -- the record that is lent, the class of its state, and the state
-fields : (c : tie.Then1 Inv-records μ-records) → take (c .before .before .before .before .records .i * c .before .before .before .before .before .before .before .before .before .args .width + c .before .before .before .before .before .before .before .before .before .args .width - c .before .before .before .before .records .i * c .before .before .before .before .before .before .before .before .before .args .width) (drop (c .before .before .before .before .records .i * c .before .before .before .before .before .before .before .before .before .args .width) (c .before .before .before .before .before .before .before .before .before .args .section .now)) ≡ recordAt (c .before .before .before .before .before .before .before .before .before .args .width) (c .before .before .before .before .before .before .before .before .before .args .section .now) (c .before .before .before .before .records .i)
+fields :
+    (c : tie.Then1 Inv-records μ-records)
+    → take (c .before .before .before .before .records .i * c .before .before .before .before .before .before .before .before .before .args .width + c .before .before .before .before .before .before .before .before .before .args .width - c .before .before .before .before .records .i * c .before .before .before .before .before .before .before .before .before .args .width) (drop (c .before .before .before .before .records .i * c .before .before .before .before .before .before .before .before .before .args .width) (c .before .before .before .before .before .before .before .before .before .args .section .now)) ≡ recordAt (c .before .before .before .before .before .before .before .before .before .args .width) (c .before .before .before .before .before .before .before .before .before .args .section .now) (c .before .before .before .before .records .i)
 fields c =
     let c3 = c .before .before .before in
     let c4 = c3 .before in
@@ -43,7 +49,9 @@ fields c =
     let the-before = c3 in
     let a = c9 in record-here (a .args .width) (a .args .section .now) (some (the-before)) (c4 .records .i) (here (the-before))
 
-class-here : (c : tie.After-class-at Inv-records μ-records) → c .class-at .result ≡ classOf (c .before .before .before .before .before .before .before .before .args .map .now) (stateAt (c .before .before .before .before .before .before .before .before .args .width) (c .before .before .before .before .before .before .before .before .args .section .now) (c .before .before .before .records .i))
+class-here :
+    (c : tie.After-class-at Inv-records μ-records)
+    → c .class-at .result ≡ classOf (c .before .before .before .before .before .before .before .before .args .map .now) (stateAt (c .before .before .before .before .before .before .before .before .args .width) (c .before .before .before .before .before .before .before .before .args .section .now) (c .before .before .before .records .i))
 class-here c =
     let c2 = c .before .before in
     let c3 = c2 .before in
@@ -51,7 +59,9 @@ class-here c =
     let the-before = c2 in
     let a = c8 in c .class-at .ensures ∙ ap (classOf (a .args .map .now)) (state-here (a .args .width) (a .args .section .now) (some (the-before)) (c3 .records .i) (here (the-before)))
 
-state : (c : tie.After-wide Inv-records μ-records) → c .wide .result ≡ stateAt (c .before .before .before .before .before .before .before .before .before .before .args .width) (c .before .before .before .before .before .before .before .before .before .before .args .section .now) (c .before .before .before .before .before .records .i)
+state :
+    (c : tie.After-wide Inv-records μ-records)
+    → c .wide .result ≡ stateAt (c .before .before .before .before .before .before .before .before .before .before .args .width) (c .before .before .before .before .before .before .before .before .before .before .args .section .now) (c .before .before .before .before .before .records .i)
 state c =
     let c4 = c .before .before .before .before in
     let c5 = c4 .before in

@@ -79,7 +79,9 @@ literal-low c =
     sink.literal-low (i .0) (most (t .before)) (i .2) (t .queue-test .taken) (a .conclude .ensures .0) (c .false-literal .ensures)
 
 -- its places
-range : (c : tie.After-wide2 Inv-queue μ-queue) → (c .before .before .wide .result ≤ c .wide2 .result) × (c .wide2 .result ≤ length (entry (turn (asked (ranged c)) .before) .args .clauses .now)) × (c .wide2 .result ≤ 32768)
+range :
+    (c : tie.After-wide2 Inv-queue μ-queue)
+    → (c .before .before .wide .result ≤ c .wide2 .result) × (c .wide2 .result ≤ length (entry (turn (asked (ranged c)) .before) .args .clauses .now)) × (c .wide2 .result ≤ 32768)
 range c =
     let l = ranged c in
     let a = asked l in
@@ -96,13 +98,17 @@ Seen c w s isBroken more =
     let q = c .before .queue in
     laws.SeenTo (withTriangles (a .list .now) (a .n)) (getD (q .trail) (q .at) 0) (slice (q .at + 1) (q .count) (q .trail)) (q .values) (q .trail) (q .count) w s isBroken more
 
-seen-broken : (c : tie.Then1 Inv-queue μ-queue) → let k = concluded (c .before) in Seen (turn k) (k .conclude .last .1 .1 .1 .0) (k .conclude .last .1 .1 .1 .1 .0) (k .conclude .result .broken) (k .conclude .result .count)
+seen-broken :
+    (c : tie.Then1 Inv-queue μ-queue)
+    → let k = concluded (c .before) in Seen (turn k) (k .conclude .last .1 .1 .1 .0) (k .conclude .last .1 .1 .1 .1 .0) (k .conclude .result .broken) (k .conclude .result .count)
 seen-broken c =
     let k = concluded (c .before) in
     let t = turn k in
     groups.first-broken (t .before .queue .inv .0) (t .queue-test .taken) (k .conclude .ensures .0) (c .if1 .taken)
 
-seen : (c : tie.After-propagate-units Inv-queue μ-queue) → Seen (turning (heeding (c .before))) (c .propagate-units .last .1 .1 .1 .1 .1 .0) (c .propagate-units .last .1 .1 .1 .1 .1 .1 .0) (c .propagate-units .result .broken) (c .propagate-units .result .count)
+seen :
+    (c : tie.After-propagate-units Inv-queue μ-queue)
+    → Seen (turning (heeding (c .before))) (c .propagate-units .last .1 .1 .1 .1 .1 .0) (c .propagate-units .last .1 .1 .1 .1 .1 .1 .0) (c .propagate-units .result .broken) (c .propagate-units .result .count)
 seen c =
     let f = heeding (c .before) in
     let w = fallen f in
@@ -115,7 +121,9 @@ seen c =
     groups.both-seen (i .0) h k (l .before .before .if1 .left) (sink.seen (i .0) (most (t .before)) (i .2) h k (l .false-literal .ensures) (entry (t .before) .pre .0 .0) (w .before .before .wide .ensures) (w .wide2 .ensures) (f .decrement .ensures .0) (f .decrement .ensures .1) (c .propagate-units .ensures .0))
 
 -- what is lent keeps its length while the words fall
-decrement-lengths : (c : tie.After-decrement Inv-queue μ-queue) → let a = entry (turning c .before) .args in (length (c .decrement .last .1 .1 .0) ≡ length (a .words .now)) × (length (c .decrement .last .1 .1 .1 .0) ≡ length (a .noted .now))
+decrement-lengths :
+    (c : tie.After-decrement Inv-queue μ-queue)
+    → let a = entry (turning c .before) .args in (length (c .decrement .last .1 .1 .0) ≡ length (a .words .now)) × (length (c .decrement .last .1 .1 .1 .0) ≡ length (a .noted .now))
 decrement-lengths c =
     let i = turning c .before .queue .inv in
     (c .decrement .ensures .0 .long ∙ i .3, c .decrement .kept .1 .1 .1 .0 ∙ i .4)

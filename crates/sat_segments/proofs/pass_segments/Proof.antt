@@ -40,7 +40,9 @@ few : (c : tie.In-scan Inv-scan μ-scan) → c .before .scan .k < 1024
 few c = omega (arith, c .scan-test .taken)
 
 -- it is what is lent
-span : (c : tie.In-scan Inv-scan μ-scan) → let starts = entry (c .before) .args .starts .now in Span (entry (c .before) .args .list .now) (getD starts (c .before .scan .k) 0) (getD starts (c .before .scan .k + 1) 0)
+span :
+    (c : tie.In-scan Inv-scan μ-scan)
+    → let starts = entry (c .before) .args .starts .now in Span (entry (c .before) .args .list .now) (getD starts (c .before .scan .k) 0) (getD starts (c .before .scan .k + 1) 0)
 span c = entry (c .before) .pre .0 .0 .each (c .before .scan .k) (few c)
 
 -- ---- what is left

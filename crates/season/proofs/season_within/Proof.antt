@@ -12,7 +12,9 @@ use borrow.Author.Needs.{needs}
 use Rattle.season.proofs.season_within.Statement.{statement}
 use Rattle.season.proofs.season_within.Tie as tie
 
-fits : (c : tie.Else2) → lengthsFit (length (c .before .before .before .before .before .before .before .before .before .args .tables .now)) (c .before .before .before .before .before .before .before .before .before .args .lengths .now) ≡ true
+fits :
+    (c : tie.Else2)
+    → lengthsFit (length (c .before .before .before .before .before .before .before .before .before .args .tables .now)) (c .before .before .before .before .before .before .before .before .before .args .lengths .now) ≡ true
 fits c = sym (c .before .lengths-fit .ensures) ∙ not-false _ (c .if2 .left)
 
 limits-fit-requires : tie.Need-limits-fit-requires

@@ -7,7 +7,9 @@ use Rattle.table_find.proofs.equal_range.Statement.{statement}
 use Rattle.table_find.proofs.equal_range.Tie as tie
 
 -- the span found
-spanned : (c : tie.After-last-at) → Span (c .before .before .before .before .before .before .args .width) (c .before .before .before .before .before .before .args .section .now) (c .before .before .before .before .before .before .args .wanted) (c .before .first-at .result) (c .last-at .result)
+spanned :
+    (c : tie.After-last-at)
+    → Span (c .before .before .before .before .before .before .args .width) (c .before .before .before .before .before .before .args .section .now) (c .before .before .before .before .before .before .args .wanted) (c .before .first-at .result) (c .last-at .result)
 spanned c = record { some-width = c .before .before .before .before .if1 .left; ordered = c .last-at .ensures .0 .0; within = c .last-at .ensures .0 .1; first = c .before .first-at .ensures .1; last = c .last-at .ensures .1 }
 
 slice-aggregate-result : tie.Need-slice-aggregate-result

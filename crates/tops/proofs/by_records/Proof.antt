@@ -14,7 +14,9 @@ abbrev μ-records : tie.MeasureT-records
 μ-records kind section words₀ width at₀ words at = length section - at
 
 -- what is known in the loop
-entered : (c : tie.In-records Inv-records μ-records) → (2 < c .before .before .width-of .result) × (c .before .records .at + c .before .before .width-of .result ≤ length (c .before .before .before .before .before .args .section .now))
+entered :
+    (c : tie.In-records Inv-records μ-records)
+    → (2 < c .before .before .width-of .result) × (c .before .records .at + c .before .before .width-of .result ≤ length (c .before .before .before .before .before .args .section .now))
 entered c = fits (c .before .records .inv) (c .records-test .taken) (c .before .before .width-of .ensures)
 
 width-of-requires : tie.Need-width-of-requires Inv-records μ-records

@@ -15,7 +15,9 @@ Inv-records width states from symbols density seed keys₀ all s₀ count₀ nex
 abbrev μ-records : tie.MeasureT-records
 μ-records width states from symbols density seed keys₀ all s₀ count₀ next₀ keys s count next = all - next
 
-sizes : (c : tie.After-tails-of Inv-records μ-records) → Sizes (c .before .before .args .width) (c .before .before .args .states) (c .before .before .args .from) (c .before .before .args .symbols) (c .tails-of .result)
+sizes :
+    (c : tie.After-tails-of Inv-records μ-records)
+    → Sizes (c .before .before .args .width) (c .before .before .args .states) (c .before .before .args .from) (c .before .before .args .symbols) (c .tails-of .result)
 sizes c = sizes-of (c .before .before .pre) (c .tails-of .ensures)
 
 tails-of-requires : tie.Need-tails-of-requires Inv-records μ-records

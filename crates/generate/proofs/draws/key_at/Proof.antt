@@ -11,7 +11,9 @@ sizes c = sizes-of (c .before .pre .0) (c .tails-of .ensures)
 parts : (c : tie.After-tails-of) → Parts (c .before .args .states) (c .before .args .symbols) (c .tails-of .result) (c .before .args .at)
 parts c = parts-of (c .before .args .at) (sizes c) (c .before .pre .1)
 
-last : (c : tie.Else1) → Last (c .before .before .args .states) (c .before .tails-of .result) (c .before .before .args .at % (c .before .before .args .symbols * c .before .tails-of .result) % c .before .tails-of .result)
+last :
+    (c : tie.Else1)
+    → Last (c .before .before .args .states) (c .before .tails-of .result) (c .before .before .args .at % (c .before .before .args .symbols * c .before .tails-of .result) % c .before .tails-of .result)
 last c = last-of (c .before .tails-of .ensures) (width-four (c .before .before .pre .0) (c .if1 .left)) (parts (c .before))
 
 tails-of-requires : tie.Need-tails-of-requires
