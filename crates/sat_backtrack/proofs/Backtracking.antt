@@ -1,4 +1,4 @@
--- A law for the words where a guess is undone: they are those before it. Assumes nothing.
+-- A law for the counters where a guess is undone: they are those before it. Assumes nothing.
 use mathlib.Core.Path.{_≡_, refl, sym, ap, _∙_, subst}
 use mathlib.Core.List.{List, _∷_}
 use Prim.Native.Nat.{ℕ, _+_, _≤_, _<_}
@@ -14,11 +14,11 @@ use Rattle.sat_counters.specs.Earlier.{earlier, CountersBefore}
 use Rattle.sat_counters.proofs.Earlier.{one-there}
 
 pub behind-undone :
-    {ws w s words v : List ℕ} {mark more x : ℕ} → mark < more → more ≤ length s → Undone w s mark more v x → CountersBefore ws w s mark more words
-    → CountersBefore ws v s mark (mark + 1) words
+    {ws w s counters v : List ℕ} {mark more x : ℕ} → mark < more → more ≤ length s → Undone w s mark more v x → CountersBefore ws w s mark more counters
+    → CountersBefore ws v s mark (mark + 1) counters
 unfolding unsetting
-behind-undone {ws} {w} {s} {words} {v} {mark} {more} {x} h room n b = record {
-  tallied = subst (λ (u : List ℕ). CountersOf ws u words) (sym then) (b .tallied);
+behind-undone {ws} {w} {s} {counters} {v} {mark} {more} {x} h room n b = record {
+  tallied = subst (λ (u : List ℕ). CountersOf ws u counters) (sym then) (b .tallied);
   counted = rw then (omega (arith, b .counted, ap length (n .values), length-set (unsetting w (slice mark more s)) x 0, length-unsetting w (slice mark more s)));
 }
   where

@@ -16,14 +16,14 @@ pub struct Flipped {
     pub count: usize,
 }
 
-// Undoes the guess at `mark` and all that was set after it, and sets its variable false, forced; the words go back too, where the list is indexed.
+// Undoes the guess at `mark` and all that was set after it, and sets its variable false, forced; the counters go back too, where the list is indexed.
 pub fn backtrack(
     list: &[u16],
     n: u8,
     table: &[u16],
     firsts: &[u16; 1561],
     clauses: &[u16],
-    words: &mut [u32],
+    counters: &mut [u32],
     saved: &mut [u32],
     values: &mut [u8],
     trail: &[u16],
@@ -33,12 +33,12 @@ pub fn backtrack(
     base: usize,
     count: usize,
 ) -> Flipped
-    requires { ⌜ IndexedIf (now list) (now firsts) (now clauses) × Sized (now clauses) (now words) × (length (now saved) ≡ length (now words)) ⌝ }
+    requires { ⌜ IndexedIf (now list) (now firsts) (now clauses) × Sized (now clauses) (now counters) × (length (now saved) ≡ length (now counters)) ⌝ }
     requires { ⌜ TrailMark (now list) (now values) (now trail) mark base count × CountersBeforeIf (now list) (now clauses) (now values) (now trail) base count (now saved) ⌝ }
     requires { ⌜ PairTable (now table) × Undoable (now values) (now trail) mark count × Rows n (now values) (now joined) (now apart) ⌝ }
     ensures { λ r. ⌜ Undone (now (values .entry)) (now (trail .entry)) mark count (now (values .exit)) (r .variable) × Rows n (now (values .exit)) (now (joined .exit)) (now (apart .exit)) ⌝ }
     ensures forced { λ r. ⌜ r .count ≡ mark + 1 ⌝ }
-    ensures back { λ _. ⌜ Back (now (list .entry)) (now (clauses .entry)) (now (values .exit)) (now (trail .entry)) mark (now (words .exit)) (now (saved .exit)) ⌝ }
+    ensures back { λ _. ⌜ Back (now (list .entry)) (now (clauses .entry)) (now (values .exit)) (now (trail .entry)) mark (now (counters .exit)) (now (saved .exit)) ⌝ }
 {
     // its variable stays set, for an earlier guess to undo
     let set = mark + 1;
@@ -47,7 +47,7 @@ pub fn backtrack(
             list,
             firsts,
             clauses,
-            words,
+            counters,
             saved,
             values,
             trail,

@@ -74,20 +74,20 @@ module _ {v : List ℕ} {x l : ℕ} (f : FalseOf v x l) where
     number-falls : (c : ℕ) → c < length (clausesIn ws) → weigh v (numbered ws c) + times c (placesOf firsts clauses l) * weight l ≡ weigh (set v x 2) (numbered ws c)
     number-falls c h = ap (λ (n : ℕ). weigh v (numbered ws c) + n * weight l) (i .stands l c (f .low) h) ∙ weigh-falls (numbered ws c)
 
-    pub can-decrement : {words : List ℕ} → CountersOf ws (set v x 2) words → Falls (placesOf firsts clauses l) l words
+    pub can-decrement : {counters : List ℕ} → CountersOf ws (set v x 2) counters → Falls (placesOf firsts clauses l) l counters
     can-decrement t = record {
       small = omega (arith, f .low);
       inside = λ c m. omega (arith, i .numbers l c (f .low) m, t .room);
       enough = λ c m. let h = i .numbers l c (f .low) m in omega (arith, t .each c h, number-falls c h);
     }
 
-    pub fell : {words words′ : List ℕ} → CountersOf ws (set v x 2) words → Fell (placesOf firsts clauses l) l words words′ → CountersOf ws v words′
+    pub fell : {counters counters′ : List ℕ} → CountersOf ws (set v x 2) counters → Fell (placesOf firsts clauses l) l counters counters′ → CountersOf ws v counters′
     fell t s = record {
       room = omega (arith, t .room, s .long);
       each = λ c h. omega (arith, t .each c h, number-falls c h, s .less c);
     }
 
-    pub can-increment : {words : List ℕ} {n : ℕ} → n ≤ 780 → Formed (clausesIn ws) n → CountersOf ws v words → Rises (placesOf firsts clauses l) l words
+    pub can-increment : {counters : List ℕ} {n : ℕ} → n ≤ 780 → Formed (clausesIn ws) n → CountersOf ws v counters → Rises (placesOf firsts clauses l) l counters
     can-increment few formed t = record {
       small = omega (arith, f .low);
       inside = λ c m. omega (arith, i .numbers l c (f .low) m, t .room);
@@ -98,7 +98,7 @@ module _ {v : List ℕ} {x l : ℕ} (f : FalseOf v x l) where
           omega (arith, t .each c h, number-falls c h, most, clause-short ws (numbered ws c) has, i .short);
     }
 
-    pub rose : {words words′ : List ℕ} → CountersOf ws v words → Fell (placesOf firsts clauses l) l words′ words → CountersOf ws (set v x 2) words′
+    pub rose : {counters counters′ : List ℕ} → CountersOf ws v counters → Fell (placesOf firsts clauses l) l counters′ counters → CountersOf ws (set v x 2) counters′
     rose t s = record {
       room = omega (arith, t .room, s .long);
       each = λ c h. omega (arith, t .each c h, number-falls c h, s .less c);

@@ -93,11 +93,11 @@ module _ (v t : List ℕ) {count : ℕ} (all : count + unsetCount v ≡ length v
   counted-on (suc k) from h c = let same : from + suc k ≡ from + k + 1 = omega arith in rw same (counted-next (from + k) (omega (arith, h)) (counted-on k from (omega (arith, h)) c))
 
 -- nothing is still to be seen to
-pub behind-rested : {ws v t words : List ℕ} {count : ℕ} → count + unsetCount v ≡ length v → count ≤ length t → CountersOf ws v words → CountersBefore ws v t count count words
-behind-rested {ws} {v} {t} {words} {count} c h b = let here = earlier-none v t c h in record { tallied = subst (λ (u : List ℕ). CountersOf ws u words) (sym here) b; counted = rw here c }
+pub behind-rested : {ws v t counters : List ℕ} {count : ℕ} → count + unsetCount v ≡ length v → count ≤ length t → CountersOf ws v counters → CountersBefore ws v t count count counters
+behind-rested {ws} {v} {t} {counters} {count} c h b = let here = earlier-none v t c h in record { tallied = subst (λ (u : List ℕ). CountersOf ws u counters) (sym here) b; counted = rw here c }
 
-pub rested-behind : {ws v t words : List ℕ} {at count : ℕ} → count + unsetCount v ≡ length v → count ≤ length t → at ≡ count → CountersBefore ws v t at count words → CountersOf ws v words
-rested-behind {ws} {v} {t} {words} {at} {count} c h e b = subst (λ (u : List ℕ). CountersOf ws u words) (ap (λ (i : ℕ). earlier v t i count) e ∙ earlier-none v t c h) (b .tallied)
+pub rested-behind : {ws v t counters : List ℕ} {at count : ℕ} → count + unsetCount v ≡ length v → count ≤ length t → at ≡ count → CountersBefore ws v t at count counters → CountersOf ws v counters
+rested-behind {ws} {v} {t} {counters} {at} {count} c h e b = subst (λ (u : List ℕ). CountersOf ws u counters) (ap (λ (i : ℕ). earlier v t i count) e ∙ earlier-none v t c h) (b .tallied)
 
 -- ---- further variables are set
 
@@ -105,7 +105,7 @@ module _ {v t w s : List ℕ} {count more at : ℕ} (g : Grown v t count w s mor
   pub earlier-grown : earlier w s at more ≡ earlier v t at count
   earlier-grown = ap (unsetting w) (grown-slice g h k) ∙ unsetting-append w (slice at count t) (g .new) ∙ ap (λ (u : List ℕ). unsetting u (slice at count t)) (g .back)
 
-  pub behind-grown : {ws words : List ℕ} → CountersBefore ws v t at count words → CountersBefore ws w s at more words
+  pub behind-grown : {ws counters : List ℕ} → CountersBefore ws v t at count counters → CountersBefore ws w s at more counters
   behind-grown b = record { tallied = rw earlier-grown (b .tallied); counted = rw (earlier-grown, grown-length g) (b .counted) }
 
 -- ---- a guess is made
@@ -115,9 +115,9 @@ pub one-there : (t : List ℕ) (at : ℕ) → at < length t → slice at (at + 1
 one-there t at h = slice-cons at (at + 1) t 0 (omega arith) (omega (arith, h)) ∙ rw (← add-one at, slice-empty)
 
 pub behind-guess :
-    {ws v words : List ℕ} (t : List ℕ) (at x k : ℕ) → CountersOf ws v words → at + unsetCount v ≡ length v → valueOf v x ≡ 2 → at < length t
-    → CountersBefore ws (set v x k) (set t at x) at (at + 1) words
-behind-guess {ws} {v} {words} t at x k b c e h = record { tallied = subst (λ (u : List ℕ). CountersOf ws u words) (sym then) b; counted = rw (then, length-set) c }
+    {ws v counters : List ℕ} (t : List ℕ) (at x k : ℕ) → CountersOf ws v counters → at + unsetCount v ≡ length v → valueOf v x ≡ 2 → at < length t
+    → CountersBefore ws (set v x k) (set t at x) at (at + 1) counters
+behind-guess {ws} {v} {counters} t at x k b c e h = record { tallied = subst (λ (u : List ℕ). CountersOf ws u counters) (sym then) b; counted = rw (then, length-set) c }
   where
     then : earlier (set v x k) (set t at x) at (at + 1) ≡ v
     then = ap (unsetting (set v x k)) (one-there (set t at x) at (rw length-set h) ∙ ap (λ (y : ℕ). y ∷ []) (getD-set-same t at x 0 h)) ∙ unsetting-store v x k e

@@ -1,4 +1,4 @@
--- Laws for the walks over a literal's places that take its weight from the words of its clauses, and give it back. Assumes nothing.
+-- Laws for the walks over a literal's places that take its weight from the counters of its clauses, and give it back. Assumes nothing.
 use mathlib.Core.Path.{_≡_, refl, sym, ap, _∙_}
 use mathlib.Core.Logic.{_⊎_, inl, inr, _≢_}
 use mathlib.Core.List.{List, [], _∷_, _++_, List·Memᴰ, List·Memᴰ·head, Memᴰ·append-left, Memᴰ·append-right, List·Memᴰ·append-cases as append-cases, List·Memᴰ·not-nil as not-nil, List·Memᴰ·eq-of-singleton as eq-of-singleton, List·Memᴰ·cases-cons as cases-cons}
@@ -32,14 +32,14 @@ module _ (places : List ℕ) (l k : ℕ) (h : k < length places) where
 
 -- ---- taking
 
--- from the words before to the words now: the weight of the places ahead is still to be taken
+-- from the counters before to the counters now: the weight of the places ahead is still to be taken
 pub record Taking (places : List ℕ) (l : ℕ) (before now : List ℕ) (k : ℕ) : Type 0 where
   pub inside : k ≤ length places
   pub long : length now ≡ length before
   pub still : (c : ℕ) → getD now c 0 + times c places * weight l ≡ getD before c 0 + ahead places l k c
 
-pub taking : (places : List ℕ) (l : ℕ) (words : List ℕ) → Taking places l words words 0
-taking places l words = record { inside = omega arith; long = refl; still = λ c. refl }
+pub taking : (places : List ℕ) (l : ℕ) (counters : List ℕ) → Taking places l counters counters 0
+taking places l counters = record { inside = omega arith; long = refl; still = λ c. refl }
 
 pub taken : {places before now : List ℕ} {l k : ℕ} → Taking places l before now k → length places ≤ k → Fell places l before now
 taken {places} {before} {now} {l} {k} t h = record { long = t .long; less = λ c. omega (arith, t .still c, ahead-none places l k c h) }
@@ -153,14 +153,14 @@ module _ {places now noted : List ℕ} {k count c : ℕ} (n : Noting places now 
 
 -- ---- giving back
 
--- from the words before to the words now: the weight of the places ahead is still to be given
+-- from the counters before to the counters now: the weight of the places ahead is still to be given
 pub record Giving (places : List ℕ) (l : ℕ) (before now : List ℕ) (k : ℕ) : Type 0 where
   pub inside : k ≤ length places
   pub long : length now ≡ length before
   pub still : (c : ℕ) → getD before c 0 + times c places * weight l ≡ getD now c 0 + ahead places l k c
 
-pub giving : (places : List ℕ) (l : ℕ) (words : List ℕ) → Giving places l words words 0
-giving places l words = record { inside = omega arith; long = refl; still = λ c. refl }
+pub giving : (places : List ℕ) (l : ℕ) (counters : List ℕ) → Giving places l counters counters 0
+giving places l counters = record { inside = omega arith; long = refl; still = λ c. refl }
 
 pub given-back : {places before now : List ℕ} {l k : ℕ} → Giving places l before now k → length places ≤ k → Fell places l now before
 given-back {places} {before} {now} {l} {k} g h = record { long = sym (g .long); less = λ c. omega (arith, g .still c, ahead-none places l k c h) }

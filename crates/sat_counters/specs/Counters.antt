@@ -44,30 +44,30 @@ weigh v [] = 0
 weigh v (l ∷ ls) = elim (isFalse v l) [ true ↦ weigh v ls | false ↦ weight l + weigh v ls ]
 
 -- each clause has its word
-pub record CountersOf (ws v words : List ℕ) : Type 0 where
-  pub room : length (clausesIn ws) ≤ length words
-  pub each : (c : ℕ) → c < length (clausesIn ws) → getD words c 0 ≡ weigh v (numbered ws c)
+pub record CountersOf (ws v counters : List ℕ) : Type 0 where
+  pub room : length (clausesIn ws) ≤ length counters
+  pub each : (c : ℕ) → c < length (clausesIn ws) → getD counters c 0 ≡ weigh v (numbered ws c)
 
--- the words have the weight for each place
-pub record Falls (places : List ℕ) (l : ℕ) (words : List ℕ) : Type 0 where
+-- the counters have the weight for each place
+pub record Falls (places : List ℕ) (l : ℕ) (counters : List ℕ) : Type 0 where
   pub small : l < 2048
-  pub inside : (c : ℕ) → List·Memᴰ c places → c < length words
-  pub enough : (c : ℕ) → List·Memᴰ c places → times c places * weight l ≤ getD words c 0
+  pub inside : (c : ℕ) → List·Memᴰ c places → c < length counters
+  pub enough : (c : ℕ) → List·Memᴰ c places → times c places * weight l ≤ getD counters c 0
 
 -- it is taken from them
-pub record Fell (places : List ℕ) (l : ℕ) (words words′ : List ℕ) : Type 0 where
-  pub long : length words′ ≡ length words
-  pub less : (c : ℕ) → getD words′ c 0 + times c places * weight l ≡ getD words c 0
+pub record Fell (places : List ℕ) (l : ℕ) (counters counters′ : List ℕ) : Type 0 where
+  pub long : length counters′ ≡ length counters
+  pub less : (c : ℕ) → getD counters′ c 0 + times c places * weight l ≡ getD counters c 0
 
 -- of the places' clauses those are noted that have at most one literal left
-pub record Noted (places words noted : List ℕ) (count : ℕ) : Type 0 where
+pub record Noted (places counters noted : List ℕ) (count : ℕ) : Type 0 where
   pub few : count ≤ length noted
   pub among : (c : ℕ) → List·Memᴰ c (take count noted) → List·Memᴰ c places
-  pub light : (c : ℕ) → List·Memᴰ c (take count noted) → getD words c 0 < 4096
-  pub every : (c : ℕ) → List·Memᴰ c places → getD words c 0 < 4096 → List·Memᴰ c (take count noted)
+  pub light : (c : ℕ) → List·Memᴰ c (take count noted) → getD counters c 0 < 4096
+  pub every : (c : ℕ) → List·Memᴰ c places → getD counters c 0 < 4096 → List·Memᴰ c (take count noted)
 
 -- there is room for the weight
-pub record Rises (places : List ℕ) (l : ℕ) (words : List ℕ) : Type 0 where
+pub record Rises (places : List ℕ) (l : ℕ) (counters : List ℕ) : Type 0 where
   pub small : l < 2048
-  pub inside : (c : ℕ) → List·Memᴰ c places → c < length words
-  pub room : (c : ℕ) → List·Memᴰ c places → getD words c 0 + times c places * weight l < 4294967296
+  pub inside : (c : ℕ) → List·Memᴰ c places → c < length counters
+  pub room : (c : ℕ) → List·Memᴰ c places → getD counters c 0 + times c places * weight l < 4294967296

@@ -1,4 +1,4 @@
--- Laws for a variable of the queue: the words lose the weight of its false literal, and its clauses are seen to. Assumes nothing.
+-- Laws for a variable of the queue: the counters lose the weight of its false literal, and its clauses are seen to. Assumes nothing.
 use mathlib.Core.Path.{_≡_, refl, sym, ap, _∙_, subst}
 use mathlib.Core.Logic.{_⊎_, inl, inr, _≢_}
 use mathlib.Core.Bool.{Bool, true, false}
@@ -29,7 +29,7 @@ use Rattle.sat_counters.proofs.Times.{times-some, times-in}
 use Rattle.sat_units.specs.Units.{UnitsNoted, Heeded}
 use Rattle.sat_units.proofs.Places.{mem-place}
 
-module _ {ws : List ℕ} {ds : List (List ℕ)} {v t w s : List ℕ} {start count at : ℕ} (j : Both (clausesIn ws) ds v t start w s count at) (most : length v ≤ 780) {words : List ℕ} (b : CountersBefore ws w s at count words) where
+module _ {ws : List ℕ} {ds : List (List ℕ)} {v t w s : List ℕ} {start count at : ℕ} (j : Both (clausesIn ws) ds v t start w s count at) (most : length v ≤ 780) {counters : List ℕ} (b : CountersBefore ws w s at count counters) where
   ready : Ready (clausesIn ws ++ ds) w s count
   ready = queue-ready (j .queueing)
 
@@ -37,10 +37,10 @@ module _ {ws : List ℕ} {ds : List (List ℕ)} {v t w s : List ℕ} {start coun
   room = omega (arith, ready .counted, ready .room)
 
   -- the queue is empty
-  pub sunk : count ≤ at → CountersOf ws w words
+  pub sunk : count ≤ at → CountersOf ws w counters
   sunk h =
       let stop : at ≡ count = omega (arith, h, j .queueing .queue .inside) in
-      subst (λ (u : List ℕ). CountersOf ws u words) (ap (λ (i : ℕ). earlier w s i count) stop ∙ earlier-none w s (ready .counted) room) (b .tallied)
+      subst (λ (u : List ℕ). CountersOf ws u counters) (ap (λ (i : ℕ). earlier w s i count) stop ∙ earlier-none w s (ready .counted) room) (b .tallied)
 
   module _ (h : at < count) where
     -- the variable, and the values before the later ones were set
@@ -94,21 +94,21 @@ module _ {ws : List ℕ} {ds : List (List ℕ)} {v t w s : List ℕ} {start coun
           lent : take (z - a) (drop a clauses) ≡ placesOf firsts clauses l
           lent = lent-part a z clauses (range .0) ∙ rw (from, to)
 
-          before : CountersOf ws (set y x 2) words
-          before = subst (λ (q : List ℕ). CountersOf ws q words) was (b .tallied)
+          before : CountersOf ws (set y x 2) counters
+          before = subst (λ (q : List ℕ). CountersOf ws q counters) was (b .tallied)
 
-          pub falls : Falls (take (z - a) (drop a clauses)) l words × (length (take (z - a) (drop a clauses)) ≤ length clauses)
+          pub falls : Falls (take (z - a) (drop a clauses)) l counters × (length (take (z - a) (drop a clauses)) ≤ length clauses)
           falls = (rw lent (can-decrement is-false d before), rw lent (places-room d literal-low))
 
-          module _ {words′ noted : List ℕ} {few : ℕ} (f : Fell (take (z - a) (drop a clauses)) l words words′) (o : Noted (take (z - a) (drop a clauses)) words′ noted few) where
-            after : CountersOf ws y words′
+          module _ {counters′ noted : List ℕ} {few : ℕ} (f : Fell (take (z - a) (drop a clauses)) l counters counters′) (o : Noted (take (z - a) (drop a clauses)) counters′ noted few) where
+            after : CountersOf ws y counters′
             after = fell is-false d before (rw lent at f)
 
             extends : y ⊑ u
             unfolding y
             extends = ⊑-trans (earlier-extends w (slice (at + 1) count s)) (worked-extends (first-ready j h) (k .worked))
 
-            pub told : length noted ≤ 32768 → length words ≤ 32768 → UnitsNoted ws u words′ (take few noted)
+            pub told : length noted ≤ 32768 → length counters ≤ 32768 → UnitsNoted ws u counters′ (take few noted)
             told short small = record {
               short = omega (arith, short, length-take few noted);
               few = omega (arith, small, f .long);
@@ -148,7 +148,7 @@ module _ {ws : List ℕ} {ds : List (List ℕ)} {v t w s : List ℕ} {start coun
                 where
                   here :
                       isBroken′ ≡ false → (c : List ℕ) → List·Memᴰ c (clausesIn ws) → (i : ℕ) → i < length (clausesIn ws) → numbered ws i ≡ c
-                      → List·Memᴰ i (placesOf firsts clauses l) → Dec (getD words′ i 0 < 4096) → SettledOr u′ (qs ++ g .worked .grown .new) c
+                      → List·Memᴰ i (placesOf firsts clauses l) → Dec (getD counters′ i 0 < 4096) → SettledOr u′ (qs ++ g .worked .grown .new) c
                   here q c mc i lt is mi (yes low) = settled-or-behind qs (rw is at (g .settles q i (o .every i (rw lent mi) low)))
                   here q c mc i lt is mi (no high) =
                       let heavy : 4096 ≤ weigh y (numbered ws i) = omega (arith, after .each i lt, high) in
@@ -158,14 +158,14 @@ module _ {ws : List ℕ} {ds : List (List ℕ)} {v t w s : List ℕ} {start coun
                   go q c mc m mm p (yes is) =
                       let place = mem-place (clausesIn ws) [] c mc in
                       let stands : 0 < times l (numbered ws (place .0)) = rw (place .2) (times-some l c (rw is at mm)) in
-                      here q c mc (place .0) (place .1) (place .2) (times-in (place .0) (placesOf firsts clauses l) (omega (arith, d .stands l (place .0) literal-low (place .1), stands))) (decLt (getD words′ (place .0) 0) 4096)
+                      here q c mc (place .0) (place .1) (place .2) (times-in (place .0) (placesOf firsts clauses l) (omega (arith, d .stands l (place .0) literal-low (place .1), stands))) (decLt (getD counters′ (place .0) 0) 4096)
                   go q c mc m mm p (no n) = inl (holds m mm (rw p (omega (arith, p, n, e, variable-set .1, now-value))))
 
               -- the next one
-              pub sinks-on : CountersBefore ws u′ r′ (at + 1) more words′
+              pub sinks-on : CountersBefore ws u′ r′ (at + 1) more counters′
               unfolding y
               sinks-on = record {
-                tallied = subst (λ (q : List ℕ). CountersOf ws q words′) (sym then) after;
+                tallied = subst (λ (q : List ℕ). CountersOf ws q counters′) (sym then) after;
                 counted = rw then (omega (arith, counted-next w s (ready .counted) room at h (b .counted), worked-length on (g .worked), same-length));
               }
                 where

@@ -21,7 +21,7 @@ pub fn propagate(
     clauses: &[u16],
     starts: &[usize],
     masks: &[u64],
-    words: &mut [u32],
+    counters: &mut [u32],
     noted: &mut [u16],
     values: &mut [u8],
     trail: &mut [u16],
@@ -30,8 +30,8 @@ pub fn propagate(
     from: usize,
     start: usize,
 ) -> Reached
-    requires { ⌜ Prepared (now list) (now firsts) (now clauses) (now starts) (now masks) (now words) (now noted) ⌝ }
-    requires { ⌜ CountersBeforeIf (now list) (now clauses) (now values) (now trail) from start (now words) ⌝ }
+    requires { ⌜ Prepared (now list) (now firsts) (now clauses) (now starts) (now masks) (now counters) (now noted) ⌝ }
+    requires { ⌜ CountersBeforeIf (now list) (now clauses) (now values) (now trail) from start (now counters) ⌝ }
     requires { ⌜ Ready (withTriangles (now list) n) (now values) (now trail) start ⌝ }
     requires { ⌜ Queue (withTriangles (now list) n) (now values) (now trail) from start × (length (now values) ≤ 780) ⌝ }
     requires { ⌜ PairTable (now table) × Rows n (now values) (now joined) (now apart) ⌝ }
@@ -39,7 +39,7 @@ pub fn propagate(
         Settles (withTriangles (now (list .entry)) n) (now (values .entry)) (now (trail .entry)) start (now (values .exit)) (now (trail .exit)) (r .broken)
         (r .count)
         × Rows n (now (values .exit)) (now (joined .exit)) (now (apart .exit)) ⌝ }
-    ensures caught { λ r. ⌜ CountersAtRestIf (now (list .entry)) (now (clauses .entry)) (now (values .exit)) (now (words .exit)) (r .broken) ⌝ }
+    ensures caught { λ r. ⌜ CountersAtRestIf (now (list .entry)) (now (clauses .entry)) (now (values .exit)) (now (counters .exit)) (r .broken) ⌝ }
 {
     if from == start {
         return Reached {
@@ -54,7 +54,7 @@ pub fn propagate(
             table,
             firsts,
             clauses,
-            words,
+            counters,
             noted,
             values,
             trail,

@@ -27,7 +27,7 @@ pub fn propagate_indexed(
     table: &[u16],
     firsts: &[u16; 1561],
     clauses: &[u16],
-    words: &mut [u32],
+    counters: &mut [u32],
     noted: &mut [u16],
     values: &mut [u8],
     trail: &mut [u16],
@@ -36,16 +36,16 @@ pub fn propagate_indexed(
     from: usize,
     start: usize,
 ) -> Reached
-    requires { ⌜ Indexed (now list) (now firsts) (now clauses) × Room (now clauses) (now words) (now noted) ⌝ }
+    requires { ⌜ Indexed (now list) (now firsts) (now clauses) × Room (now clauses) (now counters) (now noted) ⌝ }
     requires { ⌜ Ready (withTriangles (now list) n) (now values) (now trail) start ⌝ }
     requires { ⌜ Queue (withTriangles (now list) n) (now values) (now trail) from start × (length (now values) ≤ 780) ⌝ }
-    requires { ⌜ CountersBefore (now list) (now values) (now trail) from start (now words) ⌝ }
+    requires { ⌜ CountersBefore (now list) (now values) (now trail) from start (now counters) ⌝ }
     requires { ⌜ PairTable (now table) × Rows n (now values) (now joined) (now apart) ⌝ }
     ensures { λ r. ⌜
         Settles (withTriangles (now (list .entry)) n) (now (values .entry)) (now (trail .entry)) start (now (values .exit)) (now (trail .exit)) (r .broken)
         (r .count)
         × Rows n (now (values .exit)) (now (joined .exit)) (now (apart .exit)) ⌝ }
-    ensures caught { λ r. ⌜ CountersAtRest (now (list .entry)) (now (values .exit)) (now (words .exit)) (r .broken) ⌝ }
+    ensures caught { λ r. ⌜ CountersAtRest (now (list .entry)) (now (values .exit)) (now (counters .exit)) (r .broken) ⌝ }
 {
     let mut at = from;
     let mut count = start;
@@ -58,12 +58,12 @@ pub fn propagate_indexed(
         }
         let l = false_literal(values, x);
         let places = &clauses[wide(firsts[l])..wide(firsts[l + 1])];
-        let few = decrement(places, l as u16, words, noted);
+        let few = decrement(places, l as u16, counters, noted);
         let r = propagate_units(
             list,
             n,
             table,
-            words,
+            counters,
             &noted[..few],
             values,
             trail,

@@ -63,9 +63,9 @@ module _ {ws v t : List ℕ} {mark base count : ℕ} (p : TrailMark ws v t mark 
         low = literal-low;
       }
 
-      module _ {firsts clauses words : List ℕ} (d : Indexed ws firsts clauses) (b : CountersBefore ws v t i count words) where
-        behind : CountersOf ws (earlier v t (at + 1) count) words
-        behind = subst (λ (j : ℕ). CountersOf ws (earlier v t j count) words) after (b .tallied)
+      module _ {firsts clauses counters : List ℕ} (d : Indexed ws firsts clauses) (b : CountersBefore ws v t i count counters) where
+        behind : CountersOf ws (earlier v t (at + 1) count) counters
+        behind = subst (λ (j : ℕ). CountersOf ws (earlier v t j count) counters) after (b .tallied)
 
         -- the places that the code lends
         module _ {a z : ℕ} (from : a ≡ getD firsts l 0) (to : z ≡ getD firsts (l + 1) 0) where
@@ -75,12 +75,12 @@ module _ {ws v t : List ℕ} {mark base count : ℕ} (p : TrailMark ws v t mark 
           lent : take (z - a) (drop a clauses) ≡ placesOf firsts clauses l
           lent = lent-part a z clauses (range .0) ∙ rw (from, to)
 
-          pub rises : Rises (take (z - a) (drop a clauses)) l words × (length (take (z - a) (drop a clauses)) ≤ length clauses)
+          pub rises : Rises (take (z - a) (drop a clauses)) l counters × (length (take (z - a) (drop a clauses)) ≤ length clauses)
           rises = (rw lent (can-increment is-false d (p .most) (p .ready .formed) behind), rw lent (places-room d literal-low))
 
-          pub climbed : {words′ : List ℕ} → Fell (take (z - a) (drop a clauses)) l words′ words → CountersBefore ws v t (i - 1) count words′
+          pub climbed : {counters′ : List ℕ} → Fell (take (z - a) (drop a clauses)) l counters′ counters → CountersBefore ws v t (i - 1) count counters′
           unfolding at
-          climbed {words′} f = record {
-            tallied = subst (λ (u : List ℕ). CountersOf ws u words′) (sym (earlier-next v t (p .ready .counted) trail-room at inner counted)) (rose is-false d behind (rw lent at f));
+          climbed {counters′} f = record {
+            tallied = subst (λ (u : List ℕ). CountersOf ws u counters′) (sym (earlier-next v t (p .ready .counted) trail-room at inner counted)) (rose is-false d behind (rw lent at f));
             counted = counted;
           }

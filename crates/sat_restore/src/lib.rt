@@ -9,7 +9,7 @@ use sat_counters::false_literal;
 use sat_counters::increment;
 use sat_trail::wide;
 
-// Copies the words.
+// Copies the counters.
 pub fn copy(from: &[u32], to: &mut [u32])
     requires { ⌜ (length (now from) ≡ length (now to)) × (length (now to) ≤ 32768) ⌝ }
     ensures { λ _. ⌜ now (to .exit) ≡ now (from .entry) ⌝ }
@@ -26,32 +26,32 @@ fn recount(
     list: &[u16],
     firsts: &[u16; 1561],
     clauses: &[u16],
-    words: &mut [u32],
+    counters: &mut [u32],
     values: &[u8],
     trail: &[u16],
     mark: usize,
     base: usize,
     count: usize,
 )
-    requires { ⌜ Indexed (now list) (now firsts) (now clauses) × Sized (now clauses) (now words) ⌝ }
-    requires { ⌜ TrailMark (now list) (now values) (now trail) mark base count × CountersBefore (now list) (now values) (now trail) base count (now words) ⌝ }
-    ensures { λ _. ⌜ CountersBefore (now (list .entry)) (now (values .entry)) (now (trail .entry)) mark count (now (words .exit)) ⌝ }
+    requires { ⌜ Indexed (now list) (now firsts) (now clauses) × Sized (now clauses) (now counters) ⌝ }
+    requires { ⌜ TrailMark (now list) (now values) (now trail) mark base count × CountersBefore (now list) (now values) (now trail) base count (now counters) ⌝ }
+    ensures { λ _. ⌜ CountersBefore (now (list .entry)) (now (values .entry)) (now (trail .entry)) mark count (now (counters .exit)) ⌝ }
 {
     let mut i = base;
     'trail: while mark < i {
         i -= 1;
         let l = false_literal(values, trail[i]);
         let places = &clauses[wide(firsts[l])..wide(firsts[l + 1])];
-        increment(places, l as u16, words);
+        increment(places, l as u16, counters);
     }
 }
 
-// The words before the guess at `mark`: those that were saved before the variables from `base` on, and back from there. They are saved too.
+// The counters before the guess at `mark`: those that were saved before the variables from `base` on, and back from there. They are saved too.
 pub fn restore(
     list: &[u16],
     firsts: &[u16; 1561],
     clauses: &[u16],
-    words: &mut [u32],
+    counters: &mut [u32],
     saved: &mut [u32],
     values: &[u8],
     trail: &[u16],
@@ -59,11 +59,11 @@ pub fn restore(
     base: usize,
     count: usize,
 )
-    requires { ⌜ Indexed (now list) (now firsts) (now clauses) × Sized (now clauses) (now words) × (length (now saved) ≡ length (now words)) ⌝ }
+    requires { ⌜ Indexed (now list) (now firsts) (now clauses) × Sized (now clauses) (now counters) × (length (now saved) ≡ length (now counters)) ⌝ }
     requires { ⌜ TrailMark (now list) (now values) (now trail) mark base count × CountersBefore (now list) (now values) (now trail) base count (now saved) ⌝ }
-    ensures { λ _. ⌜ CountersBefore (now (list .entry)) (now (values .entry)) (now (trail .entry)) mark count (now (words .exit)) × (now (saved .exit) ≡ now (words .exit)) ⌝ }
+    ensures { λ _. ⌜ CountersBefore (now (list .entry)) (now (values .entry)) (now (trail .entry)) mark count (now (counters .exit)) × (now (saved .exit) ≡ now (counters .exit)) ⌝ }
 {
-    copy(saved, words);
+    copy(saved, counters);
     if mark == base {
         return;
     }
@@ -71,12 +71,12 @@ pub fn restore(
         list,
         firsts,
         clauses,
-        words,
+        counters,
         values,
         trail,
         mark,
         base,
         count,
     );
-    copy(words, saved);
+    copy(counters, saved);
 }

@@ -1,4 +1,4 @@
--- Laws for the words of the clauses over the turns. Assumes nothing.
+-- Laws for the counters of the clauses over the turns. Assumes nothing.
 use mathlib.Core.Path.{_≡_}
 use mathlib.Core.Bool.{Bool, true, false}
 use mathlib.Core.List.{List}
@@ -28,19 +28,19 @@ marked-none = record { before = λ d z. absurd (omega (arith, z)) }
 pub marked-guess : (ms : List ℕ) {depth at : ℕ} → depth < length ms → Marked (set ms depth at) (depth + 1) at
 marked-guess ms {depth} {at} h = record { before = λ d z. let same : d ≡ depth = omega (arith, z) in rw same (omega (arith, getD-set-same ms depth at 0 h)) }
 
--- what is prepared does not depend on what the words and notes are
+-- what is prepared does not depend on what the counters and notes are
 pub prepared-on :
-    {ws firsts clauses starts masks words noted words′ noted′ : List ℕ} → length words′ ≡ length words → length noted′ ≡ length noted
-    → Prepared ws firsts clauses starts masks words noted → Prepared ws firsts clauses starts masks words′ noted′
+    {ws firsts clauses starts masks counters noted counters′ noted′ : List ℕ} → length counters′ ≡ length counters → length noted′ ≡ length noted
+    → Prepared ws firsts clauses starts masks counters noted → Prepared ws firsts clauses starts masks counters′ noted′
 prepared-on a b p = record { all-there = p .all-there; indexed = p .indexed; marked = p .marked; room = record { few = omega (arith, a, p .room .few); noted-room = omega (arith, b, p .room .noted-room); short = omega (arith, b, p .room .short) } }
 
-pub prepared-sized : {ws firsts clauses starts masks words noted words′ : List ℕ} → length words′ ≡ length words → Prepared ws firsts clauses starts masks words noted → Sized clauses words′
+pub prepared-sized : {ws firsts clauses starts masks counters noted counters′ : List ℕ} → length counters′ ≡ length counters → Prepared ws firsts clauses starts masks counters noted → Sized clauses counters′
 prepared-sized a p = record { few = omega (arith, p .room .noted-room, p .room .short); small = omega (arith, a, p .room .few) }
 
 -- the first closing is done
 pub lags-first :
-    {ws v t words : List ℕ} {count : ℕ} (clauses : List ℕ) → CountersOfIf ws clauses v words → count + unsetCount v ≡ length v → count ≤ length t
-    → CountersBeforeIf ws clauses v t count count words
+    {ws v t counters : List ℕ} {count : ℕ} (clauses : List ℕ) → CountersOfIf ws clauses v counters → count + unsetCount v ≡ length v → count ≤ length t
+    → CountersBeforeIf ws clauses v t count count counters
 lags-first clauses t c h = λ k. behind-rested c h (t k)
 
 module _ (ws : List ℕ) (m : ℕ) {v t ms w s : List ℕ} {n b most from count depth made low more : ℕ} {isBroken : Bool} (i : Turning (withTriangles ws m) n b most v t ms from count depth made low) (c : Settles (withTriangles ws m) v t count w s isBroken more) where
@@ -55,9 +55,9 @@ module _ (ws : List ℕ) (m : ℕ) {v t ms w s : List ℕ} {n b most from count 
     room = omega (arith, after-size i c, after-count i c);
   }
 
-  -- the words that were saved
+  -- the counters that were saved
   pub saved-on :
-      {words saved : List ℕ} (clauses : List ℕ) → (length ws ≤ length clauses → saved ≡ words) → CountersBeforeIf ws clauses v t from count words
+      {counters saved : List ℕ} (clauses : List ℕ) → (length ws ≤ length clauses → saved ≡ counters) → CountersBeforeIf ws clauses v t from count counters
       → CountersBeforeIf ws clauses w s from more saved
   saved-on clauses e l = λ k. rw (e k) (behind-grown (c .grown) (i .queue .inside) trail-room (l k))
 
@@ -74,8 +74,8 @@ module _ (ws : List ℕ) (m : ℕ) {v t ms w s : List ℕ} {n b most from count 
 
   -- a guess is made
   pub lags-guess :
-      {x l k last : ℕ} {words u r joined apart : List ℕ} (clauses : List ℕ) (e : isBroken ≡ false) (f : LowestUnset w low x)
-      → CountersAtRestIf ws clauses w words isBroken → l ≡ 2 * x → Forced k w s more l u r joined apart last → CountersBeforeIf ws clauses u r more last words
+      {x l k last : ℕ} {counters u r joined apart : List ℕ} (clauses : List ℕ) (e : isBroken ≡ false) (f : LowestUnset w low x)
+      → CountersAtRestIf ws clauses w counters isBroken → l ≡ 2 * x → Forced k w s more l u r joined apart last → CountersBeforeIf ws clauses u r more last counters
   lags-guess {x} {l} clauses e f g z h =
       let half : l / 2 ≡ x = omega (arith, z) in
       λ y. rw (h .assigned .values, h .trail, h .count-more, half) (behind-guess s more x (1 - l % 2) (g y e) (c .grown .counted) (f .first .found (f .inside)) (omega (arith, room-left i c e f, after-count i c)))

@@ -25,7 +25,7 @@ pub fn places() -> [u16; 780]
 }
 
 // Closes the values, then undoes the latest guess or makes one, until the search ends; where the budget is spent, walks back to the trial that
-// is held. The trail has the variables that are set, in order; `marks` has the place on it of each guess that stands; every variable below `low` is
+// is held. The trail has the variables that are set, in order; `levels` has the place on it of each guess that stands; every variable below `low` is
 // set.
 pub fn turns(
     list: &[u16],
@@ -35,7 +35,7 @@ pub fn turns(
     clauses: &[u16],
     starts: &[usize],
     masks: &[u64],
-    words: &mut [u32],
+    counters: &mut [u32],
     saved: &mut [u32],
     noted: &mut [u16],
     values: &mut [u8],
@@ -45,13 +45,13 @@ pub fn turns(
     budget: u64,
     start: usize,
 ) -> Ending
-    requires { ⌜ Prepared (now list) (now firsts) (now clauses) (now starts) (now masks) (now words) (now noted) ⌝ }
-    requires { ⌜ CountersOfIf (now list) (now clauses) (now values) (now words) × (length (now saved) ≡ length (now words)) ⌝ }
+    requires { ⌜ Prepared (now list) (now firsts) (now clauses) (now starts) (now masks) (now counters) (now noted) ⌝ }
+    requires { ⌜ CountersOfIf (now list) (now clauses) (now values) (now counters) × (length (now saved) ≡ length (now counters)) ⌝ }
     requires { ⌜ Rested (withTriangles (now list) n) (length (now values)) (now values) (now trail) start ⌝ }
     requires { ⌜ PairTable (now table) × Rows n (now values) (now joined) (now apart) ⌝ }
     ensures { λ r. ⌜ EndsWith (searchTried (withTriangles (now (list .entry)) n) (length (now (values .entry))) budget) r (now (values .exit)) (notFalse (now (values .entry))) ⌝ }
 {
-    let mut marks = places();
+    let mut levels = places();
     let mut at = start;
     let mut count = start;
     let mut depth: usize = 0;
@@ -66,7 +66,7 @@ pub fn turns(
             clauses,
             starts,
             masks,
-            words,
+            counters,
             noted,
             values,
             trail,
@@ -80,14 +80,14 @@ pub fn turns(
                 return Ending::Absent(made);
             }
             depth -= 1;
-            let mark = wide(marks[depth]);
+            let mark = wide(levels[depth]);
             let undone = backtrack(
                 list,
                 n,
                 table,
                 firsts,
                 clauses,
-                words,
+                counters,
                 saved,
                 values,
                 trail,
@@ -116,7 +116,7 @@ pub fn turns(
                     trail,
                     joined,
                     apart,
-                    &marks,
+                    &levels,
                     depth,
                     r.count,
                 );
@@ -124,8 +124,8 @@ pub fn turns(
             }
             Due::Guess(x) => {
                 at = r.count;
-                copy(words, saved);
-                marks[depth] = at as u16;
+                copy(counters, saved);
+                levels[depth] = at as u16;
                 depth += 1;
                 made += 1;
                 // literal 2x says that x is true

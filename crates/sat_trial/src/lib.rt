@@ -107,14 +107,14 @@ pub fn walk_back(
     trail: &[u16],
     joined: &mut [u64; 40],
     apart: &mut [u64; 40],
-    marks: &[u16; 780],
+    levels: &[u16; 780],
     guesses: usize,
     start: usize,
 )
     requires { ⌜ (whole (now list) ≡ true) × Formed (clausesIn (now list)) (length (now values)) ⌝ }
     requires { ⌜ PairTable (now table) × Rows n (now values) (now joined) (now apart) ⌝ }
-    requires { ⌜ Retraceable (now values) (now trail) (now marks) guesses start ⌝ }
-    ensures { λ _. ⌜ now (values .exit) ≡ backAlong (clausesIn (now (list .entry))) (now (marks .entry)) (now (values .entry)) (take start (now (trail .entry))) guesses ⌝ }
+    requires { ⌜ Retraceable (now values) (now trail) (now levels) guesses start ⌝ }
+    ensures { λ _. ⌜ now (values .exit) ≡ backAlong (clausesIn (now (list .entry))) (now (levels .entry)) (now (values .entry)) (take start (now (trail .entry))) guesses ⌝ }
 {
     let mut depth = guesses;
     let mut count = start;
@@ -128,7 +128,7 @@ pub fn walk_back(
             return;
         }
         depth -= 1;
-        let mark = wide(marks[depth]);
+        let mark = wide(levels[depth]);
         undo_to(n, table, values, trail, joined, apart, mark, count);
         count = mark;
     }

@@ -20,16 +20,16 @@ use Rattle.sat_units.specs.Units.{UnitsNoted, Heeded}
 use Rattle.sat_units.proofs.Places.{mem-place}
 
 -- before the k-th of them: each that was seen to is settled, or one of its variables was set
-pub record Hearing (ws words noted v₀ t₀ : List ℕ) (start : ℕ) (v t : List ℕ) (count k : ℕ) : Type 0 where
+pub record Hearing (ws counters noted v₀ t₀ : List ℕ) (start : ℕ) (v t : List ℕ) (count k : ℕ) : Type 0 where
   pub ready : Ready (clausesIn ws) v₀ t₀ start
-  pub told : UnitsNoted ws v₀ words noted
+  pub told : UnitsNoted ws v₀ counters noted
   pub worked : Worked (clausesIn ws) v₀ t₀ start v t false count
   pub heard : (j : ℕ) → j < k → SettledOr v (worked .grown .new) (numbered ws (getD noted j 0))
 
-pub hearing : {ws words noted v t : List ℕ} {start : ℕ} → Ready (clausesIn ws) v t start → UnitsNoted ws v words noted → Hearing ws words noted v t start v t start 0
+pub hearing : {ws counters noted v t : List ℕ} {start : ℕ} → Ready (clausesIn ws) v t start → UnitsNoted ws v counters noted → Hearing ws counters noted v t start v t start 0
 hearing r o = record { ready = r; told = o; worked = worked-none r; heard = λ j h. absurd (omega (arith, h)) }
 
-module _ {ws words noted v₀ t₀ v t : List ℕ} {start count k : ℕ} (p : Hearing ws words noted v₀ t₀ start v t count k) where
+module _ {ws counters noted v₀ t₀ v t : List ℕ} {start count k : ℕ} (p : Hearing ws counters noted v₀ t₀ start v t count k) where
   -- all are
   pub heard-all : length noted ≤ k → Heeded ws noted v₀ t₀ start v t false count
   heard-all h = record { worked = p .worked; settles = λ _ c m. go c (mem-place noted 0 c m) }
@@ -37,14 +37,14 @@ module _ {ws words noted v₀ t₀ v t : List ℕ} {start count k : ℕ} (p : He
       go : (c : ℕ) → (j : ℕ) × (j < length noted) × (getD noted j 0 ≡ c) → SettledOr v (p .worked .grown .new) (numbered ws c)
       go c q = rw (q .2) at (p .heard (q .0) (omega (arith, q .1, h)))
 
-  module _ (h : k < length noted) {c w : ℕ} (is : c ≡ getD noted k 0) (word : w ≡ getD words c 0) where
+  module _ (h : k < length noted) {c w : ℕ} (is : c ≡ getD noted k 0) (word : w ≡ getD counters c 0) where
     in-noted : List·Memᴰ c noted
     in-noted = rw is (getD-mem noted k 0 h)
 
     number : c < length (clausesIn ws)
     number = p .told .numbers c in-noted
 
-    pub word-inside : c < length words
+    pub word-inside : c < length counters
     word-inside = omega (arith, number, p .told .tallied .room)
 
     clause-here : List·Memᴰ (numbered ws c) (clausesIn ws)
@@ -70,7 +70,7 @@ module _ {ws words noted v₀ t₀ v t : List ℕ} {start count k : ℕ} (p : He
     on :
         {v′ t′ : List ℕ} {count′ : ℕ} (q : Worked (clausesIn ws) v₀ t₀ start v′ t′ false count′)
         → ((d : List ℕ) → SettledOr v (p .worked .grown .new) d → SettledOr v′ (q .grown .new) d) → SettledOr v′ (q .grown .new) (numbered ws c)
-        → Hearing ws words noted v₀ t₀ start v′ t′ count′ (k + 1)
+        → Hearing ws counters noted v₀ t₀ start v′ t′ count′ (k + 1)
     on {v′} q more s = record { ready = p .ready; told = p .told; worked = q; heard = λ j b. go j b (ℕ-discrete j k) }
       where
         go : (j : ℕ) → j < k + 1 → Dec (j ≡ k) → SettledOr v′ (q .grown .new) (numbered ws (getD noted j 0))
@@ -91,7 +91,7 @@ module _ {ws words noted v₀ t₀ v t : List ℕ} {start count k : ℕ} (p : He
       pub literal-inside : m / 2 < length v
       literal-inside = asked-below (p .ready) (p .worked) clause-here m (one-left (p .told .before) (numbered ws c) from to rest)
 
-      pub hear-right : isRight v m ≡ true → Hearing ws words noted v₀ t₀ start v t count (k + 1)
+      pub hear-right : isRight v m ≡ true → Hearing ws counters noted v₀ t₀ start v t count (k + 1)
       hear-right r = on (p .worked) (λ d s. s) (asked-quiet v (numbered ws c) (p .worked .grown .new) (one-right extends (numbered ws c) from to rest r))
 
       pub hear-false : isRight v m ≡ false → isUnset v m ≡ false → Heeded ws noted v₀ t₀ start v t true count
@@ -104,5 +104,5 @@ module _ {ws words noted v₀ t₀ v t : List ℕ} {start count k : ℕ} (p : He
         pub can-hear : {n : ℕ} {joined apart : List ℕ} → Rows n v joined apart → Settable n v joined apart (m / 2) (1 - m % 2) × (count < length t)
         can-hear = can-force (p .ready) (p .worked) clause-here forces
 
-        pub hear-forced : {n more : ℕ} {v′ t′ joined apart : List ℕ} → Forced n v t count m v′ t′ joined apart more → Hearing ws words noted v₀ t₀ start v′ t′ more (k + 1)
+        pub hear-forced : {n more : ℕ} {v′ t′ joined apart : List ℕ} → Forced n v t count m v′ t′ joined apart more → Hearing ws counters noted v₀ t₀ start v′ t′ more (k + 1)
         hear-forced f = on (worked-store (p .ready) (p .worked) clause-here forces f) (λ d s. store-keeps (p .ready) (p .worked) clause-here forces f s) (store-own (p .ready) (p .worked) clause-here forces f)

@@ -12,12 +12,12 @@ use sat_literal::is_unset;
 use sat_trail::force;
 use sat_trail::wide;
 
-// Sees to clauses that have at most one literal left, by their words: one that is unset is forced, and without one the clause is broken.
+// Sees to clauses that have at most one literal left, by their counters: one that is unset is forced, and without one the clause is broken.
 pub fn propagate_units(
     list: &[u16],
     n: u8,
     table: &[u16],
-    words: &[u32],
+    counters: &[u32],
     noted: &[u16],
     values: &mut [u8],
     trail: &mut [u16],
@@ -26,7 +26,7 @@ pub fn propagate_units(
     start: usize,
 ) -> Reached
     requires { ⌜ Ready (clausesIn (now list)) (now values) (now trail) start × (length (now values) ≤ 780) ⌝ }
-    requires { ⌜ UnitsNoted (now list) (now values) (now words) (now noted) ⌝ }
+    requires { ⌜ UnitsNoted (now list) (now values) (now counters) (now noted) ⌝ }
     requires { ⌜ PairTable (now table) × Rows n (now values) (now joined) (now apart) ⌝ }
     ensures { λ r. ⌜
         Heeded (now (list .entry)) (now (noted .entry)) (now (values .entry)) (now (trail .entry)) start (now (values .exit)) (now (trail .exit)) (r .broken)
@@ -36,7 +36,7 @@ pub fn propagate_units(
     let mut count = start;
     let mut k: usize = 0;
     'noted: while k < noted.len() {
-        let w = words[wide(noted[k])];
+        let w = counters[wide(noted[k])];
         if w < 2048 {
             return Reached {
                 broken: true,

@@ -1,4 +1,4 @@
--- `sat_counters::count_literals` meets its contract. The loop's invariant: the clauses passed have their words. Assumes nothing.
+-- `sat_counters::count_literals` meets its contract. The loop's invariant: the clauses passed have their counters. Assumes nothing.
 use borrow.Author.Needs.{needs}
 use native.Mathlib.Omega.{arith}
 use mathlib.Core.Path.{_≡_, refl, _∙_}
@@ -10,10 +10,10 @@ use Rattle.sat_counters.proofs.count_literals.Statement.{statement}
 use Rattle.sat_counters.proofs.count_literals.Tie as tie
 
 abbrev Inv-clauses : tie.InvT-clauses
-Inv-clauses list values words₀ count₀ at₀ words count at = laws.Tallying list values words count at × (length words ≡ length words₀)
+Inv-clauses list values counters₀ count₀ at₀ counters count at = laws.Tallying list values counters count at × (length counters ≡ length counters₀)
 
 abbrev μ-clauses : tie.MeasureT-clauses
-μ-clauses list values words₀ count₀ at₀ words count at = length list - at
+μ-clauses list values counters₀ count₀ at₀ counters count at = length list - at
 
 clauses-holds : tie.Need-clauses-holds Inv-clauses μ-clauses
 clauses-holds c = (laws.tallying _ _ (c .before .before .before .pre .0 .0), refl)
@@ -64,11 +64,11 @@ weigh-clause-requires c κs =
     let the-taken = c3 .clauses-test .taken in
     (laws.lent-over (the-clauses .inv .0) the-taken (the-pre .0 .1) (c1 .wide .ensures), the-pre .0 .2, laws.lent-short (the-clauses .inv .0) the-taken (c1 .wide .ensures) (the-pre .1 .0))
 
-mul-words : tie.Need-mul-words Inv-clauses μ-clauses
-mul-words c = search needs
+mul-counters : tie.Need-mul-counters Inv-clauses μ-clauses
+mul-counters c = search needs
 
-slice-write-words : tie.Need-slice-write-words Inv-clauses μ-clauses
-slice-write-words c =
+slice-write-counters : tie.Need-slice-write-counters Inv-clauses μ-clauses
+slice-write-counters c =
     let c4 = c .before .before .before .before in
     let c5 = c4 .before in
     let c9 = c5 .before .before .before .before in
@@ -94,7 +94,7 @@ clauses-again c =
     let the-taken = c4 .clauses-test .taken in
     let the-room = laws.count-inside (the-clauses .inv .0) the-taken in (
       laws.count-literals-on (the-clauses .inv .0) the-taken (c2 .wide .ensures) (omega (arith, the-room, the-pre .1 .1, the-clauses .inv .1)) (c .weigh-clause .ensures),
-      length-set (the-clauses .words) (the-clauses .count) (c .weigh-clause .result) ∙ the-clauses .inv .1,
+      length-set (the-clauses .counters) (the-clauses .count) (c .weigh-clause .result) ∙ the-clauses .inv .1,
     )
 
 same-length : tie.Need-same-length Inv-clauses μ-clauses
@@ -122,8 +122,8 @@ count-literals-spec =
     part-weigh-clause-start
     part-weigh-clause-end
     weigh-clause-requires
-    mul-words
-    slice-write-words
+    mul-counters
+    slice-write-counters
     add-count
     clauses-less
     clauses-again

@@ -11,10 +11,10 @@ use Rattle.sat_counters.proofs.decrement.Statement.{statement}
 use Rattle.sat_counters.proofs.decrement.Tie as tie
 
 abbrev Inv-places : tie.InvT-places
-Inv-places places l words₀ noted₀ weight count₀ k₀ words noted count k = laws.Taking places l words₀ words k × laws.Noting places words noted k count × (length noted ≡ length noted₀)
+Inv-places places l counters₀ noted₀ weight count₀ k₀ counters noted count k = laws.Taking places l counters₀ counters k × laws.Noting places counters noted k count × (length noted ≡ length noted₀)
 
 abbrev μ-places : tie.MeasureT-places
-μ-places places l words₀ noted₀ weight count₀ k₀ words noted count k = length places - k
+μ-places places l counters₀ noted₀ weight count₀ k₀ counters noted count k = length places - k
 
 add-weight : tie.Need-add-weight Inv-places μ-places
 add-weight c = search needs
@@ -60,15 +60,15 @@ sub-left c =
 wide-requires-2 : tie.Need-wide-requires-2 Inv-places μ-places
 wide-requires-2 c κs = search needs
 
-mul-words : tie.Need-mul-words Inv-places μ-places
-mul-words c =
+mul-counters : tie.Need-mul-counters Inv-places μ-places
+mul-counters c =
     let the-places = c .before .before .before .before .before .places in
     let the-pre = c .before .before .before .before .before .before .before .before .before .pre in
     let the-taken = c .before .before .before .before .places-test .taken in
     search (needs, laws.place-inside (the-pre .0) (the-places .inv .0) the-taken)
 
-slice-write-words : tie.Need-slice-write-words Inv-places μ-places
-slice-write-words c =
+slice-write-counters : tie.Need-slice-write-counters Inv-places μ-places
+slice-write-counters c =
     let the-places = c .before .before .before .before .before .places in
     let the-pre = c .before .before .before .before .before .before .before .before .before .pre in
     let the-taken = c .before .before .before .before .places-test .taken in
@@ -102,8 +102,8 @@ places-again c =
     let the-args = c10 .args in
     let the-wide = c3 .wide in
     let the-clause = getD (the-args .places .now) (the-places .k) 0 in
-    let the-left = getD (the-places .words) (the-wide .result) 0 - (2048 + the-args .l) in
-    let the-next = laws.take-on (the-pre .0) (the-places .inv .0) the-taken {c = the-clause} refl (ap (λ x. getD (the-places .words) x 0 - (2048 + the-args .l)) (the-wide .ensures)) in
+    let the-left = getD (the-places .counters) (the-wide .result) 0 - (2048 + the-args .l) in
+    let the-next = laws.take-on (the-pre .0) (the-places .inv .0) the-taken {c = the-clause} refl (ap (λ x. getD (the-places .counters) x 0 - (2048 + the-args .l)) (the-wide .ensures)) in
     let the-length = length-set (the-places .noted) (the-places .count) the-clause ∙ the-places .inv .2 in
     ⊎-elim
     (λ w. rw (c1 .wide2 .ensures, w .1) (the-next, laws.note-it (the-places .inv .1) the-taken refl the-left (laws.place-inside (the-pre .0) (the-places .inv .0) the-taken) (w .0 .taken), the-length))
@@ -137,8 +137,8 @@ decrement-spec =
     slice-read-left
     sub-left
     wide-requires-2
-    mul-words
-    slice-write-words
+    mul-counters
+    slice-write-counters
     mul-noted
     slice-write-noted
     add-count

@@ -8,10 +8,10 @@ use Rattle.sat_counters.proofs.increment.Statement.{statement}
 use Rattle.sat_counters.proofs.increment.Tie as tie
 
 abbrev Inv-places : tie.InvT-places
-Inv-places places l words₀ weight i₀ words i = laws.Giving places l words₀ words i
+Inv-places places l counters₀ weight i₀ counters i = laws.Giving places l counters₀ counters i
 
 abbrev μ-places : tie.MeasureT-places
-μ-places places l words₀ weight i₀ words i = length places - i
+μ-places places l counters₀ weight i₀ counters i = length places - i
 
 add-weight : tie.Need-add-weight Inv-places μ-places
 add-weight c = search needs
@@ -31,36 +31,36 @@ shared-slice-read-wide c = search needs
 wide-requires : tie.Need-wide-requires Inv-places μ-places
 wide-requires c κs = search needs
 
-mul-words : tie.Need-mul-words Inv-places μ-places
-mul-words c =
+mul-counters : tie.Need-mul-counters Inv-places μ-places
+mul-counters c =
     let the-places = c .before .before .before .places in
     let the-pre = c .before .before .before .before .before .before .pre in
     let the-taken = c .before .before .places-test .taken in
     search (needs, laws.give-inside (the-pre .0) (the-places .inv) the-taken)
 
-slice-read-words : tie.Need-slice-read-words Inv-places μ-places
-slice-read-words c =
+slice-read-counters : tie.Need-slice-read-counters Inv-places μ-places
+slice-read-counters c =
     let the-places = c .before .before .before .before .places in
     let the-pre = c .before .before .before .before .before .before .before .pre in
     let the-taken = c .before .before .before .places-test .taken in
     search (needs, laws.give-inside (the-pre .0) (the-places .inv) the-taken)
 
-add-words : tie.Need-add-words Inv-places μ-places
-add-words c =
+add-counters : tie.Need-add-counters Inv-places μ-places
+add-counters c =
     let the-places = c .before .before .before .before .places in
     let the-pre = c .before .before .before .before .before .before .before .pre in
     let the-taken = c .before .before .before .places-test .taken in
     search (needs, laws.give-room (the-pre .0) (the-places .inv) the-taken)
 
-mul-words-2 : tie.Need-mul-words-2 Inv-places μ-places
-mul-words-2 c =
+mul-counters-2 : tie.Need-mul-counters-2 Inv-places μ-places
+mul-counters-2 c =
     let the-places = c .before .before .before .before .places in
     let the-pre = c .before .before .before .before .before .before .before .pre in
     let the-taken = c .before .before .before .places-test .taken in
     search (needs, laws.give-inside (the-pre .0) (the-places .inv) the-taken)
 
-slice-write-words : tie.Need-slice-write-words Inv-places μ-places
-slice-write-words c =
+slice-write-counters : tie.Need-slice-write-counters Inv-places μ-places
+slice-write-counters c =
     let the-places = c .before .before .before .before .places in
     let the-pre = c .before .before .before .before .before .before .before .pre in
     let the-taken = c .before .before .before .places-test .taken in
@@ -101,11 +101,11 @@ increment-spec =
     mul-wide
     shared-slice-read-wide
     wide-requires
-    mul-words
-    slice-read-words
-    add-words
-    mul-words-2
-    slice-write-words
+    mul-counters
+    slice-read-counters
+    add-counters
+    mul-counters-2
+    slice-write-counters
     add-i
     places-less
     places-again

@@ -1,4 +1,4 @@
--- `sat_propagate::propagate_indexed` meets its contract. The loop's invariant: what was set are unit steps, the clauses wait for the rest of the queue only, and the words
+-- `sat_propagate::propagate_indexed` meets its contract. The loop's invariant: what was set are unit steps, the clauses wait for the rest of the queue only, and the counters
 -- are those before the rest of the queue was set. Assumes nothing.
 use borrow.Author.Needs.{needs}
 use native.Mathlib.Omega.{arith}
@@ -21,11 +21,11 @@ use Rattle.sat_propagate.proofs.propagate_indexed.Statement.{statement}
 use Rattle.sat_propagate.proofs.propagate_indexed.Tie as tie
 
 abbrev Inv-queue : tie.InvT-queue
-Inv-queue list n table firsts clauses words₀ noted₀ values₀ trail₀ joined₀ apart₀ from start at₀ count₀ words noted values trail joined apart at count =
-    groups.Both (clausesIn list) (triangles n) values₀ trail₀ start values trail count at × Rows n values joined apart × CountersBefore list values trail at count words × (length words ≡ length words₀) × (length noted ≡ length noted₀)
+Inv-queue list n table firsts clauses counters₀ noted₀ values₀ trail₀ joined₀ apart₀ from start at₀ count₀ counters noted values trail joined apart at count =
+    groups.Both (clausesIn list) (triangles n) values₀ trail₀ start values trail count at × Rows n values joined apart × CountersBefore list values trail at count counters × (length counters ≡ length counters₀) × (length noted ≡ length noted₀)
 
 abbrev μ-queue : tie.MeasureT-queue
-μ-queue list n table firsts clauses words₀ noted₀ values₀ trail₀ joined₀ apart₀ from start at₀ count₀ words noted values trail joined apart at count =
+μ-queue list n table firsts clauses counters₀ noted₀ values₀ trail₀ joined₀ apart₀ from start at₀ count₀ counters noted values trail joined apart at count =
     length values - at
 
 -- ---- places of the code, from later ones: the entry, a turn of the queue, and what follows each call
@@ -48,7 +48,7 @@ ranged c = c .before .before .before .before
 abbrev fallen : tie.After-decrement Inv-queue μ-queue → tie.After-wide2 Inv-queue μ-queue
 fallen c = c .before .before .before .before
 
--- the turn, from after the fall of the words
+-- the turn, from after the fall of the counters
 abbrev turning : tie.After-decrement Inv-queue μ-queue → tie.In-queue Inv-queue μ-queue
 turning c = turn (asked (ranged (fallen c)))
 
@@ -120,10 +120,10 @@ seen c =
     let k = a .conclude .ensures .0 in
     groups.both-seen (i .0) h k (l .before .before .if1 .left) (sink.seen (i .0) (most (t .before)) (i .2) h k (l .false-literal .ensures) (entry (t .before) .pre .0 .0) (w .before .before .wide .ensures) (w .wide2 .ensures) (f .decrement .ensures .0) (f .decrement .ensures .1) (c .propagate-units .ensures .0))
 
--- what is lent keeps its length while the words fall
+-- what is lent keeps its length while the counters fall
 decrement-lengths :
     (c : tie.After-decrement Inv-queue μ-queue)
-    → let a = entry (turning c .before) .args in (length (c .decrement .last .1 .1 .0) ≡ length (a .words .now)) × (length (c .decrement .last .1 .1 .1 .0) ≡ length (a .noted .now))
+    → let a = entry (turning c .before) .args in (length (c .decrement .last .1 .1 .0) ≡ length (a .counters .now)) × (length (c .decrement .last .1 .1 .1 .0) ≡ length (a .noted .now))
 decrement-lengths c =
     let i = turning c .before .queue .inv in
     (c .decrement .ensures .0 .long ∙ i .3, c .decrement .kept .1 .1 .1 .0 ∙ i .4)

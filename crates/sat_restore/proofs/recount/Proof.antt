@@ -1,4 +1,4 @@
--- `sat_restore::recount` meets its contract. The loop's invariant: the words are those before the trail's variables from i on were set. Assumes nothing.
+-- `sat_restore::recount` meets its contract. The loop's invariant: the counters are those before the trail's variables from i on were set. Assumes nothing.
 use borrow.Author.Needs.{needs}
 use native.Mathlib.Omega.{arith}
 use Prim.Native.Nat.{_≤_}
@@ -11,10 +11,10 @@ use Rattle.sat_restore.proofs.recount.Statement.{statement}
 use Rattle.sat_restore.proofs.recount.Tie as tie
 
 abbrev Inv-trail : tie.InvT-trail
-Inv-trail list firsts clauses words₀ values trail mark base count i₀ words i = CountersBefore list values trail i count words × (mark ≤ i) × (i ≤ base) × (length words ≡ length words₀)
+Inv-trail list firsts clauses counters₀ values trail mark base count i₀ counters i = CountersBefore list values trail i count counters × (mark ≤ i) × (i ≤ base) × (length counters ≡ length counters₀)
 
 abbrev μ-trail : tie.MeasureT-trail
-μ-trail list firsts clauses words₀ values trail mark base count i₀ words i = i
+μ-trail list firsts clauses counters₀ values trail mark base count i₀ counters i = i
 
 trail-holds : tie.Need-trail-holds Inv-trail μ-trail
 trail-holds c =

@@ -1,4 +1,4 @@
--- `sat_search::turns` meets its contract. The loop's invariant: whatever end the turns lead to from here, with the trial held, they lead to from the start; the words are
+-- `sat_search::turns` meets its contract. The loop's invariant: whatever end the turns lead to from here, with the trial held, they lead to from the start; the counters are
 -- those of the values before the last closing began, and are saved where a guess stands. The measure is twice the guesses left and the guesses that stand. Assumes nothing.
 use borrow.Author.Needs.{needs}
 use Prim.Native.Nat.{suc, _+_, _-_, _*_, _≤_, _<_}
@@ -19,12 +19,12 @@ use Rattle.sat_search.proofs.turns.Statement.{statement}
 use Rattle.sat_search.proofs.turns.Tie as tie
 
 abbrev Inv-turns : tie.InvT-turns
-Inv-turns list n table firsts clauses starts masks words₀ saved₀ noted₀ values₀ trail₀ joined₀ apart₀ budget start marks₀ at₀ count₀ depth₀ made₀ low₀ words saved noted values trail joined apart marks at count depth made low =
-    laws.Turning (withTriangles list n) (length values₀) budget (notFalse values₀) values trail marks at count depth made low × Rows n values joined apart × CountersBeforeIf list clauses values trail at count words × wording.Marked marks depth at
-    × (length list ≤ length clauses → 0 < depth → saved ≡ words) × (length words ≡ length words₀) × (length saved ≡ length words₀) × (length noted ≡ length noted₀)
+Inv-turns list n table firsts clauses starts masks counters₀ saved₀ noted₀ values₀ trail₀ joined₀ apart₀ budget start levels₀ at₀ count₀ depth₀ made₀ low₀ counters saved noted values trail joined apart levels at count depth made low =
+    laws.Turning (withTriangles list n) (length values₀) budget (notFalse values₀) values trail levels at count depth made low × Rows n values joined apart × CountersBeforeIf list clauses values trail at count counters × wording.Marked levels depth at
+    × (length list ≤ length clauses → 0 < depth → saved ≡ counters) × (length counters ≡ length counters₀) × (length saved ≡ length counters₀) × (length noted ≡ length noted₀)
 
 abbrev μ-turns : tie.MeasureT-turns
-μ-turns list n table firsts clauses starts masks words₀ saved₀ noted₀ values₀ trail₀ joined₀ apart₀ budget start marks₀ at₀ count₀ depth₀ made₀ low₀ words saved noted values trail joined apart marks at count depth made low =
+μ-turns list n table firsts clauses starts masks counters₀ saved₀ noted₀ values₀ trail₀ joined₀ apart₀ budget start levels₀ at₀ count₀ depth₀ made₀ low₀ counters saved noted values trail joined apart levels at count depth made low =
     2 * (budget - made) + depth
 
 -- ---- places of the code, from later ones: the entry, the head of a turn, where the values are closed, and what follows
@@ -47,7 +47,7 @@ undone c = c .before .before .before .before .before .before .before
 abbrev rested : tie.After-due-at Inv-turns μ-turns → tie.After-propagate Inv-turns μ-turns
 rested c = closed (c .before .before .before)
 
-abbrev spending : tie.After-marks Inv-turns μ-turns → tie.After-enum-told2 Inv-turns μ-turns
+abbrev spending : tie.After-levels Inv-turns μ-turns → tie.After-enum-told2 Inv-turns μ-turns
 spending c = c .before .before .before .before .before
 
 abbrev guessing : tie.After-slice-known14 Inv-turns μ-turns → tie.After-due Inv-turns μ-turns
@@ -63,7 +63,7 @@ forced c = c .before .before .before .before
 
 -- what is lent keeps its length while the values are closed
 record Lengths (c : tie.After-propagate Inv-turns μ-turns) : Type 0 where
-  words : length (c .propagate .last .1 .1 .1 .1 .1 .1 .1 .0) ≡ length (entry (head c) .args .words .now)
+  counters : length (c .propagate .last .1 .1 .1 .1 .1 .1 .1 .0) ≡ length (entry (head c) .args .counters .now)
   saved : length (head c .turns .saved) ≡ length (entry (head c) .args .saved .now)
   noted : length (c .propagate .last .1 .1 .1 .1 .1 .1 .1 .1 .0) ≡ length (entry (head c) .args .noted .now)
   values : length (c .propagate .last .1 .1 .1 .1 .1 .1 .1 .1 .1 .0) ≡ length (entry (head c) .args .values .now)
@@ -75,7 +75,7 @@ lengths c =
     let k = c .propagate .kept .1 .1 .1 .1 .1 .1 .1 in
     let s = c .propagate .ensures .0 .0 in
     let p = entry (head c) .pre .1 in
-    record { words = k .0 ∙ i .5; saved = i .6 ∙ sym (p .0 .1); noted = k .1 .0 ∙ i .7; values = laws.after-size (i .0) s; trail = laws.after-long (i .0) s ∙ sym (p .1 .0 .long) }
+    record { counters = k .0 ∙ i .5; saved = i .6 ∙ sym (p .0 .1); noted = k .1 .0 ∙ i .7; values = laws.after-size (i .0) s; trail = laws.after-long (i .0) s ∙ sym (p .1 .0 .long) }
 
 -- the guesses that stand are no more than the variables set
 depths : (c : tie.After-propagate Inv-turns μ-turns) → (head c .turns .depth ≤ c .propagate .result .count) × (c .propagate .result .count ≤ 780)
@@ -126,7 +126,7 @@ propagate-requires c κs =
     (wording.prepared-on (i .5) (i .7) (p .0), (i .2, (i .0 .ready, ((i .0 .queue, omega (arith, i .0 .size, i .0 .most)), (p .1 .1 .1 .0, i .1)))))
 
 same-length : tie.Need-same-length Inv-turns μ-turns
-same-length c = lengths (closed (c .before .before)) .words
+same-length c = lengths (closed (c .before .before)) .counters
 
 same-length-2 : tie.Need-same-length-2 Inv-turns μ-turns
 same-length-2 c = lengths (closed (c .before .before)) .saved
@@ -170,7 +170,7 @@ backtrack-requires c κs =
     let d = h .turns .depth - 1 in
     let z = stands (w .before) in
     let m = w .wide .ensures in
-    let l = lengths q .words in
+    let l = lengths q .counters in
     let passed = wording.passed (a .list .now) (a .n) (i .0) (s .0) t d z m (i .3) in
     let saved = wording.saved-on (a .list .now) (a .n) (i .0) (s .0) (a .clauses .now) (λ k. i .4 k (omega (arith, z))) (i .2) in
     ((p .0 .indexed, wording.prepared-sized l (p .0), i .6 ∙ sym l), ((passed, saved), (p .1 .1 .1 .0, laws.can-undo (i .0) (s .0) t d z m, s .1)))
@@ -209,7 +209,7 @@ enum-told : tie.Need-enum-told Inv-turns μ-turns
 enum-told c = search needs
 
 same-length-6 : tie.Need-same-length-6 Inv-turns μ-turns
-same-length-6 c = lengths (rested (c .before .before)) .words
+same-length-6 c = lengths (rested (c .before .before)) .counters
 
 same-length-7 : tie.Need-same-length-7 Inv-turns μ-turns
 same-length-7 c = lengths (rested (c .before .before)) .saved
@@ -243,7 +243,7 @@ walk-back-requires c κs =
     ((p .0 .all-there, rw (lengths q .values) (laws.list-formed (a .list .now) (a .n) (p .1 .1 .0 .formed))), ((p .1 .1 .1 .0, s .1), laws.can-retrace i (s .0)))
 
 same-length-11 : tie.Need-same-length-11 Inv-turns μ-turns
-same-length-11 c = lengths (rested (spending (c .before .before .before) .before .before)) .words
+same-length-11 c = lengths (rested (spending (c .before .before .before) .before .before)) .counters
 
 same-length-12 : tie.Need-same-length-12 Inv-turns μ-turns
 same-length-12 c = lengths (rested (spending (c .before .before .before) .before .before)) .saved
@@ -274,16 +274,16 @@ copy-requires : tie.Need-copy-requires Inv-turns μ-turns
 copy-requires c κs =
     let q = rested (c .before .before .before .before .before) in
     let l = head q .turns .inv .6 in
-    (lengths q .words ∙ sym l, omega (arith, l, entry (head q) .pre .0 .room .few))
+    (lengths q .counters ∙ sym l, omega (arith, l, entry (head q) .pre .0 .room .few))
 
-cast-marks : tie.Need-cast-marks Inv-turns μ-turns
-cast-marks c = omega (arith, room (guessing c))
+cast-levels : tie.Need-cast-levels Inv-turns μ-turns
+cast-levels c = omega (arith, room (guessing c))
 
-mul-marks : tie.Need-mul-marks Inv-turns μ-turns
-mul-marks c = omega (arith, room (guessing c))
+mul-levels : tie.Need-mul-levels Inv-turns μ-turns
+mul-levels c = omega (arith, room (guessing c))
 
-array-write-marks : tie.Need-array-write-marks Inv-turns μ-turns
-array-write-marks c = omega (arith, room (guessing c))
+array-write-levels : tie.Need-array-write-levels Inv-turns μ-turns
+array-write-levels c = omega (arith, room (guessing c))
 
 add-depth : tie.Need-add-depth Inv-turns μ-turns
 add-depth c = omega (arith, room (guessing c))
@@ -326,7 +326,7 @@ turns-again-2 c =
     let e = g .before .before .before .before .if1 .left in
     let f = forced c .force .ensures in
     let o = k .before .before .copy in
-    (laws.turn-guess (i .0) (s .0 .0) e (guess g .0) (guess g .1) refl f, f .assigned .rows, wording.lags-guess (a .list .now) (a .n) (i .0) (s .0 .0) (a .clauses .now) e (guess g .0) (s .1) refl f, wording.marked-guess (h .marks) (omega (arith, i .0 .marks, room g)), (λ _ _. o .ensures), lengths q .words, o .kept .1 .0 ∙ i .6, lengths q .noted)
+    (laws.turn-guess (i .0) (s .0 .0) e (guess g .0) (guess g .1) refl f, f .assigned .rows, wording.lags-guess (a .list .now) (a .n) (i .0) (s .0 .0) (a .clauses .now) e (guess g .0) (s .1) refl f, wording.marked-guess (h .levels) (omega (arith, i .0 .levels, room g)), (λ _ _. o .ensures), lengths q .counters, o .kept .1 .0 ∙ i .6, lengths q .noted)
 
 pub turns-spec : {M : Type 1} → statement M
-turns-spec = tie.close (tie.spec Inv-turns μ-turns places-requires turns-holds propagate-requires same-length same-length-2 same-length-3 same-length-4 same-length-5 returns sub-depth mul-wide array-read-wide wide-requires backtrack-requires add-low turns-less turns-again due-at-requires enum-told same-length-6 same-length-7 same-length-8 same-length-9 same-length-10 returns-2 enum-told-2 walk-back-requires same-length-11 same-length-12 same-length-13 same-length-14 same-length-15 returns-3 enum-known-due copy-requires cast-marks mul-marks array-write-marks add-depth add-made mul-force cast-force force-requires add-low-2 turns-less-2 turns-again-2)
+turns-spec = tie.close (tie.spec Inv-turns μ-turns places-requires turns-holds propagate-requires same-length same-length-2 same-length-3 same-length-4 same-length-5 returns sub-depth mul-wide array-read-wide wide-requires backtrack-requires add-low turns-less turns-again due-at-requires enum-told same-length-6 same-length-7 same-length-8 same-length-9 same-length-10 returns-2 enum-told-2 walk-back-requires same-length-11 same-length-12 same-length-13 same-length-14 same-length-15 returns-3 enum-known-due copy-requires cast-levels mul-levels array-write-levels add-depth add-made mul-force cast-force force-requires add-low-2 turns-less-2 turns-again-2)

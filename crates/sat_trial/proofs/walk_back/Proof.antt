@@ -10,11 +10,11 @@ use Rattle.sat_trial.proofs.walk_back.Statement.{statement}
 use Rattle.sat_trial.proofs.walk_back.Tie as tie
 
 abbrev Inv-guesses : tie.InvT-guesses
-Inv-guesses list n table values₀ trail joined₀ apart₀ marks guesses start depth₀ count₀ values joined apart depth count =
-    laws.Retracing (clausesIn list) marks values₀ trail guesses start values depth count × Rows n values joined apart
+Inv-guesses list n table values₀ trail joined₀ apart₀ levels guesses start depth₀ count₀ values joined apart depth count =
+    laws.Retracing (clausesIn list) levels values₀ trail guesses start values depth count × Rows n values joined apart
 
 abbrev μ-guesses : tie.MeasureT-guesses
-μ-guesses list n table values₀ trail joined₀ apart₀ marks guesses start depth₀ count₀ values joined apart depth count = depth
+μ-guesses list n table values₀ trail joined₀ apart₀ levels guesses start depth₀ count₀ values joined apart depth count = depth
 
 guesses-holds : tie.Need-guesses-holds Inv-guesses μ-guesses
 guesses-holds c =

@@ -11,11 +11,11 @@ use Rattle.sat_units.proofs.propagate_units.Statement.{statement}
 use Rattle.sat_units.proofs.propagate_units.Tie as tie
 
 abbrev Inv-noted : tie.InvT-noted
-Inv-noted list n table words noted values₀ trail₀ joined₀ apart₀ start count₀ k₀ values trail joined apart count k =
-    laws.Hearing list words noted values₀ trail₀ start values trail count k × Rows n values joined apart
+Inv-noted list n table counters noted values₀ trail₀ joined₀ apart₀ start count₀ k₀ values trail joined apart count k =
+    laws.Hearing list counters noted values₀ trail₀ start values trail count k × Rows n values joined apart
 
 abbrev μ-noted : tie.MeasureT-noted
-μ-noted list n table words noted values₀ trail₀ joined₀ apart₀ start count₀ k₀ values trail joined apart count k = length noted - k
+μ-noted list n table counters noted values₀ trail₀ joined₀ apart₀ start count₀ k₀ values trail joined apart count k = length noted - k
 
 noted-holds : tie.Need-noted-holds Inv-noted μ-noted
 noted-holds c =
