@@ -11,7 +11,7 @@ use Rattle.cnf.specs.Clauses.{clausesIn, whole}
 use Rattle.cnf.specs.Closing.{Formed}
 use Rattle.cnf.proofs.Words.{clauses-nil}
 use Rattle.sat_literal.specs.Literals.{clauseAt, Over}
-use Rattle.sat_literal.proofs.Walking.{Before, before-first, before-next, at-clauses, clause-in, clause-counters}
+use Rattle.sat_literal.proofs.Walking.{Before, before-first, before-next, at-clauses, clause-in, clause-words}
 use Rattle.sat_counters.specs.Counters.{numbered, weigh, CountersOf}
 
 -- the counters that are lent for a clause
@@ -52,7 +52,7 @@ module _ {ws v counters : List ℕ} {count at : ℕ} (t : Tallying ws v counters
 
   -- what the clause's weighing asks
   pub lent-over : {k n : ℕ} → Formed (clausesIn ws) n → k ≡ getD ws at 0 → Over (lent ws at k) n
-  lent-over f e l m = f .below (clauseAt ws at) (clause-in (t .before) h) l (rw (clause-counters ws at e) at m)
+  lent-over f e l m = f .below (clauseAt ws at) (clause-in (t .before) h) l (rw (clause-words ws at e) at m)
 
   pub lent-short : {k : ℕ} → k ≡ getD ws at 0 → length ws ≤ 32768 → length (lent ws at k) ≤ 32768
   lent-short e s = simp (length-take, length-drop) (omega arith)
@@ -66,5 +66,5 @@ module _ {ws v counters : List ℕ} {count at : ℕ} (t : Tallying ws v counters
   })
     where
       go : (c : ℕ) → c < count + 1 → Dec (c ≡ count) → getD (set counters count word) c 0 ≡ weigh v (numbered ws c)
-      go c l (yes r) = rw r (getD-set-same counters count word 0 room ∙ q ∙ ap (weigh v) (clause-counters ws at e ∙ sym number-here))
+      go c l (yes r) = rw r (getD-set-same counters count word 0 room ∙ q ∙ ap (weigh v) (clause-words ws at e ∙ sym number-here))
       go c l (no r) = getD-set-other counters count c word 0 r ∙ t .done c (omega (arith, l))
