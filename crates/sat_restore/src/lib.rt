@@ -15,7 +15,7 @@ pub fn copy(from: &[u32], to: &mut [u32])
     ensures { λ _. ⌜ now (to .exit) ≡ now (from .entry) ⌝ }
 {
     let mut i: usize = 0;
-    'words: while i < from.len() {
+    'counters: while i < from.len() {
         to[i] = from[i];
         i += 1;
     }
