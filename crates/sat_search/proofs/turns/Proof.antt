@@ -326,7 +326,7 @@ turns-again-2 c =
     let e = g .before .before .before .before .if1 .left in
     let f = forced c .force .ensures in
     let o = k .before .before .copy in
-    (laws.turn-guess (i .0) (s .0 .0) e (guess g .0) (guess g .1) refl f, f .assigned .rows, wording.lags-guess (a .list .now) (a .n) (i .0) (s .0 .0) (a .clauses .now) e (guess g .0) (s .1) refl f, wording.marked-guess (h .marks) (omega (arith, i .0 .levels, room g)), (λ _ _. o .ensures), lengths q .counters, o .kept .1 .0 ∙ i .6, lengths q .noted)
+    (laws.turn-guess (i .0) (s .0 .0) e (guess g .0) (guess g .1) refl f, f .assigned .rows, wording.lags-guess (a .list .now) (a .n) (i .0) (s .0 .0) (a .clauses .now) e (guess g .0) (s .1) refl f, wording.marked-guess (h .levels) (omega (arith, i .0 .marks, room g)), (λ _ _. o .ensures), lengths q .counters, o .kept .1 .0 ∙ i .6, lengths q .noted)
 
 pub turns-spec : {M : Type 1} → statement M
 turns-spec = tie.close (tie.spec Inv-turns μ-turns places-requires turns-holds propagate-requires same-length same-length-2 same-length-3 same-length-4 same-length-5 returns sub-depth mul-wide array-read-wide wide-requires backtrack-requires add-low turns-less turns-again due-at-requires enum-told same-length-6 same-length-7 same-length-8 same-length-9 same-length-10 returns-2 enum-told-2 walk-back-requires same-length-11 same-length-12 same-length-13 same-length-14 same-length-15 returns-3 enum-known-due copy-requires cast-levels mul-levels array-write-levels add-depth add-made mul-force cast-force force-requires add-low-2 turns-less-2 turns-again-2)
