@@ -20,6 +20,7 @@ mod tops;
 mod uses;
 mod why;
 
+use crate::answer::{failed, streams};
 use crate::arguments::{Call, Command};
 use crate::exit::{Failure, Outcome, Status, say};
 use crate::help;
@@ -76,7 +77,7 @@ fn outcome(arguments: &[OsString]) -> Outcome {
             let command = named(first)?;
             let asked = rest.iter().take_while(|argument| *argument != "--").any(|argument| argument == "--help" || argument == "-h");
             if !asked {
-                let done = Call::of(command, rest).and_then(|call| (command.run)(&call));
+                let done = Call::of(command, rest).and_then(|call| (command.run)(&call).or_else(|failure| failed(&call, None, streams(&call), failure)));
                 // where a call is wrong, its own command's help says more
                 return done.map_err(|failure| match failure {
                     Failure::Wrong(text, _) => Failure::Wrong(text, Some(command.name)),

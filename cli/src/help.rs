@@ -16,7 +16,8 @@ const BEHIND: &str = "\
 A map is a text: the class number of each state in turn, separated by spaces. What can be named, a state or a symbol, can be given by its number as well.
 
 Status: 0 done, or yes; 1 no; 2 refused, with the number and its meaning on standard error, or a text with a mistake; 3 a file cannot be read or
-written; 4 called wrongly. An output is written whole or not at all, and never over a file that is read.
+written; 4 called wrongly. An output is written whole or not at all, and never over a file that is read. With --json a command that answers
+prints an object for programs, a refusal too.
 ";
 
 /// The columns that a paragraph takes.
