@@ -4,10 +4,12 @@ mod check;
 mod choose;
 mod clauses;
 mod compare;
+mod completions;
 mod draw;
 mod fit;
 mod generate;
 mod make;
+mod manual;
 mod propose;
 mod quotient;
 mod records;
@@ -48,6 +50,8 @@ const COMMANDS: &[&Command] = &[
     &draw::COMMAND,
     &report::COMMAND,
     &why::COMMAND,
+    &completions::COMMAND,
+    &manual::COMMAND,
 ];
 
 /// Runs what the arguments ask for, and says on standard error why it ended early.
