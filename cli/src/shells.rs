@@ -2,8 +2,11 @@
 
 use crate::arguments::{Command, Opt};
 
-/// A shell, by its name, with the function that makes its script.
-pub const SHELLS: &[(&str, fn(&[&Command]) -> String)] = &[("bash", bash), ("zsh", zsh), ("fish", fish)];
+/// A function that makes a shell's script.
+type Script = fn(&[&Command]) -> String;
+
+/// Each shell by its name.
+pub const SHELLS: &[(&str, Script)] = &[("bash", bash), ("zsh", zsh), ("fish", fish)];
 
 /// What can stand as the value of an option.
 #[derive(Clone, Copy, PartialEq, Eq)]
