@@ -38,6 +38,7 @@ pub const INTO: Opt = Opt { name: "--into", value: "FOLDER", says: "the folder t
 
 /// A command's arguments.
 pub struct Call {
+    pub command: &'static str,
     pub plain: Vec<OsString>,
     chosen: Vec<(&'static str, OsString)>,
 }
@@ -45,7 +46,7 @@ pub struct Call {
 impl Call {
     /// The arguments that are given to a command.
     pub fn of(command: &Command, arguments: &[OsString]) -> Result<Call, Failure> {
-        let mut call = Call { plain: Vec::new(), chosen: Vec::new() };
+        let mut call = Call { command: command.name, plain: Vec::new(), chosen: Vec::new() };
         let mut rest = arguments.iter();
         while let Some(argument) = rest.next() {
             match argument.as_bytes() {

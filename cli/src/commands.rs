@@ -4,10 +4,12 @@ mod check;
 mod choose;
 mod clauses;
 mod compare;
+mod completions;
 mod draw;
 mod fit;
 mod generate;
 mod make;
+mod manual;
 mod propose;
 mod quotient;
 mod records;
@@ -20,6 +22,7 @@ mod tops;
 mod uses;
 mod why;
 
+use crate::answer::{failed, streams};
 use crate::arguments::{Call, Command};
 use crate::exit::{Failure, Outcome, Status, say};
 use crate::help;
@@ -47,6 +50,8 @@ const COMMANDS: &[&Command] = &[
     &draw::COMMAND,
     &report::COMMAND,
     &why::COMMAND,
+    &completions::COMMAND,
+    &manual::COMMAND,
 ];
 
 /// Runs what the arguments ask for, and says on standard error why it ended early.
@@ -76,7 +81,7 @@ fn outcome(arguments: &[OsString]) -> Outcome {
             let command = named(first)?;
             let asked = rest.iter().take_while(|argument| *argument != "--").any(|argument| argument == "--help" || argument == "-h");
             if !asked {
-                let done = Call::of(command, rest).and_then(|call| (command.run)(&call));
+                let done = Call::of(command, rest).and_then(|call| (command.run)(&call).or_else(|failure| failed(&call, None, streams(&call), failure)));
                 // where a call is wrong, its own command's help says more
                 return done.map_err(|failure| match failure {
                     Failure::Wrong(text, _) => Failure::Wrong(text, Some(command.name)),

@@ -20,7 +20,7 @@ pub struct Compared {
 pub enum Fit {
     Yes,
     /// No, with a script that tells the two apart, by its symbols' names, where one can be tried.
-    No(Option<String>),
+    No(Option<Vec<String>>),
     /// The library refuses to say.
     Refused(Refusal),
 }
@@ -55,8 +55,7 @@ impl Compared {
             Ok(false) => match counterexample::script(one, other) {
                 // the library has the last word on a script that is printed
                 Found::Script(script) if basilvault::script(&bytes, &script) == Ok(true) && basilvault::script(&others, &script) == Ok(false) => {
-                    let words: Vec<_> = script.iter().map(|&symbol| self.names.symbol(symbol)).collect();
-                    Fit::No(Some(words.join(" ")))
+                    Fit::No(Some(script.iter().map(|&symbol| self.names.symbol(symbol).into()).collect()))
                 }
                 _ => Fit::No(None),
             },
@@ -65,10 +64,10 @@ impl Compared {
 }
 
 /// What is said of a script that one table alone accepts.
-pub fn alone(which: &str, script: &Option<String>) -> String {
+pub fn alone(which: &str, script: &Option<Vec<String>>) -> String {
     match script.as_deref() {
-        Some("") => format!("{which} alone accepts the empty script"),
-        Some(script) => format!("{which} alone accepts: {script}"),
+        Some([]) => format!("{which} alone accepts the empty script"),
+        Some(script) => format!("{which} alone accepts: {}", script.join(" ")),
         None => format!("{which} alone accepts scripts, but with more calls open, or longer, than can be tried"),
     }
 }

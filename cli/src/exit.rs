@@ -2,6 +2,7 @@
 
 use basilvault::Refusal;
 use std::io::{self, Write};
+use std::sync::LazyLock;
 
 /// The status that a command ends with, the worst last.
 #[derive(Clone, Copy, Debug, PartialEq, Eq, PartialOrd, Ord)]
@@ -52,19 +53,26 @@ impl Failure {
         }
     }
 
-    /// Says it on standard error, and hands back the status.
-    pub fn tell(&self) -> Status {
+    /// What is said of it.
+    pub fn lines(&self) -> Vec<String> {
         match self {
-            Failure::Refused(what, refusal, values) if values.is_empty() => note(&format!("basilvault: {what}: {refusal}")),
-            Failure::Refused(what, refusal, values) => note(&format!("basilvault: {what}: {refusal}: {values}")),
-            Failure::Mistaken(lines) => lines.iter().for_each(|line| note(line)),
-            Failure::File(text) => note(&format!("basilvault: {text}")),
+            Failure::Refused(what, refusal, values) if values.is_empty() => vec![format!("{what}: {refusal}")],
+            Failure::Refused(what, refusal, values) => vec![format!("{what}: {refusal}: {values}")],
+            Failure::Mistaken(lines) => lines.clone(),
+            Failure::File(text) => vec![text.clone()],
             Failure::Wrong(text, command) => {
                 let command = command.map_or(String::new(), |command| format!("{command} "));
-                note(&format!("basilvault: {text}; basilvault {command}--help says more"));
+                vec![format!("{text}; basilvault {command}--help says more")]
             }
-            Failure::Unread => {}
+            Failure::Unread => Vec::new(),
         }
+    }
+
+    /// Says it on standard error, and hands back the status.
+    pub fn tell(&self) -> Status {
+        // mistakes begin with where they are
+        let before = if matches!(self, Failure::Mistaken(_)) { "" } else { "basilvault: " };
+        self.lines().iter().for_each(|line| note(&format!("{before}{line}")));
         self.status()
     }
 }
@@ -74,7 +82,10 @@ pub fn note(line: &str) {
     let _ = writeln!(io::stderr(), "{line}");
 }
 
-/// Whether standard output was closed when the command was called. The system's empty device stands in for it then, open for reading too.
+/// Whether standard output was closed when the command was called: it is looked up once.
+static CLOSED: LazyLock<bool> = LazyLock::new(closed);
+
+/// Where it was closed the system's empty device stands in for it, open for reading too.
 fn closed() -> bool {
     let there = std::fs::read_link("/proc/self/fd/1").is_ok_and(|path| path.as_os_str() == "/dev/null");
     let info = std::fs::read_to_string("/proc/self/fdinfo/1").unwrap_or_default();
@@ -84,7 +95,7 @@ fn closed() -> bool {
 
 /// Writes to standard output.
 pub fn say(bytes: &[u8]) -> Result<(), Failure> {
-    if closed() {
+    if *CLOSED {
         return Err(Failure::File("standard output is closed".into()));
     }
     let mut out = io::stdout().lock();

@@ -142,6 +142,12 @@ impl Drop for Temporary {
     }
 }
 
+/// Whether a file is there and was written after another one.
+pub fn is_newer(file: &Path, other: &Path) -> bool {
+    let written = |path: &Path| fs::metadata(path).ok().filter(fs::Metadata::is_file).and_then(|file| file.modified().ok());
+    matches!((written(file), written(other)), (Some(later), Some(earlier)) if later > earlier)
+}
+
 /// Makes a folder where there is none.
 pub fn folder(path: &Path) -> Result<(), Failure> {
     fs::create_dir_all(path).map_err(|error| Failure::File(format!("the folder {} cannot be made ({error})", path.display())))

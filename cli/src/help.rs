@@ -4,7 +4,7 @@ use crate::arguments::{Opt, Command};
 use std::fmt::Write;
 
 /// What stands before the list of commands.
-const BEFORE: &str = "\
+pub const BEFORE: &str = "\
 basilvault COMMAND ARGUMENT..
 
 Reduces, checks, compares and shows tables of map scripts. A table is a file of bytes, or a text as `basilvault make --help` describes it: every command
@@ -12,11 +12,12 @@ takes both. A name of - is standard input or output. `basilvault COMMAND --help`
 ";
 
 /// What stands after it.
-const BEHIND: &str = "\
+pub const AFTER: &str = "\
 A map is a text: the class number of each state in turn, separated by spaces. What can be named, a state or a symbol, can be given by its number as well.
 
 Status: 0 done, or yes; 1 no; 2 refused, with the number and its meaning on standard error, or a text with a mistake; 3 a file cannot be read or
-written; 4 called wrongly. An output is written whole or not at all, and never over a file that is read.
+written; 4 called wrongly. An output is written whole or not at all, and never over a file that is read. With --json a command that answers
+prints an object for programs, a refusal too.
 ";
 
 /// The columns that a paragraph takes.
@@ -24,8 +25,8 @@ const WIDE: usize = 80;
 
 /// The help of the whole.
 pub fn general(commands: &[&Command]) -> String {
-    let list: String = commands.iter().map(|command| format!("    {:10}{}\n", command.name, command.summary)).collect();
-    format!("{}\n{list}\n{}", flowing(BEFORE), flowing(BEHIND))
+    let list: String = commands.iter().map(|command| format!("    {:13}{}\n", command.name, command.summary)).collect();
+    format!("{}\n{list}\n{}", flowing(BEFORE), flowing(AFTER))
 }
 
 /// The help of a command.

@@ -3,6 +3,7 @@
 
 #![forbid(unsafe_code)]
 
+pub mod answer;
 pub mod arguments;
 pub mod commands;
 pub mod compared;
@@ -13,14 +14,19 @@ pub mod facts;
 pub mod files;
 pub mod help;
 pub mod input;
+pub mod json;
 pub mod lexer;
+pub mod load;
+pub mod manual;
 pub mod maps;
 pub mod model;
 pub mod names;
 pub mod progress;
 pub mod report;
 pub mod room;
+pub mod shells;
 pub mod solver;
+pub mod summary;
 pub mod text;
 pub mod trace;
 pub mod values;

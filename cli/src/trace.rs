@@ -1,6 +1,7 @@
 //! The states that runs can be in after each symbol of a script, and their classes under a map. For each open call, and for the empty stack, it is kept which state is
 //! reached over which topmost stack state; whether the script is accepted is the library's word.
 
+use crate::json::{Fields, Json, list};
 use crate::maps;
 use crate::model::{Kind, Table};
 use crate::names::Names;
@@ -9,16 +10,47 @@ use basilvault::BOTTOM;
 /// For each state the topmost stack states that it is reached over.
 type Level = Vec<u64>;
 
-/// A line for the start and one after each symbol.
-pub fn lines(table: &Table, names: &Names, script: &[u8], map: Option<&[u8]>) -> String {
+/// The states that runs can be in at the start and after each symbol.
+pub fn steps(table: &Table, script: &[u8]) -> Vec<Vec<usize>> {
     let mut level: Level = table.states.iter().map(|state| u64::from(state.initial) << BOTTOM).collect();
     let mut below: Vec<Level> = Vec::new();
-    let mut text = line("start", &level, names, map);
+    let mut steps = vec![reached(&level)];
     for &symbol in script {
         level = after(table, symbol, level, &mut below);
-        text += &line(names.symbol(symbol), &level, names, map);
+        steps.push(reached(&level));
     }
-    text
+    steps
+}
+
+/// The states that a level has.
+fn reached(level: &Level) -> Vec<usize> {
+    (0..level.len()).filter(|&q| level[q] != 0).collect()
+}
+
+/// A line for each step, which the start or a symbol leads to.
+pub fn lines(steps: &[Vec<usize>], names: &Names, script: &[u8], map: Option<&[u8]>) -> String {
+    let led = std::iter::once("start").chain(script.iter().map(|&symbol| names.symbol(symbol)));
+    led.zip(steps).map(|(what, reached)| line(what, reached, names, map)).collect()
+}
+
+/// An object for each step; the start has no symbol.
+pub fn objects(steps: &[Vec<usize>], names: &Names, script: &[u8], map: Option<&[u8]>) -> Json {
+    let led = std::iter::once(None).chain(script.iter().map(|&symbol| Some(names.symbol(symbol))));
+    let object = |(symbol, reached): (Option<&str>, &Vec<usize>)| {
+        let mut fields: Fields = symbol.map(|symbol| ("symbol", symbol.into())).into_iter().collect();
+        fields.push(("states", list(reached.iter().map(|&q| &names.states[q]))));
+        fields.extend(map.map(|map| ("classes", list(classes(reached, map)))));
+        Json::from(fields)
+    };
+    list(led.zip(steps).map(object))
+}
+
+/// The classes of states.
+fn classes(states: &[usize], map: &[u8]) -> Vec<u8> {
+    let mut classes: Vec<u8> = states.iter().map(|&q| map[q]).collect();
+    classes.sort_unstable();
+    classes.dedup();
+    classes
 }
 
 /// The level after a symbol; those below it are of the calls that are open.
@@ -44,19 +76,15 @@ fn after(table: &Table, symbol: u8, level: Level, below: &mut Vec<Level>) -> Lev
     next
 }
 
-/// What is shown of a level.
-fn line(what: &str, level: &Level, names: &Names, map: Option<&[u8]>) -> String {
-    let reached: Vec<usize> = (0..level.len()).filter(|&q| level[q] != 0).collect();
+/// What is shown of a step.
+fn line(what: &str, reached: &[usize], names: &Names, map: Option<&[u8]>) -> String {
     if reached.is_empty() {
         return format!("{what}: no run is left\n");
     }
     let states: Vec<_> = reached.iter().map(|&q| names.states[q].as_str()).collect();
     let classes = map.map_or(String::new(), |map| {
-        let mut classes: Vec<u8> = reached.iter().map(|&q| map[q]).collect();
-        classes.sort_unstable();
-        classes.dedup();
-        let shown: Vec<_> = classes.iter().map(|&class| format!("class {class} {}", maps::members(map, usize::from(class), names))).collect();
-        format!("; {}", shown.join(", "))
+        let class = |class: u8| format!("class {class} {}", maps::members(map, usize::from(class), names));
+        format!("; {}", classes(reached, map).into_iter().map(class).collect::<Vec<_>>().join(", "))
     });
     format!("{what}: {}{classes}\n", states.join(", "))
 }

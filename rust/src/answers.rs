@@ -29,6 +29,7 @@ impl Starts {
     /// assert_eq!(counts.records(), 5);
     /// # Ok::<(), basilvault::Refusal>(())
     /// ```
+    #[must_use]
     pub const fn counts(self, length: usize) -> Counts {
         Counts {
             symbols: self.states.saturating_sub(self.symbols),
@@ -68,6 +69,7 @@ pub struct Counts {
 
 impl Counts {
     /// The records of all three kinds.
+    #[must_use]
     pub const fn records(self) -> usize {
         self.internals + self.calls + self.returns
     }
@@ -86,12 +88,14 @@ impl Counts {
     /// assert!(listed.words <= list.len());
     /// # Ok::<(), basilvault::Refusal>(())
     /// ```
+    #[must_use]
     pub const fn most_words(self) -> usize {
         let n = self.states;
         self.most_short_words() + 2 * n * n.saturating_sub(1) * n.saturating_sub(2)
     }
 
     /// The words of the list without transitivity, which [`reduce`](crate::reduce) has at most to write.
+    #[must_use]
     pub const fn most_short_words(self) -> usize {
         let n = self.states;
         let others = n.saturating_sub(1);

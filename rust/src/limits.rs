@@ -24,12 +24,14 @@ impl Limits {
     pub const LARGEST: Limits = Limits { states: MOST_STATES, symbols: MOST_SYMBOLS };
 
     /// The bytes of the longest file at these limits.
+    #[must_use]
     pub const fn longest(self) -> usize {
         let records = 3 * MOST_INTERNALS + 3 * MOST_CALLS + 4 * MOST_RETURNS;
         self.states.saturating_add(self.symbols).saturating_add(records + TRAILER)
     }
 
     /// The most variables that a search may have at these limits: one for each pair of states.
+    #[must_use]
     pub const fn variables(self) -> usize {
         self.states.saturating_mul(self.states.saturating_sub(1)) / 2
     }

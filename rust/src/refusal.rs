@@ -28,6 +28,7 @@ macro_rules! refusals {
             pub const ALL: &[Refusal] = &[$(Refusal::$name),+];
 
             /// What it means.
+            #[must_use]
             pub const fn meaning(self) -> &'static str {
                 match self {
                     $(Refusal::$name => $meaning,)+
@@ -85,6 +86,7 @@ refusals! {
 
 impl Refusal {
     /// Its number.
+    #[must_use]
     pub const fn number(self) -> u8 {
         self as u8
     }

@@ -1,7 +1,8 @@
 //! `check`: whether a map may be used.
 
+use crate::answer::{self, JSON};
 use crate::arguments::{Call, Command, NAMES, STATES, SYMBOLS};
-use crate::exit::{Outcome, Status, say};
+use crate::exit::{Outcome, Status};
 use crate::input;
 
 pub const COMMAND: Command = Command {
@@ -19,7 +20,7 @@ Example:
 ",
     least: 2,
     most: 2,
-    options: &[NAMES, STATES, SYMBOLS],
+    options: &[JSON, NAMES, STATES, SYMBOLS],
     run,
 };
 
@@ -28,5 +29,5 @@ fn run(call: &Call) -> Outcome {
     let (limits, input, table, names, map) = input::with_map(call)?;
     let checked = basilvault::check_within(limits, &input.bytes, &map.classes);
     let classes = checked.map_err(|refusal| map.refused(&input, &table, &names, refusal))?;
-    say(format!("classes {classes}\n").as_bytes()).map(|()| Status::Done)
+    answer::tell(call, Status::Done, || format!("classes {classes}"), || vec![("classes", classes.into())])
 }

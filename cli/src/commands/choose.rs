@@ -1,8 +1,10 @@
 //! `choose`: the better of two maps.
 
+use crate::answer::{self, JSON};
 use crate::arguments::{Call, Command, NAMES, OUT, STATES, SYMBOLS};
-use crate::exit::{Outcome, Status, note, say};
-use crate::files::{Spared, is_stream};
+use crate::exit::{Outcome, Status};
+use crate::files::Spared;
+use crate::json::list;
 use crate::maps::{self, Map};
 use crate::input;
 use basilvault::Refusal;
@@ -21,7 +23,7 @@ Example:
 ",
     least: 3,
     most: 3,
-    options: &[OUT, NAMES, STATES, SYMBOLS],
+    options: &[OUT, JSON, NAMES, STATES, SYMBOLS],
     run,
 };
 
@@ -32,23 +34,24 @@ fn run(call: &Call) -> Outcome {
     let chosen = basilvault::choose_within(limits, &input.bytes, &first.classes, &second.classes);
     let chosen = chosen.map_err(|refusal| {
         // of neither map the check says why
-        for map in [&first, &second].into_iter().filter(|_| refusal == Refusal::Neither) {
-            let checked = basilvault::check_within(limits, &input.bytes, &map.classes);
-            checked.err().into_iter().for_each(|why| {
-                map.refused(&input, &table, &names, why).tell();
-            });
+        let neither = [&first, &second].into_iter().filter(|_| refusal == Refusal::Neither);
+        let why = neither.filter_map(|map| Some(map.refused(&input, &table, &names, basilvault::check_within(limits, &input.bytes, &map.classes).err()?)));
+        if call.has(JSON.name) {
+            let why: Vec<String> = why.flat_map(|failure| failure.lines()).collect();
+            return input.refused_as(refusal, &why.join("; "));
         }
+        why.for_each(|failure| {
+            failure.tell();
+        });
         input.refused(refusal)
     })?;
     let classes = basilvault::check_within(limits, &input.bytes, chosen).map_err(|refusal| input.refused(refusal))?;
-    let place = if std::ptr::eq(chosen, &first.classes[..]) { 1 } else { 2 };
-    let line = format!("{}: map {place} of 2, classes {classes}", call.file(place).display());
+    let place: usize = if std::ptr::eq(chosen, &first.classes[..]) { 1 } else { 2 };
+    let file = call.file(place).display();
     if let Some(out) = call.path(OUT.name) {
         Spared::of([call.file(0), call.file(1), call.file(2)]).write(out, maps::shown(chosen, input.own_names()).as_bytes())?;
-        if is_stream(out) {
-            note(&line);
-            return Ok(Status::Done);
-        }
     }
-    say(format!("{line}\n").as_bytes()).map(|()| Status::Done)
+    let text = || format!("{file}: map {place} of 2, classes {classes}");
+    let fields = || vec![("chosen", place.into()), ("classes", classes.into()), ("map", list(chosen.iter().copied()))];
+    answer::tell(call, Status::Done, text, fields)
 }

@@ -1,8 +1,10 @@
 //! `clauses`: which pairs of states exclude or force which.
 
+use crate::answer::{self, JSON};
 use crate::arguments::{Call, Command, NAMES, Opt, ROOM, STATES, SYMBOLS};
-use crate::exit::{Outcome, Status, say};
+use crate::exit::{Failure, Outcome, Status};
 use crate::input;
+use crate::json::{self, Fields};
 use crate::names::Names;
 use crate::progress::Progress;
 use crate::solver;
@@ -24,12 +26,15 @@ Example:
 ",
     least: 1,
     most: 1,
-    options: &[DIMACS, TURNED, NAMES, ROOM, STATES, SYMBOLS],
+    options: &[DIMACS, TURNED, JSON, NAMES, ROOM, STATES, SYMBOLS],
     run,
 };
 
 /// Prints the clauses.
 fn run(call: &Call) -> Outcome {
+    if call.has(DIMACS.name) && call.has(JSON.name) {
+        return Err(Failure::Wrong("--dimacs and --json cannot both be given".into(), None));
+    }
     let (limits, input) = input::first(call)?;
     let (_, names) = input.named(limits, call)?;
     let progress = Progress::start("clauses", 1);
@@ -37,13 +42,18 @@ fn run(call: &Call) -> Outcome {
     let listed = basilvault::clauses_within(limits, &input.bytes, &mut list).map_err(|refusal| input.refused(refusal))?;
     let list = &list[..listed.words];
     let pairs: Vec<_> = (0..names.states.len()).flat_map(|q| (0..q).map(move |p| (p, q))).collect();
-    let text = if call.has(DIMACS.name) {
-        dimacs(list, &pairs, &names, call.has(TURNED.name))
-    } else {
-        format!("{}clauses {} words {}\n", readable(list, &pairs, &names), listed.clauses, listed.words)
+    let text = || match call.has(DIMACS.name) {
+        true => dimacs(list, &pairs, &names, call.has(TURNED.name)),
+        false => format!("{}clauses {} words {}", readable(list, &pairs, &names), listed.clauses, listed.words),
     };
+    let shown = answer::shown(call, call.file(0), Status::Done, text, || {
+        let mut fields: Fields = vec![("clauses", listed.clauses.into()), ("words", listed.words.into())];
+        fields.push(("variables", json::list(pairs.iter().map(|&(p, q)| json::list([&names.states[p], &names.states[q]])))));
+        fields.push(("list", json::list(solver::clauses(list).map(|clause| json::list(clause.iter().copied())))));
+        fields
+    });
     drop(progress);
-    say(text.as_bytes()).map(|()| Status::Done)
+    answer::put(false, shown.trim_end()).map(|()| Status::Done)
 }
 
 /// A pair by its names.

@@ -1,8 +1,10 @@
 //! `compare`: two tables, both ways.
 
+use crate::answer::{self, JSON};
 use crate::arguments::{Call, Command, NAMES};
 use crate::compared::{Compared, Fit, alone};
-use crate::exit::{Outcome, Status, say};
+use crate::exit::{Outcome, Status};
+use crate::json::{Fields, list};
 use crate::progress::Progress;
 use basilvault::Refusal;
 
@@ -21,7 +23,7 @@ Example:
 ",
     least: 2,
     most: 2,
-    options: &[NAMES],
+    options: &[JSON, NAMES],
     run,
 };
 
@@ -44,17 +46,38 @@ fn run(call: &Call) -> Outcome {
         [Fit::No(_), Fit::No(_)] => "neither",
         _ => "not told",
     };
-    let mut said = format!("{head}\n");
-    let mut status = if head == "equal" { Status::Done } else { Status::No };
+    let status = match &both {
+        _ if both.iter().any(|fit| matches!(fit, Fit::Refused(_))) => Status::Refused,
+        _ => Status::from(head == "equal"),
+    };
+    answer::tell(call, status, || text(head, &both, &compared), || fields(&both, &compared))
+}
+
+/// The answer for people.
+fn text(head: &str, both: &[Fit; 2], compared: &Compared) -> String {
+    let mut lines = vec![head.to_string()];
     for (fit, (which, into)) in both.iter().zip([("the first", &compared.second), ("the second", &compared.first)]) {
         match fit {
             Fit::Yes => {}
-            Fit::No(script) => said += &format!("{}\n", alone(which, script)),
-            Fit::Refused(_) => {
-                said += &format!("whether {which} fits is not told: {} has a choice\n", into.file.display());
-                status = Status::Refused;
-            }
+            Fit::No(script) => lines.push(alone(which, script)),
+            Fit::Refused(_) => lines.push(format!("whether {which} fits is not told: {} has a choice", into.file.display())),
         }
     }
-    say(said.as_bytes()).map(|()| status)
+    lines.join("\n")
+}
+
+/// The answer for programs. What is not told has no field.
+fn fields(both: &[Fit; 2], compared: &Compared) -> Fields {
+    let mut fields: Fields = vec![("second", compared.second.file.display().to_string().into())];
+    for (fit, [fits, alone]) in both.iter().zip([["first_fits", "first_alone"], ["second_fits", "second_alone"]]) {
+        match fit {
+            Fit::Yes => fields.push((fits, true.into())),
+            Fit::No(script) => {
+                fields.push((fits, false.into()));
+                fields.extend(script.as_ref().map(|script| (alone, list(script))));
+            }
+            Fit::Refused(_) => {}
+        }
+    }
+    fields
 }

@@ -1,8 +1,10 @@
 //! `fit`: whether one table can stand in for another.
 
+use crate::answer::{self, JSON};
 use crate::arguments::{Call, Command, NAMES};
 use crate::compared::{Compared, Fit, alone};
-use crate::exit::{Outcome, Status, say};
+use crate::exit::{Outcome, Status};
+use crate::json::{Fields, list};
 use crate::progress::Progress;
 
 pub const COMMAND: Command = Command {
@@ -20,7 +22,7 @@ Example:
 ",
     least: 2,
     most: 2,
-    options: &[NAMES],
+    options: &[JSON, NAMES],
     run,
 };
 
@@ -30,9 +32,16 @@ fn run(call: &Call) -> Outcome {
     let progress = Progress::start("fit", 1);
     let fit = compared.fit(false);
     drop(progress);
+    let second = || ("second", compared.second.file.display().to_string().into());
     match fit {
-        Fit::Yes => say(b"yes\n").map(|()| Status::Done),
-        Fit::No(script) => say(format!("no: {}\n", alone("the first", &script)).as_bytes()).map(|()| Status::No),
+        Fit::Yes => answer::tell(call, Status::Done, || "yes".into(), || vec![second(), ("fits", true.into())]),
+        Fit::No(script) => {
+            let text = || format!("no: {}", alone("the first", &script));
+            answer::tell(call, Status::No, text, || {
+                let fields: Fields = vec![second(), ("fits", false.into())];
+                fields.into_iter().chain(script.as_ref().map(|script| ("script", list(script)))).collect()
+            })
+        }
         // what is left to refuse, 37 and 38, is of the second table
         Fit::Refused(refusal) => Err(compared.second.refused(refusal)),
     }

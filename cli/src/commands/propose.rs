@@ -1,9 +1,11 @@
 //! `propose`: a solver's model as a map.
 
 use super::clauses::TURNED;
+use crate::answer::{self, JSON};
 use crate::arguments::{Call, Command, NAMES, OUT, STATES, SYMBOLS};
-use crate::exit::{Failure, Outcome, Status, note, say};
-use crate::files::{self, Spared, is_stream};
+use crate::exit::{Failure, Outcome, Status};
+use crate::files::{self, Spared};
+use crate::json::list;
 use crate::maps::{self, Map};
 use crate::{input, solver};
 
@@ -24,7 +26,7 @@ Example:
 ",
     least: 2,
     most: 2,
-    options: &[TURNED, OUT, NAMES, STATES, SYMBOLS],
+    options: &[TURNED, OUT, JSON, NAMES, STATES, SYMBOLS],
     run,
 };
 
@@ -40,15 +42,12 @@ fn run(call: &Call) -> Outcome {
     let map = Map::of(file, solver::map_of(&values.iter().map(|value| value != &turned).collect::<Vec<_>>(), states));
     let checked = basilvault::check_within(limits, &input.bytes, &map.classes);
     let classes = checked.map_err(|refusal| map.refused(&input, &table, &names, refusal))?;
-    let line = format!("{}: states {states} classes {classes} joined {}", file.display(), maps::joined(&map.classes));
+    let joined = maps::joined(&map.classes);
     let own = input.own_names().or(call.has(NAMES.name).then_some(&names));
-    let out = call.path(OUT.name);
-    if let Some(out) = out {
+    if let Some(out) = call.path(OUT.name) {
         Spared::of([call.file(0), file]).write(out, maps::shown(&map.classes, own).as_bytes())?;
     }
-    match out {
-        Some(out) if is_stream(out) => note(&line),
-        _ => say(format!("{line}\n").as_bytes())?,
-    }
-    Ok(Status::Done)
+    let text = || format!("{}: states {states} classes {classes} joined {joined}", file.display());
+    let fields = || vec![("states", states.into()), ("classes", classes.into()), ("joined", joined.into()), ("map", list(map.classes.iter().copied()))];
+    answer::tell(call, Status::Done, text, fields)
 }

@@ -1,7 +1,8 @@
 //! `quotient`: the smaller table of a map.
 
+use crate::answer::{self, JSON};
 use crate::arguments::{Call, Command, NAMES, OUT, STATES, SYMBOLS, TEXT};
-use crate::exit::{Outcome, Status, note, say};
+use crate::exit::{Outcome, Status};
 use crate::files::{Spared, one_streams};
 use crate::{input, maps, model, text};
 use basilvault::LONGEST_FILE;
@@ -21,14 +22,14 @@ Example:
 ",
     least: 2,
     most: 2,
-    options: &[OUT, TEXT, NAMES, STATES, SYMBOLS],
+    options: &[OUT, TEXT, JSON, NAMES, STATES, SYMBOLS],
     run,
 };
 
 /// Writes the quotient.
 fn run(call: &Call) -> Outcome {
     let outs = [call.path(OUT.name), call.path(TEXT.name)];
-    let streams = one_streams(outs)?;
+    one_streams(outs)?;
     let (limits, input, table, names, map) = input::with_map(call)?;
     let mut small = [0; LONGEST_FILE];
     let written = basilvault::quotient_within(limits, &input.bytes, &map.classes, &mut small);
@@ -40,10 +41,7 @@ fn run(call: &Call) -> Outcome {
     for (path, bytes) in outs.into_iter().zip([small, shown.as_bytes()]) {
         path.map_or(Ok(()), |path| spared.write(path, bytes))?;
     }
-    let line = format!("{}: states {} classes {} bytes {written}", input.file.display(), table.states.len(), quotient.states.len());
-    if streams {
-        note(&line);
-        return Ok(Status::Done);
-    }
-    say(format!("{line}\n").as_bytes()).map(|()| Status::Done)
+    let (states, classes) = (table.states.len(), quotient.states.len());
+    let text = || format!("{}: states {states} classes {classes} bytes {written}", input.file.display());
+    answer::tell(call, Status::Done, text, || vec![("states", states.into()), ("classes", classes.into()), ("length", written.into())])
 }

@@ -1,11 +1,12 @@
 //! `records`: where each record goes.
 
+use crate::answer::{self, JSON};
 use crate::arguments::{Call, Command, NAMES, STATES, SYMBOLS};
-use crate::exit::{Outcome, Status, say};
+use crate::exit::{Outcome, Status};
+use crate::json::{Fields, Json, list};
 use crate::{input, text};
 use basilvault::{MOST_RECORDS, Recorded};
 use std::collections::HashMap;
-use std::fmt::Write;
 
 pub const COMMAND: Command = Command {
     name: "records",
@@ -22,7 +23,7 @@ Example:
 ",
     least: 2,
     most: 2,
-    options: &[NAMES, STATES, SYMBOLS],
+    options: &[JSON, NAMES, STATES, SYMBOLS],
     run,
 };
 
@@ -36,19 +37,32 @@ fn run(call: &Call) -> Outcome {
     let moves = table.internals.iter().chain(&table.calls);
     let moves = moves.map(|&r| (text::internal(&names, r), vec![class(r[0]), r[1], class(r[2])]));
     let returns = table.returns.iter().map(|&r| (text::record(&names, r), vec![class(r[0]), r[1], class(r[2]), class(r[3])]));
-    let mut kept = HashMap::new();
-    let mut shown = String::new();
+    let mut kept: HashMap<Vec<u8>, String> = HashMap::new();
+    let mut told: Vec<(String, &str, Option<String>)> = Vec::new();
     for ((line, image), fate) in moves.chain(returns).zip(fates) {
-        let _ = match fate {
-            Recorded::FOLDED => writeln!(shown, "{line}: folded into {}", kept.get(&image).unwrap_or(&line)),
-            Recorded::DEAD => writeln!(shown, "{line}: dead"),
-            _ => writeln!(shown, "{line}: kept"),
-        };
-        if fate == Recorded::KEPT {
-            kept.insert(image, line);
+        match fate {
+            Recorded::FOLDED => told.push((line.clone(), "folded", Some(kept.get(&image).unwrap_or(&line).clone()))),
+            Recorded::DEAD => told.push((line, "dead", None)),
+            _ => {
+                kept.insert(image, line.clone());
+                told.push((line, "kept", None));
+            }
         }
     }
     let Recorded { records, kept, folded, dead } = recorded;
-    let _ = writeln!(shown, "records {records} kept {kept} folded {folded} dead {dead}");
-    say(shown.as_bytes()).map(|()| Status::Done)
+    let line = |(line, fate, into): &(String, &str, Option<String>)| match into {
+        Some(into) => format!("{line}: {fate} into {into}\n"),
+        None => format!("{line}: {fate}\n"),
+    };
+    let text = || told.iter().map(line).collect::<String>() + &format!("records {records} kept {kept} folded {folded} dead {dead}");
+    answer::tell(call, Status::Done, text, || {
+        let counts: Fields = vec![("records", records.into()), ("kept", kept.into()), ("folded", folded.into()), ("dead", dead.into())];
+        counts.into_iter().chain([("fates", list(told.iter().map(object)))]).collect()
+    })
+}
+
+/// What an object says of a record.
+fn object((line, fate, into): &(String, &str, Option<String>)) -> Json {
+    let fields: Fields = vec![("record", line.into()), ("fate", (*fate).into())];
+    fields.into_iter().chain(into.as_ref().map(|into| ("into", into.into()))).collect::<Fields>().into()
 }

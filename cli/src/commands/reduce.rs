@@ -1,18 +1,24 @@
 //! `reduce`: tables made smaller.
 
+use crate::answer::{self, JSON};
 use crate::arguments::{BUDGET, Call, Command, INTO, NAMES, OUT, Opt, ROOM, STATES, SYMBOLS, TEXT};
-use crate::exit::{Failure, Outcome, Status, note, say};
-use crate::files::{Spared, folder, is_stream, one_streams, places, tables_in};
+use crate::exit::{Failure, Outcome, Status, note};
+use crate::files::{Spared, folder, is_newer, is_stream, one_streams, places, tables_in};
 use crate::facts::Facts;
 use crate::input::Input;
 use crate::model::Table;
-use crate::{maps, solver, text};
+use crate::names::Names;
+use crate::{load, maps, solver, text};
 use crate::progress::Progress;
 use crate::room::Room;
-use basilvault::{LONGEST_FILE, Limits, MOST_RECORDS, MOST_STATES, Recorded, Reduced, Refusal};
+use crate::summary::Summary;
+use basilvault::{LONGEST_FILE, Limits, MOST_STATES, Reduced};
 use std::path::{Path, PathBuf};
+use std::time::Instant;
 
 const WITH: Opt = Opt { name: "--with", value: "SOLVER", says: "ask a solver too, such as minisat; the better map is kept" };
+const JOBS: Opt = Opt { name: "--jobs", value: "N", says: "reduce N tables at a time, one where it is not given" };
+const UPDATE: Opt = Opt { name: "--update", value: "", says: "leave alone what is in the folder and newer than its table" };
 const MAP: Opt = Opt { name: "--map", value: "FILE", says: "write the map to this file, by names where there are some" };
 
 pub const COMMAND: Command = Command {
@@ -28,6 +34,9 @@ One table goes to -o OUT; several go to --into FOLDER under their own names, a t
 goes to standard output, the line goes to standard error. Where a table is refused the others go on, and the status is the worst of all. A folder stands for
 the files in it that end in .bin or .txt. Of one table standard error also says which states no run reaches, and from which nothing is accepted.
 
+With --jobs several tables are reduced at a time; their lines stand in the order in which they were given. A load that was cut short is taken up with
+--update: a table whose place in the folder has a newer file is left as it is, whatever the other options are. With either, a last line on standard error adds up the load.
+
 With --with a solver is run on the clauses too, every sign turned, so that it prefers joined pairs. It is not trusted: its map counts only where the check
 accepts it, and of two accepted maps the one with fewer classes is kept. The line then ends with whose map it is. SOLVER is a command line: 'minisat', or
 'cadical -q --lucky=0 --phase=0', which else takes what is true of every table, that nothing need be joined.
@@ -38,7 +47,7 @@ Example:
 ",
     least: 1,
     most: usize::MAX,
-    options: &[OUT, INTO, MAP, TEXT, WITH, NAMES, BUDGET, ROOM, STATES, SYMBOLS],
+    options: &[OUT, INTO, JOBS, UPDATE, JSON, MAP, TEXT, WITH, NAMES, BUDGET, ROOM, STATES, SYMBOLS],
     run,
 };
 
@@ -48,15 +57,23 @@ struct Written<'a> {
     text: Option<&'a Path>,
 }
 
-/// What reductions share: limits, budget, buffers, and the files that are not written to.
+/// What reductions share: the tables and where they go, limits, budget, and the files that are not written to.
 struct Reducer<'a> {
     call: &'a Call,
-    /// there is no other table
-    alone: bool,
+    files: &'a [&'a Path],
+    outs: Vec<PathBuf>,
+    written: Written<'a>,
     limits: Limits,
     budget: u64,
-    room: Room,
     spared: Spared,
+}
+
+/// What came of a table: what standard error is told of it, and its line.
+struct Done {
+    notes: Vec<String>,
+    line: String,
+    /// its states and classes, where it was reduced now
+    counts: Option<(usize, usize)>,
 }
 
 /// Reduces the tables that are named.
@@ -64,24 +81,82 @@ fn run(call: &Call) -> Outcome {
     let files: Vec<PathBuf> = tables_in(call.plain.iter().map(Path::new))?;
     let files: Vec<&Path> = files.iter().map(PathBuf::as_path).collect();
     once_from_input(&files)?;
+    let jobs = jobs(call)?;
     let outs = outs(call, &files)?;
     let written = Written { map: call.path(MAP.name), text: call.path(TEXT.name) };
     let streams = one_streams([call.path(OUT.name), written.map, written.text])?;
     let spared = Spared::of(files.iter().copied());
-    let mut reducer = Reducer { call, alone: files.len() == 1, limits: call.limits()?, budget: call.budget()?, room: Room::new(call.room()?), spared };
+    let (room, start) = (call.room()?, Instant::now());
+    let reducer = Reducer { call, files: &files, outs, written, limits: call.limits()?, budget: call.budget()?, spared };
     let progress = Progress::start("reduce", files.len());
-    let mut worst = Status::Done;
-    for (place, file) in files.iter().enumerate() {
-        let done = reducer.one(file, outs.get(place).map(PathBuf::as_path), &written);
+    let mut load = Load::default();
+    let tell = |(place, done): (usize, Result<Done, Failure>)| {
         progress.clear();
-        match done {
-            Ok(line) if streams => note(&line),
-            Ok(line) => say(format!("{line}\n").as_bytes())?,
-            Err(failure) => worst = worst.max(failure.tell()),
-        }
+        load.tell(&reducer, place, streams, done)?;
         progress.step();
+        Ok(())
+    };
+    load::in_order(jobs, files.len(), || Room::new(room), |room, place| (place, reducer.one(room, place)), tell)?;
+    drop(progress);
+    if call.has(JOBS.name) || call.has(UPDATE.name) {
+        note(&load.line(start.elapsed().as_secs_f64()));
     }
-    Ok(worst)
+    Ok(load.worst.unwrap_or(Status::Done))
+}
+
+/// How many tables are reduced at a time.
+fn jobs(call: &Call) -> Result<usize, Failure> {
+    if call.has(UPDATE.name) && !call.has(INTO.name) {
+        return Err(Failure::Wrong("--update needs --into FOLDER".into(), None));
+    }
+    if call.has(UPDATE.name) && (call.has(MAP.name) || call.has(TEXT.name)) {
+        return Err(Failure::Wrong("--update looks at the table in the folder, not at --map and --text".into(), None));
+    }
+    match call.number(JOBS.name, 1)? {
+        0 => Err(Failure::Wrong("--jobs: at least one table is reduced at a time".into(), None)),
+        jobs => Ok(usize::try_from(jobs).unwrap_or(usize::MAX)),
+    }
+}
+
+/// What a load comes to.
+#[derive(Default)]
+struct Load {
+    reduced: usize,
+    left: usize,
+    failed: usize,
+    states: usize,
+    classes: usize,
+    worst: Option<Status>,
+}
+
+impl Load {
+    /// Tells what came of a table, and adds it up.
+    fn tell(&mut self, reducer: &Reducer, place: usize, streams: bool, done: Result<Done, Failure>) -> Result<(), Failure> {
+        let status = match done {
+            Ok(Done { notes, line, counts }) => {
+                notes.iter().for_each(|line| note(line));
+                let (states, classes) = counts.unwrap_or_default();
+                self.states += states;
+                self.classes += classes;
+                *(if counts.is_some() { &mut self.reduced } else { &mut self.left }) += 1;
+                answer::put(streams, &line)?;
+                Status::Done
+            }
+            Err(failure) => {
+                self.failed += 1;
+                answer::failed(reducer.call, Some(reducer.files[place]), streams, failure)?
+            }
+        };
+        self.worst = self.worst.max(Some(status));
+        Ok(())
+    }
+
+    /// The line that adds it up.
+    fn line(&self, seconds: f64) -> String {
+        let Load { reduced, left, failed, states, classes, .. } = self;
+        let tables = reduced + left + failed;
+        format!("basilvault: tables {tables} reduced {reduced} left {left} failed {failed}; states {states} became {classes}; {seconds:.2} s")
+    }
 }
 
 /// Standard input can be read once, which is seen to before anything is reduced.
@@ -106,42 +181,62 @@ fn outs(call: &Call, files: &[&Path]) -> Result<Vec<PathBuf>, Failure> {
 }
 
 impl Reducer<'_> {
-    /// Reduces a table: its line.
-    fn one(&mut self, file: &Path, out: Option<&Path>, written: &Written) -> Result<String, Failure> {
+    /// Reduces the table at a place, or leaves it.
+    fn one(&self, room: &mut Room, place: usize) -> Result<Done, Failure> {
+        let (file, out) = (self.files[place], self.outs.get(place).map(PathBuf::as_path));
+        if let Some(out) = out.filter(|out| self.call.has(UPDATE.name) && is_newer(out, file)) {
+            let text = || format!("{}: left as it is, {} is newer", file.display(), out.display());
+            let line = answer::shown(self.call, file, Status::Done, text, || vec![("left", true.into())]);
+            return Ok(Done { notes: Vec::new(), line, counts: None });
+        }
         let input = Input::of(self.limits, file)?;
         let (table, names) = input.named(self.limits, self.call)?;
         let (mut map, mut small) = ([0; MOST_STATES], [0; LONGEST_FILE]);
-        let list = self.room.for_tables(self.limits, [&input.bytes[..]])?;
+        let list = room.for_tables(self.limits, [&input.bytes[..]])?;
         let reduced = basilvault::reduce_within(self.limits, &input.bytes, self.budget, list, &mut map, &mut small);
-        let reduced = reduced.map_err(|refusal| self.room.refused(self.limits, &input, refusal))?;
-        let (reduced, whose) = match self.call.path(WITH.name) {
+        let reduced = reduced.map_err(|refusal| room.refused(self.limits, &input, refusal))?;
+        let (reduced, solver) = match self.call.path(WITH.name) {
             Some(command) => proposed(self.limits, &input, table.states.len(), command, (reduced, &mut map, &mut small))?,
-            None => (reduced, String::new()),
+            None => (reduced, None),
         };
-        let (line, states, length) = summary(self.limits, &input, reduced, &map).map_err(|refusal| input.refused(refusal))?;
-        let line = line + &whose;
-        tell_spent(&input, reduced);
-        if self.alone {
+        let summary = Summary::of(self.limits, &input, reduced, &map).map_err(|refusal| input.refused(refusal))?;
+        let mut notes: Vec<String> = summary.spent(&input).into_iter().collect();
+        if self.files.len() == 1 {
             let facts = Facts::of(&table, &input.tops()?).told(&names);
-            facts.iter().for_each(|fact| note(&format!("basilvault: {}: {fact}", file.display())));
+            notes.extend(facts.iter().map(|fact| format!("basilvault: {}: {fact}", file.display())));
         }
-        let (map, small) = (&map[..states], &small[..length]);
-        let text = written.text.map_or(Ok(String::new()), |_| {
+        self.write(&input, &names, out, (&map[..summary.states], &small[..reduced.length]))?;
+        let text = || summary.line(&input) + &solver.map_or(String::new(), |theirs| whose(self.call, theirs));
+        let fields = || summary.fields().into_iter().chain(solver.map(|theirs| ("proposed", theirs.into()))).collect();
+        let line = answer::shown(self.call, file, Status::Done, text, fields);
+        Ok(Done { notes, line, counts: Some((summary.states, reduced.classes)) })
+    }
+
+    /// Writes what is asked for of a reduced table.
+    fn write(&self, input: &Input, names: &Names, out: Option<&Path>, (map, small): (&[u8], &[u8])) -> Result<(), Failure> {
+        let Written { map: maps_to, text: texts_to } = self.written;
+        let text = texts_to.map_or(Ok(String::new()), |_| {
             let quotient = Table::from_bytes(self.limits, small).map_err(|refusal| input.refused(refusal))?;
-            Ok(text::show(&quotient, &maps::class_names(map, &names, &quotient), None))
+            Ok(text::show(&quotient, &maps::class_names(map, names, &quotient), None))
         })?;
-        let own = input.own_names().or(self.call.has(NAMES.name).then_some(&names));
-        for (path, bytes) in [(out, small), (written.map, maps::shown(map, own).as_bytes()), (written.text, text.as_bytes())] {
+        let own = input.own_names().or(self.call.has(NAMES.name).then_some(names));
+        for (path, bytes) in [(out, small), (maps_to, maps::shown(map, own).as_bytes()), (texts_to, text.as_bytes())] {
             path.map_or(Ok(()), |path| self.spared.write(path, bytes))?;
         }
-        Ok(line)
+        Ok(())
     }
 }
 
-/// Asks a solver too, and puts its map and quotient in place of those that are there where they are better; what is delivered, and whose map it is.
+/// The end of a line that says whose map is delivered where a solver was asked too.
+fn whose(call: &Call, theirs: bool) -> String {
+    let name = call.path(WITH.name).unwrap_or(Path::new("")).display();
+    if theirs { format!(" map of {name}, accepted by the check") } else { " map of the library's search".into() }
+}
+
+/// Asks a solver too, and puts its map and quotient in place of those that are there where they are better; what is delivered, and whether it is the solver's.
 fn proposed(
     limits: Limits, input: &Input, states: usize, command: &Path, (reduced, map, small): (Reduced, &mut [u8], &mut [u8]),
-) -> Result<(Reduced, String), Failure> {
+) -> Result<(Reduced, Option<bool>), Failure> {
     let refused = |refusal| input.refused(refusal);
     let counts = basilvault::read_within(limits, &input.bytes).map_err(refused)?.counts(input.bytes.len());
     let mut list = vec![0; counts.most_words()];
@@ -154,32 +249,10 @@ fn proposed(
     let ours = map[..states].to_vec();
     let chosen = basilvault::choose_within(limits, &input.bytes, &ours, &theirs).map_err(refused)?;
     if std::ptr::eq(chosen, &ours[..]) {
-        return Ok((reduced, " map of the library's search".into()));
+        return Ok((reduced, Some(false)));
     }
     let length = basilvault::quotient_within(limits, &input.bytes, &theirs, small).map_err(refused)?;
     map[..states].copy_from_slice(&theirs);
     let classes = basilvault::check_within(limits, &input.bytes, &theirs).map_err(refused)?;
-    Ok((Reduced { classes, length, joined: maps::joined(&theirs), ..reduced }, format!(" map of {name}, accepted by the check")))
-}
-
-/// Says on standard error what it means that the budget was spent.
-pub fn tell_spent(input: &Input, reduced: Reduced) {
-    if reduced.spent {
-        let guesses = reduced.guesses;
-        note(&format!(
-            "basilvault: {}: all {guesses} guesses are spent: the reduced table accepts the same scripts, but a smaller one may exist; a larger --budget may find it",
-            input.file.display()
-        ));
-    }
-}
-
-/// The line of a reduced table whose map these bytes start with, how many states it has, and how long the smaller table is.
-pub fn summary(limits: Limits, input: &Input, reduced: Reduced, map: &[u8]) -> Result<(String, usize, usize), Refusal> {
-    let states = basilvault::read_within(limits, &input.bytes)?.counts(input.bytes.len()).states;
-    let Recorded { records, kept, folded, dead } = basilvault::records_within(limits, &input.bytes, &map[..states], &mut [0; MOST_RECORDS])?;
-    let Reduced { classes, guesses, words, length, joined, ceiling, spent } = reduced;
-    let counts = format!("states {states} classes {classes} guesses {guesses} words {words} joined {joined} of {ceiling}");
-    let spent = if spent { " spent" } else { "" };
-    let line = format!("{}: {counts}{spent} records {records} kept {kept} folded {folded} dead {dead}", input.file.display());
-    Ok((line, states, length))
+    Ok((Reduced { classes, length, joined: maps::joined(&theirs), ..reduced }, Some(true)))
 }

@@ -1,7 +1,9 @@
 //! `script`: whether a table accepts a script.
 
+use crate::answer::{self, JSON};
 use crate::arguments::{Call, Opt, Command, NAMES, STATES, SYMBOLS};
-use crate::exit::{Failure, Outcome, Status, say};
+use crate::exit::{Failure, Outcome, Status};
+use crate::json::Fields;
 use crate::names::Names;
 use crate::lexer::{Word, collected, meant, nearest, quoted, text, words};
 use crate::maps::Map;
@@ -28,7 +30,7 @@ Example:
 ",
     least: 1,
     most: usize::MAX,
-    options: &[FILE, TRACE, MAP, NAMES, STATES, SYMBOLS],
+    options: &[FILE, TRACE, MAP, JSON, NAMES, STATES, SYMBOLS],
     run,
 };
 
@@ -46,8 +48,13 @@ fn run(call: &Call) -> Outcome {
     if let Some(map) = &map {
         basilvault::check_within(limits, &input.bytes, &map.classes).map_err(|refusal| map.refused(&input, &table, &names, refusal))?;
     }
-    let lines = if traced { trace::lines(&table, &names, &script, map.as_ref().map(|map| &map.classes[..])) } else { String::new() };
-    say(format!("{lines}{}\n", if yes { "yes" } else { "no" }).as_bytes()).map(|()| Status::from(yes))
+    let map = map.as_ref().map(|map| &map.classes[..]);
+    let steps = if traced { trace::steps(&table, &script) } else { Vec::new() };
+    let text = || trace::lines(&steps, &names, &script, map) + if yes { "yes" } else { "no" };
+    answer::tell(call, Status::from(yes), text, || {
+        let fields: Fields = vec![("accepted", yes.into())];
+        fields.into_iter().chain(traced.then(|| ("trace", trace::objects(&steps, &names, &script, map)))).collect()
+    })
 }
 
 /// The script of the call.

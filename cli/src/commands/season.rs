@@ -1,14 +1,16 @@
 //! `season`: several tables on one budget.
 
-use super::reduce::{once_from_input, summary, tell_spent};
+use super::reduce::once_from_input;
+use crate::answer::{self, JSON};
 use crate::arguments::{BUDGET, Call, Command, INTO, ROOM, STATES, SYMBOLS};
-use crate::exit::{Failure, Outcome, Status, say};
+use crate::exit::{Failure, Outcome, Status, note};
 use crate::files::{Spared, folder, places, tables_in};
 use crate::input::Input;
 use crate::progress::Progress;
 use crate::room::Room;
+use crate::summary::Summary;
 use crate::values;
-use basilvault::{LONGEST_FILE, Limits, MOST_STATES, MOST_TABLES, Reduced, Refusal};
+use basilvault::{LONGEST_FILE, MOST_STATES, MOST_TABLES, Reduced, Refusal};
 use std::path::{Path, PathBuf};
 
 pub const COMMAND: Command = Command {
@@ -26,7 +28,7 @@ Example:
 ",
     least: 1,
     most: usize::MAX,
-    options: &[INTO, BUDGET, ROOM, STATES, SYMBOLS],
+    options: &[INTO, JSON, BUDGET, ROOM, STATES, SYMBOLS],
     run,
 };
 
@@ -48,12 +50,12 @@ fn run(call: &Call) -> Outcome {
     drop(progress);
     let season = season.map_err(|refusal| Failure::Refused(format!("a season of {} tables", files.len()), refusal, values::of_limits(refusal, limits)))?;
     call.path(INTO.name).map_or(Ok(()), folder)?;
-    deliver(limits, &input, &season, &room, (&maps, &out), &outs, &Spared::of(files))
+    deliver(call, &input, &season, &room, (&maps, &out), &outs, &Spared::of(files))
 }
 
 /// Prints the line of each table and writes the smaller ones: maps and tables stand back to back.
 fn deliver(
-    limits: Limits,
+    call: &Call,
     input: &[Input],
     season: &[Result<Reduced, Refusal>],
     room: &Room,
@@ -61,19 +63,22 @@ fn deliver(
     outs: &[PathBuf],
     spared: &Spared,
 ) -> Outcome {
-    let mut worst = Status::Done;
+    let (limits, mut worst) = (call.limits()?, Status::Done);
     for (place, (input, answer)) in input.iter().zip(season).enumerate() {
-        let done = answer.and_then(|reduced| summary(limits, input, reduced, maps)).map_err(|refusal| room.refused(limits, input, refusal));
-        answer.iter().for_each(|reduced| tell_spent(input, *reduced));
-        let written = done.and_then(|(line, states, length)| {
-            let small = &tables[..length];
-            (maps, tables) = (&maps[states..], &tables[length..]);
-            outs.get(place).map_or(Ok(()), |out| spared.write(out, small)).map(|()| line)
+        let done = answer.and_then(|reduced| Summary::of(limits, input, reduced, maps)).map_err(|refusal| room.refused(limits, input, refusal));
+        let written = done.and_then(|summary| {
+            summary.spent(input).iter().for_each(|line| note(line));
+            let small = &tables[..summary.reduced.length];
+            (maps, tables) = (&maps[summary.states..], &tables[small.len()..]);
+            outs.get(place).map_or(Ok(()), |out| spared.write(out, small)).map(|()| summary)
         });
-        match written {
-            Ok(line) => say(format!("{line}\n").as_bytes())?,
-            Err(failure) => worst = worst.max(failure.tell()),
-        }
+        worst = worst.max(match written {
+            Ok(summary) => {
+                answer::put(false, &answer::shown(call, &input.file, Status::Done, || summary.line(input), || summary.fields()))?;
+                Status::Done
+            }
+            Err(failure) => answer::failed(call, Some(&input.file), false, failure)?,
+        });
     }
     Ok(worst)
 }

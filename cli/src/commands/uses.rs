@@ -1,11 +1,12 @@
 //! `uses`: use counts added up by class.
 
+use crate::answer::{self, JSON};
 use crate::arguments::{Call, Opt, Command, NAMES, STATES, SYMBOLS};
-use crate::exit::{Failure, Outcome, Status, say};
+use crate::exit::{Failure, Outcome, Status};
 use crate::names::Names;
 use crate::lexer::{Line, Mistake, collected, lines, text};
+use crate::json::list;
 use crate::{files, input, maps, names};
-use std::fmt::Write;
 use std::path::Path;
 
 const BINARY: Opt = Opt { name: "--binary", value: "FILE", says: "lines of 5 bytes: a state, and 32 bits, little-endian" };
@@ -24,7 +25,7 @@ Example:
 ",
     least: 2,
     most: 3,
-    options: &[BINARY, NAMES, STATES, SYMBOLS],
+    options: &[BINARY, JSON, NAMES, STATES, SYMBOLS],
     run,
 };
 
@@ -39,12 +40,11 @@ fn run(call: &Call) -> Outcome {
     let uses = basilvault::uses_within(limits, &input.bytes, &map.classes, &counts).map_err(|refusal| map.refused(&input, &table, &names, refusal))?;
     let map = &map.classes;
     let classes = map.iter().max().map_or(0, |&last| usize::from(last) + 1);
-    let mut said = String::new();
-    for (class, sum) in uses.sums.iter().enumerate().take(classes) {
-        let _ = writeln!(said, "class {class} {}: {sum}", maps::members(map, class, &names));
-    }
-    let _ = writeln!(said, "total {}", uses.total);
-    say(said.as_bytes()).map(|()| Status::Done)
+    let sums = &uses.sums[..classes];
+    let line = |(class, sum): (usize, &u64)| format!("class {class} {}: {sum}\n", maps::members(map, class, &names));
+    let text = || sums.iter().enumerate().map(line).collect::<String>() + &format!("total {}", uses.total);
+    let fields = || vec![("classes", classes.into()), ("sums", list(sums.iter().copied())), ("total", uses.total.into())];
+    answer::tell(call, Status::Done, text, fields)
 }
 
 /// The lines of 5 bytes that a text has.

@@ -1,7 +1,9 @@
 //! `why`: why two states are joined, or stay apart.
 
+use crate::answer::{self, JSON};
 use crate::arguments::{BUDGET, Call, Opt, Command, NAMES, STATES, SYMBOLS};
-use crate::exit::{Failure, Outcome, Status, say};
+use crate::exit::{Failure, Outcome, Status};
+use crate::json::list;
 use crate::progress::Progress;
 use crate::maps::Map;
 use crate::why::{self, Of};
@@ -25,7 +27,7 @@ Example:
 ",
     least: 3,
     most: 3,
-    options: &[MAP, BUDGET, NAMES, STATES, SYMBOLS],
+    options: &[MAP, JSON, BUDGET, NAMES, STATES, SYMBOLS],
     run,
 };
 
@@ -51,5 +53,6 @@ fn run(call: &Call) -> Outcome {
     let answer = why::why(limits, &input.bytes, &names, (p, q), call.budget()?, of);
     drop(progress);
     let answer = answer.map_err(|refusal| input.refused(refusal))?;
-    say(format!("{}\n", answer.text.trim_end()).as_bytes()).map(|()| Status::from(answer.joined))
+    let text = answer.text.trim_end();
+    answer::tell(call, Status::from(answer.joined), || text.into(), || vec![("joined", answer.joined.into()), ("reasons", list(text.lines()))])
 }
