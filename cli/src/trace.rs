@@ -11,14 +11,22 @@ type Level = Vec<u64>;
 
 /// A line for the start and one after each symbol.
 pub fn lines(table: &Table, names: &Names, script: &[u8], map: Option<&[u8]>) -> String {
+    let reached = reached(table, script);
+    let what = std::iter::once("start").chain(script.iter().map(|&symbol| names.symbol(symbol)));
+    what.zip(&reached).map(|(what, reached)| line(what, reached, names, map)).collect()
+}
+
+/// The states that runs can be in at the start and after each symbol.
+pub fn reached(table: &Table, script: &[u8]) -> Vec<Vec<usize>> {
     let mut level: Level = table.states.iter().map(|state| u64::from(state.initial) << BOTTOM).collect();
     let mut below: Vec<Level> = Vec::new();
-    let mut text = line("start", &level, names, map);
+    let states = |level: &Level| (0..level.len()).filter(|&q| level[q] != 0).collect();
+    let mut all = vec![states(&level)];
     for &symbol in script {
         level = after(table, symbol, level, &mut below);
-        text += &line(names.symbol(symbol), &level, names, map);
+        all.push(states(&level));
     }
-    text
+    all
 }
 
 /// The level after a symbol; those below it are of the calls that are open.
@@ -44,9 +52,8 @@ fn after(table: &Table, symbol: u8, level: Level, below: &mut Vec<Level>) -> Lev
     next
 }
 
-/// What is shown of a level.
-fn line(what: &str, level: &Level, names: &Names, map: Option<&[u8]>) -> String {
-    let reached: Vec<usize> = (0..level.len()).filter(|&q| level[q] != 0).collect();
+/// What is shown of the states that are reached.
+fn line(what: &str, reached: &[usize], names: &Names, map: Option<&[u8]>) -> String {
     if reached.is_empty() {
         return format!("{what}: no run is left\n");
     }

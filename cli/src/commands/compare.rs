@@ -1,10 +1,9 @@
 //! `compare`: two tables, both ways.
 
 use crate::arguments::{Call, Command, NAMES};
-use crate::compared::{Compared, Fit, alone};
-use crate::exit::{Outcome, Status, say};
+use crate::compared::Compared;
+use crate::exit::{Outcome, say};
 use crate::progress::Progress;
-use basilvault::Refusal;
 
 pub const COMMAND: Command = Command {
     name: "compare",
@@ -29,32 +28,9 @@ Example:
 fn run(call: &Call) -> Outcome {
     let compared = Compared::of(call)?;
     let progress = Progress::start("compare", 1);
-    let both = [compared.fit(false), compared.fit(true)];
+    let both = compared.both();
     drop(progress);
-    // symbols that differ do so both ways
-    if let [Fit::Refused(refusal), _] = both
-        && refusal != Refusal::Choice
-    {
-        return Err(compared.second.refused(refusal));
-    }
-    let head = match &both {
-        [Fit::Yes, Fit::Yes] => "equal",
-        [Fit::Yes, _] => "the first fits",
-        [_, Fit::Yes] => "the second fits",
-        [Fit::No(_), Fit::No(_)] => "neither",
-        _ => "not told",
-    };
-    let mut said = format!("{head}\n");
-    let mut status = if head == "equal" { Status::Done } else { Status::No };
-    for (fit, (which, into)) in both.iter().zip([("the first", &compared.second), ("the second", &compared.first)]) {
-        match fit {
-            Fit::Yes => {}
-            Fit::No(script) => said += &format!("{}\n", alone(which, script)),
-            Fit::Refused(_) => {
-                said += &format!("whether {which} fits is not told: {} has a choice\n", into.file.display());
-                status = Status::Refused;
-            }
-        }
-    }
-    say(said.as_bytes()).map(|()| status)
+    let verdict = compared.verdict(&both?);
+    let said: String = std::iter::once(verdict.head.to_string()).chain(verdict.lines).map(|line| line + "\n").collect();
+    say(said.as_bytes()).map(|()| verdict.status)
 }

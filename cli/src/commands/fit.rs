@@ -1,7 +1,7 @@
 //! `fit`: whether one table can stand in for another.
 
 use crate::arguments::{Call, Command, NAMES};
-use crate::compared::{Compared, Fit, alone};
+use crate::compared::{Compared, Fit};
 use crate::exit::{Outcome, Status, say};
 use crate::progress::Progress;
 
@@ -32,7 +32,7 @@ fn run(call: &Call) -> Outcome {
     drop(progress);
     match fit {
         Fit::Yes => say(b"yes\n").map(|()| Status::Done),
-        Fit::No(script) => say(format!("no: {}\n", alone("the first", &script)).as_bytes()).map(|()| Status::No),
+        Fit::No(script) => say(format!("no: {}\n", compared.alone("the first", &script)).as_bytes()).map(|()| Status::No),
         // what is left to refuse, 37 and 38, is of the second table
         Fit::Refused(refusal) => Err(compared.second.refused(refusal)),
     }

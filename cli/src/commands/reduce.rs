@@ -12,7 +12,7 @@ use crate::room::Room;
 use basilvault::{LONGEST_FILE, Limits, MOST_RECORDS, MOST_STATES, Recorded, Reduced, Refusal};
 use std::path::{Path, PathBuf};
 
-const WITH: Opt = Opt { name: "--with", value: "SOLVER", says: "ask a solver too, such as minisat; the better map is kept" };
+pub const WITH: Opt = Opt { name: "--with", value: "SOLVER", says: "ask a solver too, such as minisat; the better map is kept" };
 const MAP: Opt = Opt { name: "--map", value: "FILE", says: "write the map to this file, by names where there are some" };
 
 pub const COMMAND: Command = Command {
@@ -115,7 +115,11 @@ impl Reducer<'_> {
         let reduced = basilvault::reduce_within(self.limits, &input.bytes, self.budget, list, &mut map, &mut small);
         let reduced = reduced.map_err(|refusal| self.room.refused(self.limits, &input, refusal))?;
         let (reduced, whose) = match self.call.path(WITH.name) {
-            Some(command) => proposed(self.limits, &input, table.states.len(), command, (reduced, &mut map, &mut small))?,
+            Some(command) => {
+                let (reduced, solver) = proposed(self.limits, &input, table.states.len(), command, (reduced, &mut map, &mut small))?;
+                let whose = solver.map_or(" map of the library's search".into(), |name| format!(" map of {name}, accepted by the check"));
+                (reduced, whose)
+            }
             None => (reduced, String::new()),
         };
         let (line, states, length) = summary(self.limits, &input, reduced, &map).map_err(|refusal| input.refused(refusal))?;
@@ -138,10 +142,11 @@ impl Reducer<'_> {
     }
 }
 
-/// Asks a solver too, and puts its map and quotient in place of those that are there where they are better; what is delivered, and whose map it is.
-fn proposed(
+/// Asks a solver too, and puts its map and quotient in place of those that are there where they are better; what is delivered, and the solver where it is
+/// its map.
+pub fn proposed(
     limits: Limits, input: &Input, states: usize, command: &Path, (reduced, map, small): (Reduced, &mut [u8], &mut [u8]),
-) -> Result<(Reduced, String), Failure> {
+) -> Result<(Reduced, Option<String>), Failure> {
     let refused = |refusal| input.refused(refusal);
     let counts = basilvault::read_within(limits, &input.bytes).map_err(refused)?.counts(input.bytes.len());
     let mut list = vec![0; counts.most_words()];
@@ -154,12 +159,12 @@ fn proposed(
     let ours = map[..states].to_vec();
     let chosen = basilvault::choose_within(limits, &input.bytes, &ours, &theirs).map_err(refused)?;
     if std::ptr::eq(chosen, &ours[..]) {
-        return Ok((reduced, " map of the library's search".into()));
+        return Ok((reduced, None));
     }
     let length = basilvault::quotient_within(limits, &input.bytes, &theirs, small).map_err(refused)?;
     map[..states].copy_from_slice(&theirs);
     let classes = basilvault::check_within(limits, &input.bytes, &theirs).map_err(refused)?;
-    Ok((Reduced { classes, length, joined: maps::joined(&theirs), ..reduced }, format!(" map of {name}, accepted by the check")))
+    Ok((Reduced { classes, length, joined: maps::joined(&theirs), ..reduced }, Some(name.into_owned())))
 }
 
 /// Says on standard error what it means that the budget was spent.
