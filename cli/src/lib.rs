@@ -4,6 +4,7 @@
 #![forbid(unsafe_code)]
 
 pub mod arguments;
+pub mod ats;
 pub mod commands;
 pub mod compared;
 pub mod counterexample;
