@@ -2,7 +2,7 @@
 
 use crate::counterexample::{self, Found};
 use crate::arguments::{Call, NAMES};
-use crate::exit::{Failure, note};
+use crate::exit::{Failure, Status, note};
 use crate::input::Input;
 use crate::model::{Kind, Table};
 use crate::names::Names;
@@ -12,15 +12,16 @@ use basilvault::{Limits, Refusal};
 pub struct Compared {
     pub first: Input,
     pub second: Input,
-    tables: [Table; 2],
-    names: Names,
+    pub tables: [Table; 2],
+    /// both have the first's names of symbols
+    pub names: [Names; 2],
 }
 
 /// Whether one table fits in the other.
 pub enum Fit {
     Yes,
-    /// No, with a script that tells the two apart, by its symbols' names, where one can be tried.
-    No(Option<Vec<String>>),
+    /// No, with a script that tells the two apart, where one can be tried.
+    No(Option<Vec<u8>>),
     /// The library refuses to say.
     Refused(Refusal),
 }
@@ -42,7 +43,9 @@ impl Compared {
             }
             _ => {}
         }
-        Ok(Compared { first, second, tables: [table, other], names })
+        let states = second.own_names().map_or_else(|| Names::numbered(&other), Clone::clone);
+        let others = Names { symbols: names.symbols.clone(), ..states };
+        Ok(Compared { first, second, tables: [table, other], names: [names, others] })
     }
 
     /// Whether the first fits in the second or, turned, the second in the first.
@@ -55,7 +58,7 @@ impl Compared {
             Ok(false) => match counterexample::script(one, other) {
                 // the library has the last word on a script that is printed
                 Found::Script(script) if basilvault::script(&bytes, &script) == Ok(true) && basilvault::script(&others, &script) == Ok(false) => {
-                    Fit::No(Some(script.iter().map(|&symbol| self.names.symbol(symbol).into()).collect()))
+                    Fit::No(Some(script))
                 }
                 _ => Fit::No(None),
             },
@@ -63,12 +66,58 @@ impl Compared {
     }
 }
 
-/// What is said of a script that one table alone accepts.
-pub fn alone(which: &str, script: &Option<Vec<String>>) -> String {
-    match script.as_deref() {
-        Some([]) => format!("{which} alone accepts the empty script"),
-        Some(script) => format!("{which} alone accepts: {}", script.join(" ")),
-        None => format!("{which} alone accepts scripts, but with more calls open, or longer, than can be tried"),
+/// What is said of two tables: `equal` or not, a line for each script and each way that is not told, and the status.
+pub struct Verdict {
+    pub head: &'static str,
+    pub lines: Vec<String>,
+    pub status: Status,
+}
+
+impl Compared {
+    /// Whether each fits in the other. Symbols that differ do so both ways, and are a failure.
+    pub fn both(&self) -> Result<[Fit; 2], Failure> {
+        let both = [self.fit(false), self.fit(true)];
+        match both[0] {
+            Fit::Refused(refusal) if refusal != Refusal::Choice => Err(self.second.refused(refusal)),
+            _ => Ok(both),
+        }
+    }
+
+    /// What is said of both ways.
+    pub fn verdict(&self, both: &[Fit; 2]) -> Verdict {
+        let head = match both {
+            [Fit::Yes, Fit::Yes] => "equal",
+            [Fit::Yes, _] => "the first fits",
+            [_, Fit::Yes] => "the second fits",
+            [Fit::No(_), Fit::No(_)] => "neither",
+            _ => "not told",
+        };
+        let mut verdict = Verdict { head, lines: Vec::new(), status: Status::from(head == "equal") };
+        for (fit, (which, into)) in both.iter().zip([("the first", &self.second), ("the second", &self.first)]) {
+            match fit {
+                Fit::Yes => {}
+                Fit::No(script) => verdict.lines.push(self.alone(which, script)),
+                Fit::Refused(_) => {
+                    verdict.lines.push(format!("whether {which} fits is not told: {} has a choice", into.file.display()));
+                    verdict.status = Status::Refused;
+                }
+            }
+        }
+        verdict
+    }
+
+    /// A script by its symbols' names.
+    pub fn words(&self, script: &[u8]) -> Vec<&str> {
+        script.iter().map(|&symbol| self.names[0].symbol(symbol)).collect()
+    }
+
+    /// What is said of a script that one table alone accepts.
+    pub fn alone(&self, which: &str, script: &Option<Vec<u8>>) -> String {
+        match script.as_deref() {
+            Some([]) => format!("{which} alone accepts the empty script"),
+            Some(script) => format!("{which} alone accepts: {}", self.words(script).join(" ")),
+            None => format!("{which} alone accepts scripts, but with more calls open, or longer, than can be tried"),
+        }
     }
 }
 

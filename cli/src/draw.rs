@@ -1,21 +1,38 @@
 //! A table as a picture: text for Graphviz.
 
 pub mod arrows;
+pub mod looks;
 
 use crate::model::Table;
 use crate::names::Names;
 use arrows::{Arrow, Line};
 use basilvault::Tops;
+use looks::Looks;
+
+/// What is drawn.
+#[derive(Clone, Copy)]
+pub struct Picture<'a> {
+    pub table: &'a Table,
+    pub tops: &'a Tops,
+    pub names: &'a Names,
+    /// a box is drawn around each of its classes
+    pub map: Option<&'a [u8]>,
+    /// states that break the map
+    pub broken: &'a [u8],
+    /// whether what the strokes mean stands under the picture
+    pub explained: bool,
+}
 
 /// The picture of a table, in Graphviz's language: an arrow into each initial state, a double ring around each accepting one, and with a map a box around
-/// each class.
-pub fn dot(table: &Table, tops: &Tops, names: &Names, map: Option<&[u8]>) -> String {
-    let arrows = arrows::gathered(table, tops);
+/// each class. What it shows has an id: `q3` a state, `class2` a box; an arrow has the classes `from3`, `to5` and `by1`.
+pub fn dot(picture: &Picture) -> String {
+    let Picture { table, tops, names, map, broken, explained } = *picture;
+    let (arrows, looks) = (arrows::gathered(table, tops), Looks::of(table, tops, broken));
     let round = names.states.iter().all(|name| name.chars().count() <= 4) && table.states.iter().all(|state| state.mark == 0);
+    let label = if explained { legend(&looks.meanings(table, names, &arrows)) } else { "\"\"".into() };
     let mut text = format!(
         "digraph table {{\n  rankdir=LR; ranksep=0.55; nodesep=0.35; fontname=\"{FONT}\"; fontsize=11; fontcolor=\"#555555\";\n  labelloc=b; labeljust=l; \
-         label={};\n",
-        legend(table, &arrows)
+         label={label};\n"
     );
     text += &format!("  node [shape={}, fontname=\"{FONT}\", fontsize=13, margin=\"0.06,0.04\"];\n", if round { "circle" } else { "ellipse" });
     text += &format!("  edge [fontname=\"{FONT}\", fontsize=11, arrowsize=0.8];\n");
@@ -25,8 +42,8 @@ pub fn dot(table: &Table, tops: &Tops, names: &Names, map: Option<&[u8]>) -> Str
         text += &starts(table, &all, "  ");
     }
     match map {
-        None if all.len() <= FEW => all.iter().for_each(|q| text += &state(table, names, *q, "  ")),
-        _ => text += &classes(table, names, map.unwrap_or(&single)),
+        None if all.len() <= FEW => all.iter().for_each(|q| text += &state(picture, &looks, *q, "  ")),
+        _ => text += &classes(picture, &looks, map.unwrap_or(&single)),
     }
     arrows.iter().for_each(|arrow| text += &edge(arrow, names));
     text + "}\n"
@@ -43,7 +60,8 @@ const FONT: &str = "Helvetica,Arial,sans-serif";
 const FEW: usize = 16;
 
 /// The states of each class in a box.
-fn classes(table: &Table, names: &Names, map: &[u8]) -> String {
+fn classes(picture: &Picture, looks: &Looks, map: &[u8]) -> String {
+    let Picture { table, names, .. } = *picture;
     let mut text = String::new();
     for class in 0..map.iter().max().map_or(0, |last| last + 1) {
         let members: Vec<usize> = (0..map.len()).filter(|q| map[*q] == class).collect();
@@ -56,8 +74,9 @@ fn classes(table: &Table, names: &Names, map: &[u8]) -> String {
                 "style=\"filled,rounded\"; color=\"#8a6d00\"; fillcolor=\"#fff6d6\"; penwidth=1.5",
             ),
         };
-        text += &format!("  subgraph cluster_{class} {{\n    label={}; labelloc=t; {style}; tooltip={};\n", quoted(&label), quoted(&all.join(", ")));
-        members.iter().for_each(|q| text += &state(table, names, *q, "    "));
+        let (label, tip) = (quoted(&label), quoted(&all.join(", ")));
+        text += &format!("  subgraph cluster_{class} {{\n    label={label}; labelloc=t; {style}; id=class{class}; tooltip={tip};\n");
+        members.iter().for_each(|q| text += &state(picture, looks, *q, "    "));
         if map.len() > FEW {
             text += &starts(table, &members, "    ");
         }
@@ -66,13 +85,13 @@ fn classes(table: &Table, names: &Names, map: &[u8]) -> String {
     text
 }
 
-/// A state: its name, and its mark where it has one.
-fn state(table: &Table, names: &Names, q: usize, pad: &str) -> String {
-    let state = table.states[q];
-    let mark = if state.mark == 0 { String::new() } else { format!("\nmark {}", names.mark(state.mark)) };
-    let rings = if state.accepting { 2 } else { 1 };
-    let label = quoted(&(broken(names.state(q as u8)) + &mark));
-    format!("{pad}q{q} [label={label}, peripheries={rings}, style=filled, fillcolor=white];\n")
+/// A state: its name, its mark where it has one, and how it looks.
+fn state(picture: &Picture, looks: &Looks, q: usize, pad: &str) -> String {
+    let Picture { table, names, .. } = *picture;
+    let rings = if table.states[q].accepting { 2 } else { 1 };
+    let name = names.state(q as u8);
+    let label = quoted(&(broken(name) + &looks.under(table, names, q as u8)));
+    format!("{pad}q{q} [label={label}, id=q{q}, tooltip={}, peripheries={rings}, {}];\n", quoted(name), looks.attributes(table, q as u8))
 }
 
 /// The arrows into those of these states that are initial, each from a point.
@@ -102,18 +121,20 @@ fn stroke(line: Line) -> &'static str {
     }
 }
 
-/// What the strokes of a picture mean, as far as it has them: a label of lines that start at the left.
-fn legend(table: &Table, arrows: &[Arrow]) -> String {
-    let has = |line: Line| arrows.iter().any(|arrow| arrow.line == line);
-    let said = [
-        (table.states.iter().any(|state| state.accepting), "double ring: accepting"),
-        (has(Line::Internal), "thin: an internal"),
-        (has(Line::Call), "thick, ↓: a call, which puts the state it leaves on the stack"),
-        (has(Line::Return), "dashed, ↑: a return, with the state it takes from the stack"),
-        (has(Line::Dead), "grey, dotted: a dead return, which no script can take"),
-    ];
-    let lines: String = said.iter().filter(|(there, _)| *there).map(|(_, line)| format!("{line}\\l")).collect();
-    format!("\"{lines}\"")
+/// What a kind of arrow is called in the style of a page.
+fn kind(line: Line) -> &'static str {
+    match line {
+        Line::Internal => "internal",
+        Line::Call => "call",
+        Line::Return => "return",
+        Line::Dead => "dead",
+    }
+}
+
+/// What a picture means, as its label: lines that start at the left.
+fn legend(meanings: &[looks::Meaning]) -> String {
+    let line = |meaning: &looks::Meaning| escaped(&meaning.says) + "\\l";
+    format!("\"{}\"", meanings.iter().map(line).collect::<String>())
 }
 
 /// An arrow with the first of its labels; all of them are its tooltip.
@@ -126,10 +147,11 @@ fn edge(arrow: &Arrow, names: &Names) -> String {
         shown.push(vec![format!("… and {left} more")]);
     }
     let shown: Vec<String> = shown.iter().map(|line| line.join(", ")).collect();
+    let (from, to) = (arrow.from, arrow.to);
+    let by: String = arrow.by.iter().map(|(symbol, _)| format!(" by{symbol}")).collect();
     format!(
-        "  q{} -> q{} [label={}, tooltip={}, {}];\n",
-        arrow.from,
-        arrow.to,
+        "  q{from} -> q{to} [class=\"{} from{from} to{to}{by}\", label={}, tooltip={}, {}];\n",
+        kind(arrow.line),
         quoted(&shown.join("\n")),
         quoted(&arrow.labels(names, usize::MAX).join(", ")),
         stroke(arrow.line)
@@ -146,20 +168,25 @@ const MANY: usize = 4;
 
 /// A text in quotes, such that every character stands for itself.
 pub fn quoted(text: &str) -> String {
-    let mut quoted = String::from("\"");
+    format!("\"{}\"", escaped(text))
+}
+
+/// A text as it stands between quotes.
+fn escaped(text: &str) -> String {
+    let mut escaped = String::new();
     for letter in text.chars() {
         match letter {
-            '"' => quoted += "\\\"",
-            '\\' => quoted += "\\\\",
-            '\n' => quoted += "\\n",
-            '&' => quoted += "&amp;",
-            '<' => quoted += "&lt;",
-            '>' => quoted += "&gt;",
-            letter if letter.is_control() => quoted.push(' '),
-            letter => quoted.push(letter),
+            '"' => escaped += "\\\"",
+            '\\' => escaped += "\\\\",
+            '\n' => escaped += "\\n",
+            '&' => escaped += "&amp;",
+            '<' => escaped += "&lt;",
+            '>' => escaped += "&gt;",
+            letter if letter.is_control() => escaped.push(' '),
+            letter => escaped.push(letter),
         }
     }
-    quoted + "\""
+    escaped
 }
 
 #[cfg(test)]

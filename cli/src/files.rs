@@ -187,7 +187,7 @@ pub fn places(folder: &Path, files: &[&Path]) -> Result<Vec<PathBuf>, Failure> {
             return Err(Failure::Wrong(format!("{} has no name to be written to a folder under", file.display()), None));
         };
         let mut place = folder.join(name);
-        if place.extension().is_some_and(|extension| extension == "txt") {
+        if place.extension().is_some_and(|extension| extension == "txt" || extension == "ats") {
             place.set_extension("bin");
         }
         if let Some(other) = taken.insert(place.clone(), file) {

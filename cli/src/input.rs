@@ -6,6 +6,7 @@ use crate::files;
 use crate::maps::Map;
 use crate::model::Table;
 use crate::names::Names;
+use crate::ats::{self, Read};
 use crate::{lexer, text, values};
 use basilvault::{Limits, Refusal, Tops};
 use std::path::{Path, PathBuf};
@@ -18,18 +19,29 @@ pub struct Input {
     names: Option<Names>,
 }
 
-/// The table and the names of a text.
+/// The table and the names of a text, or of AutomataScript whose names a text can have.
 pub fn from_text(file: &Path, bytes: &[u8]) -> Result<(Table, Names), Failure> {
+    if ats::is_meant(file, bytes) {
+        let Read { table, names, unnamable } = from_script(file, bytes)?;
+        return if unnamable.is_empty() { Ok((table, names)) } else { Err(lexer::mistaken(file, &unnamable, "a table with names for a text")) };
+    }
     let what = "a table in text form";
     text::read(lexer::text(file, bytes, what)?).map_err(|mistakes| lexer::mistaken(file, &mistakes, what))
 }
 
+/// The table of AutomataScript.
+pub fn from_script(file: &Path, bytes: &[u8]) -> Result<Read, Failure> {
+    let what = "a table in AutomataScript";
+    ats::read(lexer::text(file, bytes, what)?).map_err(|mistakes| lexer::mistaken(file, &mistakes, what))
+}
+
 impl Input {
-    /// The table of a file. What the library reads is a table; what else begins as a text is one; the rest is left for the library to refuse.
+    /// The table of a file. What the library reads is a table; what else begins as a text, or is AutomataScript, is one; the rest is left for
+    /// the library to refuse.
     pub fn of(limits: Limits, file: &Path) -> Result<Input, Failure> {
         let bytes = files::read(file)?;
         let file = file.to_path_buf();
-        if basilvault::read_within(limits, &bytes).is_ok() || !text::is_meant(&bytes) {
+        if basilvault::read_within(limits, &bytes).is_ok() || !text::is_meant(&bytes) && !ats::is_meant(&file, &bytes) {
             return Ok(Input { file, bytes, limits, names: None });
         }
         let (table, names) = from_text(&file, &bytes)?;

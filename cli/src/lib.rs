@@ -5,6 +5,7 @@
 
 pub mod answer;
 pub mod arguments;
+pub mod ats;
 pub mod commands;
 pub mod compared;
 pub mod counterexample;

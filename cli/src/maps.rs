@@ -2,6 +2,8 @@
 
 mod broken;
 
+pub use broken::Broken;
+
 use crate::exit::Failure;
 use crate::files;
 use crate::input::Input;
@@ -43,9 +45,14 @@ impl Map {
     /// The failure of a refused call on this map of a table. What is the map's fault is told of its file, with the states that break it.
     pub fn refused(&self, input: &Input, table: &Table, names: &Names, refusal: Refusal) -> Failure {
         match refusal.number() {
-            15..=20 => Failure::Refused(self.file.display().to_string(), refusal, broken::told(input, table, names, &self.classes, refusal)),
+            15..=20 => Failure::Refused(self.file.display().to_string(), refusal, self.broken(input, table, names, refusal).text),
             _ => input.refused(refusal),
         }
+    }
+
+    /// What breaks this map of a table, which the library has refused.
+    pub fn broken(&self, input: &Input, table: &Table, names: &Names, refusal: Refusal) -> Broken {
+        broken::found(input, table, names, &self.classes, refusal)
     }
 }
 

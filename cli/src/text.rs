@@ -16,6 +16,11 @@ fn is_name(word: &str) -> bool {
     !lexer::is_number(word) && !FORM.contains(&word) && !word.chars().any(char::is_control)
 }
 
+/// Whether a name from elsewhere can stand in a text: a word that may be a name, without blanks and without the sign of a comment.
+pub fn is_word(name: &str) -> bool {
+    is_name(name) && !name.is_empty() && !name.contains(|letter: char| letter == '#' || letter.is_whitespace())
+}
+
 /// Whether bytes are meant as text: the first word is `table`, or nearly so; or they start as UTF-16 does.
 pub fn is_meant(bytes: &[u8]) -> bool {
     let wide = [[0xff, 0xfe], [0xfe, 0xff]].iter().any(|mark| bytes.starts_with(mark));

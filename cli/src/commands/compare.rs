@@ -2,11 +2,10 @@
 
 use crate::answer::{self, JSON};
 use crate::arguments::{Call, Command, NAMES};
-use crate::compared::{Compared, Fit, alone};
-use crate::exit::{Outcome, Status};
+use crate::compared::{Compared, Fit};
+use crate::exit::Outcome;
 use crate::json::{Fields, list};
 use crate::progress::Progress;
-use basilvault::Refusal;
 
 pub const COMMAND: Command = Command {
     name: "compare",
@@ -31,39 +30,12 @@ Example:
 fn run(call: &Call) -> Outcome {
     let compared = Compared::of(call)?;
     let progress = Progress::start("compare", 1);
-    let both = [compared.fit(false), compared.fit(true)];
+    let both = compared.both();
     drop(progress);
-    // symbols that differ do so both ways
-    if let [Fit::Refused(refusal), _] = both
-        && refusal != Refusal::Choice
-    {
-        return Err(compared.second.refused(refusal));
-    }
-    let head = match &both {
-        [Fit::Yes, Fit::Yes] => "equal",
-        [Fit::Yes, _] => "the first fits",
-        [_, Fit::Yes] => "the second fits",
-        [Fit::No(_), Fit::No(_)] => "neither",
-        _ => "not told",
-    };
-    let status = match &both {
-        _ if both.iter().any(|fit| matches!(fit, Fit::Refused(_))) => Status::Refused,
-        _ => Status::from(head == "equal"),
-    };
-    answer::tell(call, status, || text(head, &both, &compared), || fields(&both, &compared))
-}
-
-/// The answer for people.
-fn text(head: &str, both: &[Fit; 2], compared: &Compared) -> String {
-    let mut lines = vec![head.to_string()];
-    for (fit, (which, into)) in both.iter().zip([("the first", &compared.second), ("the second", &compared.first)]) {
-        match fit {
-            Fit::Yes => {}
-            Fit::No(script) => lines.push(alone(which, script)),
-            Fit::Refused(_) => lines.push(format!("whether {which} fits is not told: {} has a choice", into.file.display())),
-        }
-    }
-    lines.join("\n")
+    let both = both?;
+    let verdict = compared.verdict(&both);
+    let text = || std::iter::once(verdict.head).chain(verdict.lines.iter().map(String::as_str)).collect::<Vec<_>>().join("\n");
+    answer::tell(call, verdict.status, text, || fields(&both, &compared))
 }
 
 /// The answer for programs. What is not told has no field.
@@ -74,7 +46,7 @@ fn fields(both: &[Fit; 2], compared: &Compared) -> Fields {
             Fit::Yes => fields.push((fits, true.into())),
             Fit::No(script) => {
                 fields.push((fits, false.into()));
-                fields.extend(script.as_ref().map(|script| (alone, list(script))));
+                fields.extend(script.as_ref().map(|script| (alone, list(compared.words(script)))));
             }
             Fit::Refused(_) => {}
         }

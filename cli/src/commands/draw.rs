@@ -4,7 +4,8 @@ use crate::arguments::{Call, Opt, Command, NAMES, OUT, STATES, SYMBOLS};
 use crate::exit::{Outcome, Status};
 use crate::files::Spared;
 use crate::maps::Map;
-use crate::{draw, input};
+use crate::draw::{self, Picture};
+use crate::input;
 use std::path::Path;
 
 const MAP: Opt = Opt { name: "--map", value: "MAP", says: "the map whose classes are drawn" };
@@ -15,7 +16,7 @@ pub const COMMAND: Command = Command {
     usage: "TABLE [--map MAP] [--names TEXT] [-o OUT]",
     help: "\
 Prints the graph of a table in the language of Graphviz, whose program `dot` makes a picture of it. With a map that the check accepts, the states of a class
-are drawn together.
+are drawn together. Each mark has a colour, whose name is told; a state that no run reaches is pale, and one from which nothing is accepted has a ×.
 
 Example:
 
@@ -39,5 +40,7 @@ fn run(call: &Call) -> Outcome {
     }
     let spared = Spared::of([Some(call.file(0)), call.path(MAP.name), call.path(NAMES.name)].into_iter().flatten());
     let out = call.path(OUT.name).unwrap_or(Path::new("-"));
-    spared.write(out, draw::dot(&table, &tops, &names, map.as_ref().map(|map| &map.classes[..])).as_bytes()).map(|()| Status::Done)
+    let map = map.as_ref().map(|map| &map.classes[..]);
+    let text = draw::dot(&Picture { table: &table, tops: &tops, names: &names, map, broken: &[], explained: true });
+    spared.write(out, text.as_bytes()).map(|()| Status::Done)
 }

@@ -2,7 +2,7 @@
 
 use crate::answer::{self, JSON};
 use crate::arguments::{Call, Command, NAMES};
-use crate::compared::{Compared, Fit, alone};
+use crate::compared::{Compared, Fit};
 use crate::exit::{Outcome, Status};
 use crate::json::{Fields, list};
 use crate::progress::Progress;
@@ -36,10 +36,10 @@ fn run(call: &Call) -> Outcome {
     match fit {
         Fit::Yes => answer::tell(call, Status::Done, || "yes".into(), || vec![second(), ("fits", true.into())]),
         Fit::No(script) => {
-            let text = || format!("no: {}", alone("the first", &script));
+            let text = || format!("no: {}", compared.alone("the first", &script));
             answer::tell(call, Status::No, text, || {
                 let fields: Fields = vec![second(), ("fits", false.into())];
-                fields.into_iter().chain(script.as_ref().map(|script| ("script", list(script)))).collect()
+                fields.into_iter().chain(script.as_ref().map(|script| ("script", list(compared.words(script))))).collect()
             })
         }
         // what is left to refuse, 37 and 38, is of the second table

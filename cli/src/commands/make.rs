@@ -3,7 +3,7 @@
 use crate::arguments::{Call, Command, OUT, STATES, SYMBOLS};
 use crate::exit::{Failure, Outcome, Status};
 use crate::files::{self, Spared};
-use crate::{input, values};
+use crate::{ats, input, values};
 
 pub const COMMAND: Command = Command {
     name: "make",
@@ -27,6 +27,9 @@ What is named stands in a line before; moves come in any order. A name has no bl
 over and ->; no two symbols, states or marks have one name. A number is always the number of a symbol, state or mark, and can stand in a move for its
 name. Mistakes are told as FILE:LINE:COLUMN, the first ten of them.
 
+A file that ends in .ats, or starts with NestedWordAutomaton, is read as AutomataScript, the language of Ultimate's Automata Library: one automaton, whose
+alphabets have no symbol in common. A script of a table is accepted with nothing left open; what Ultimate says of words with pending calls or returns has no place in it.
+
 Example:
 
     basilvault make tables/t.txt -o t.bin
@@ -40,7 +43,9 @@ Example:
 /// Makes the table.
 fn run(call: &Call) -> Outcome {
     let (limits, file, out) = (call.limits()?, call.file(0), call.out()?);
-    let (table, _) = input::from_text(file, &files::read(file)?)?;
+    let given = files::read(file)?;
+    // a table has no names, so those of a script may be such that a text cannot have
+    let table = if ats::is_meant(file, &given) { input::from_script(file, &given)?.table } else { input::from_text(file, &given)?.0 };
     let bytes = table.to_bytes();
     basilvault::read_within(limits, &bytes).map_err(|refusal| Failure::Refused(file.display().to_string(), refusal, values::of_table(refusal, limits, &bytes)))?;
     Spared::of([file]).write(out, &bytes).map(|()| Status::Done)

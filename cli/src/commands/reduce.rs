@@ -16,7 +16,7 @@ use basilvault::{LONGEST_FILE, Limits, MOST_STATES, Reduced};
 use std::path::{Path, PathBuf};
 use std::time::Instant;
 
-const WITH: Opt = Opt { name: "--with", value: "SOLVER", says: "ask a solver too, such as minisat; the better map is kept" };
+pub const WITH: Opt = Opt { name: "--with", value: "SOLVER", says: "ask a solver too, such as minisat; the better map is kept" };
 const JOBS: Opt = Opt { name: "--jobs", value: "N", says: "reduce N tables at a time, one where it is not given" };
 const UPDATE: Opt = Opt { name: "--update", value: "", says: "leave alone what is in the folder and newer than its table" };
 const MAP: Opt = Opt { name: "--map", value: "FILE", says: "write the map to this file, by names where there are some" };
@@ -234,7 +234,7 @@ fn whose(call: &Call, theirs: bool) -> String {
 }
 
 /// Asks a solver too, and puts its map and quotient in place of those that are there where they are better; what is delivered, and whether it is the solver's.
-fn proposed(
+pub fn proposed(
     limits: Limits, input: &Input, states: usize, command: &Path, (reduced, map, small): (Reduced, &mut [u8], &mut [u8]),
 ) -> Result<(Reduced, Option<bool>), Failure> {
     let refused = |refusal| input.refused(refusal);

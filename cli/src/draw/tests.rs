@@ -12,6 +12,11 @@ fn random(seed: u32, states: usize, density: u32) -> (Table, Tops) {
     (samples::table(&bytes), basilvault::tops_within(Limits::LARGEST, &bytes).expect("a readable table"))
 }
 
+/// A picture with what it means under it.
+fn plainly(table: &Table, tops: &Tops, names: &Names, map: Option<&[u8]>) -> String {
+    dot(&Picture { table, tops, names, map, broken: &[], explained: true })
+}
+
 /// What Graphviz makes of a picture, where it is installed.
 fn plain(text: &str) -> Option<String> {
     let mut child = Command::new("dot").arg("-Tplain").stdin(Stdio::piped()).stdout(Stdio::piped()).stderr(Stdio::piped()).spawn().ok()?;
@@ -32,7 +37,7 @@ fn all_is_there() {
         let live = table.returns.iter().filter(|record| arrows::live(&tops, record)).count();
         assert_eq!([Line::Internal, Line::Call, Line::Return].map(count), [table.internals.len(), table.calls.len(), live]);
         assert_eq!(count(Line::Dead), table.returns.len() - live);
-        let text = dot(&table, &tops, &names, None);
+        let text = plainly(&table, &tops, &names, None);
         for &[from, symbol, over, to] in &table.returns {
             let line = text.lines().filter(|line| line.starts_with(&format!("  q{from} -> q{to} ")));
             let said = |tip: &str| tip.contains(&format!("r{symbol} ↑")) && tip.contains(&format!("q{over}"));
@@ -52,7 +57,7 @@ fn any_name_stands_for_itself() {
     names.states = ["a \"b\"", "<b>&amp;\\N", "c\\", "</svg>{|}"].map(String::from).to_vec();
     names.symbols[0] = "\\G \"x\" -> y; }".into();
     let map = [0, 1, 1, 2];
-    let text = dot(&table, &tops, &names, Some(&map));
+    let text = plainly(&table, &tops, &names, Some(&map));
     assert!(text.contains("subgraph cluster_1 {\n    label=\"class 1: 2 states are one\"") && !text.contains("cluster_3"));
     assert_eq!(quoted("a\"\\\n&<"), "\"a\\\"\\\\\\n&amp;&lt;\"");
     if let Some(plain) = plain(&text) {
@@ -67,7 +72,7 @@ fn any_name_stands_for_itself() {
 #[test]
 fn parallel_arrows_are_one() {
     let (table, tops) = random(1, 1, 65_536);
-    let text = dot(&table, &tops, &Names::numbered(&table), None);
+    let text = plainly(&table, &tops, &Names::numbered(&table), None);
     assert_eq!(text.matches("q0 -> q0").count(), 3, "{text}");
     assert!(text.contains("label=\"i0, i1\""), "{text}");
 }

@@ -13,15 +13,23 @@ struct Told<'a> {
     map: &'a [u8],
 }
 
+/// What breaks a map: in words, and the joined states.
+#[derive(Default)]
+pub struct Broken {
+    pub text: String,
+    pub states: Vec<u8>,
+}
+
 /// What breaks the condition that the library names; nothing where no place is found.
-pub fn told(input: &Input, table: &Table, names: &Names, map: &[u8], refusal: Refusal) -> String {
+pub fn found(input: &Input, table: &Table, names: &Names, map: &[u8], refusal: Refusal) -> Broken {
+    let plain = |text: String| Broken { text, states: Vec::new() };
     if refusal == Refusal::MapLength {
-        return format!("it has {} states, and {} has {}", map.len(), input.file.display(), table.states.len());
+        return plain(format!("it has {} states, and {} has {}", map.len(), input.file.display(), table.states.len()));
     }
     if refusal == Refusal::Numbering {
-        return numbering(names, map);
+        return plain(numbering(names, map));
     }
-    let Ok(tops) = input.tops() else { return String::new() };
+    let Ok(tops) = input.tops() else { return Broken::default() };
     let told = Told { table, names, tops, map };
     let found = match refusal {
         Refusal::Agreement => told.agreement(),
@@ -72,7 +80,7 @@ impl Told<'_> {
     }
 
     /// Two joined states that differ in accepting or mark.
-    fn agreement(&self) -> Option<String> {
+    fn agreement(&self) -> Option<Broken> {
         let states = || 0..self.map.len() as u8;
         let look = |q: u8| self.table.states[usize::from(q)];
         let differ = |p: u8, q: u8| look(p).accepting != look(q).accepting || look(p).mark != look(q).mark;
@@ -80,25 +88,27 @@ impl Told<'_> {
         let [one, other] = [p, q].map(|q| self.name(q));
         if look(p).accepting != look(q).accepting {
             let (yes, no) = if look(p).accepting { (one, other) } else { (other, one) };
-            return Some(format!("it joins {one} and {other}, but {yes} is accepting and {no} is not"));
+            return Some(Broken { text: format!("it joins {one} and {other}, but {yes} is accepting and {no} is not"), states: vec![p, q] });
         }
         let [first, second] = [p, q].map(|q| self.names.mark(look(q).mark));
-        Some(format!("it joins {one} and {other}, but {one} has mark {first} and {other} has mark {second}"))
+        let text = format!("it joins {one} and {other}, but {one} has mark {first} and {other} has mark {second}");
+        Some(Broken { text, states: vec![p, q] })
     }
 
     /// A move that a joined state does not match.
-    fn moves(&self, records: &[[u8; 3]], kind: &str) -> Option<String> {
+    fn moves(&self, records: &[[u8; 3]], kind: &str) -> Option<Broken> {
         records.iter().find_map(|&[p, symbol, target]| {
             let others = |q: u8| records.iter().filter(move |r| r[0] == q && r[1] == symbol).map(|r| r[2]).collect::<Vec<_>>();
             let q = self.class(p).find(|&q| !others(q).iter().any(|&other| self.joined(target, other)))?;
             let [one, other, by, to] = [self.name(p), self.name(q), self.names.symbol(symbol), self.name(target)];
             let found = self.found(&others(q), target, &format!("has no {by}"), "goes to");
-            Some(format!("it joins {one} and {other}, but {one} takes {kind}{by} to {to}, and {other} {found}"))
+            let text = format!("it joins {one} and {other}, but {one} takes {kind}{by} to {to}, and {other} {found}");
+            Some(Broken { text, states: vec![p, q] })
         })
     }
 
     /// A live return that a joined state does not match over a joined top.
-    fn returns(&self) -> Option<String> {
+    fn returns(&self) -> Option<Broken> {
         let live = self.table.returns.iter().filter(|record| self.top(record[0], record[2]));
         live.copied().find_map(|[p, symbol, s, target]| {
             let others = |q: u8, u: u8| {
@@ -108,9 +118,11 @@ impl Told<'_> {
             let places = self.class(p).flat_map(|q| self.class(s).filter(move |&u| self.top(q, u)).map(move |u| (q, u)));
             let (q, u) = places.into_iter().find(|&(q, u)| !others(q, u).iter().any(|&other| self.joined(target, other)))?;
             let [one, other, by, to, stack, top] = [self.name(p), self.name(q), self.names.symbol(symbol), self.name(target), self.name(s), self.name(u)];
-            let pairs: Vec<String> = [(p, q), (s, u)].iter().filter(|(a, b)| a != b).map(|&(a, b)| format!("{} and {}", self.name(a), self.name(b))).collect();
+            let joined: Vec<(u8, u8)> = [(p, q), (s, u)].into_iter().filter(|(a, b)| a != b).collect();
+            let pairs: Vec<String> = joined.iter().map(|&(a, b)| format!("{} and {}", self.name(a), self.name(b))).collect();
             let found = self.found(&others(q, u), target, &format!("has no {by} over {top}"), &format!("takes it over {top} to"));
-            Some(format!("it joins {}, but {one} takes the return {by} over {stack} to {to}, and {other} {found}", pairs.join(", and ")))
+            let text = format!("it joins {}, but {one} takes the return {by} over {stack} to {to}, and {other} {found}", pairs.join(", and "));
+            Some(Broken { text, states: joined.iter().flat_map(|&(a, b)| [a, b]).collect() })
         })
     }
 

@@ -1,6 +1,6 @@
 //! Where every record went.
 
-use super::html::{LONG, escaped, folded, grouped, paragraph, section, table};
+use super::html::{LONG, escaped, folded, grouped, noted_table, paragraph, section, table};
 use super::reduction::Reduction;
 use crate::model::Kind;
 use crate::names::Names;
@@ -39,8 +39,7 @@ pub fn records(it: &Reduction) -> String {
     };
     let sums = table(&["", "all", "kept", "folded", "dead"], &parts.iter().map(row).collect::<Vec<_>>());
     let lists: String = parts.iter().filter(|part| !part.records.is_empty()).map(|part| fate_list(it, part)).collect();
-    let hint = "<p class=\"hint\">A list that is closed is not printed.</p>\n";
-    section("Where every record went", &[&paragraph(said), &sums, hint, &lists].map(String::from).concat())
+    section("Where every record went", &format!("{}{sums}<div id=\"records\">\n{lists}</div>\n", paragraph(said)))
 }
 
 /// The records of a section, each with its fate.
@@ -58,10 +57,13 @@ fn fate_list(it: &Reduction, part: &Part) -> String {
         if fate == Recorded::KEPT {
             kept.insert(image, was.clone());
         }
-        rows.push(vec![was, format!("<span class=\"fate {name}\">{name}</span>"), became]);
+        let states: Vec<String> = record.iter().enumerate().filter(|(place, _)| *place != 1).map(|(_, q)| q.to_string()).collect();
+        let (by, symbol) = (record[1], escaped(it.names.symbol(record[1])));
+        let attributes = format!(" data-fate=\"{name}\" data-by=\"{by}\" data-symbol=\"{symbol}\" data-states=\"{}\"", states.join(" "));
+        rows.push((attributes, vec![was, format!("<span class=\"fate {name}\">{name}</span>"), became]));
     }
     let head = format!("{}, {}", part.name, grouped(part.records.len() as u64));
-    folded(&head, part.records.len() > LONG, &table(&["record", "is", "became"], &rows))
+    folded(&head, part.records.len() > LONG, &noted_table(&["record", "is", "became"], &rows))
 }
 
 /// A record in a line: from, by, to.

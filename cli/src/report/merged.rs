@@ -10,8 +10,12 @@ pub fn became_one(it: &Reduction) -> String {
     if joined.is_empty() {
         let said = "None. For every two states there is a condition that keeps them apart: one accepts and the other does not, their marks differ, or \
                     one has a move that the other cannot match. The command why tells which, for any two.";
-        let spent = "None that the search came to before its budget was spent.";
-        return section("Which states became one", &paragraph(if it.reduced.spent { spent } else { said }));
+        let said = match (it.proposer.is_search(), it.spent()) {
+            (true, true) => "None that the search came to before its budget was spent.",
+            (true, false) => said,
+            _ => "None: the map joins no two states.",
+        };
+        return section("Which states became one", &paragraph(said));
     }
     let why = "States become one where no script can tell them apart: both accept or neither does, they have the same mark, and every move of one is \
                matched by the other, into states that became one as well. A return counts only where a script can come to take it.";
@@ -33,7 +37,7 @@ fn card(it: &Reduction, members: &[u8]) -> String {
         0 => String::new(),
         many => folded("Returns that not all of them have, and why that does no harm", many > LONG / 4, &list(&notes)),
     };
-    format!("<div class=\"one\">\n<h3>{}</h3>\n{notes}</div>\n", escaped(&head))
+    format!("<div class=\"one\" data-class=\"{}\">\n<h3>{}</h3>\n{notes}</div>\n", it.class(members[0]), escaped(&head))
 }
 
 /// The live returns of a class's states for which others of the class are never above the stack state.

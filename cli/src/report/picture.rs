@@ -1,8 +1,9 @@
 //! Pictures through Graphviz where it is installed, else the moves by state.
 
-use super::html::{count, escaped, folded, paragraph, table as html_table};
-use crate::draw;
+use super::html::{count, escaped, folded, noted_table as html_table, paragraph};
 use crate::draw::arrows::{self, Line};
+use crate::draw::looks::{Looks, Meaning};
+use crate::draw::{self, Picture};
 use crate::model::Table;
 use crate::names::Names;
 use basilvault::Tops;
@@ -22,24 +23,71 @@ const NO_PICTURE: &str = "Graphviz, which draws the pictures, did not draw this 
 /// How long Graphviz may take.
 const PATIENCE: Duration = Duration::from_secs(10);
 
-/// A table as a picture, or where none can be had as its moves by state. The prefix keeps the names inside of two pictures apart.
-pub fn shown(table: &Table, tops: &Tops, names: &Names, map: Option<&[u8]>, prefix: &str) -> String {
-    let arrows = arrows::gathered(table, tops);
+/// A table on the page.
+#[derive(Clone, Copy)]
+pub struct Shown<'a> {
+    pub table: &'a Table,
+    pub tops: &'a Tops,
+    pub names: &'a Names,
+    /// a box is drawn around each of its classes
+    pub map: Option<&'a [u8]>,
+    /// states that break the map
+    pub broken: &'a [u8],
+    /// keeps what the pictures of one page have in them apart
+    pub prefix: &'a str,
+    /// a column of the list of moves: its head, and a class and a text for each state
+    pub column: Option<(&'a str, &'a [(u8, String)])>,
+}
+
+/// A table as the page shows it: a picture with its meaning, where one can be had, and its moves by state. On paper a large picture has a sheet of its own,
+/// `broad` or `tall`.
+pub struct Drawing {
+    sheet: &'static str,
+    picture: String,
+    moves: String,
+}
+
+impl Drawing {
+    /// With a head and some text before it, in an element that has them on one sheet.
+    pub fn under(&self, element: &str, head: &str, text: &str) -> String {
+        let Drawing { sheet, picture, moves } = self;
+        format!("<{element} class=\"{sheet}\">\n<div class=\"sheet\">\n{head}{text}{picture}</div>\n{moves}</{element}>\n")
+    }
+}
+
+/// What is shown of a table.
+pub fn shown(it: &Shown) -> Drawing {
+    let listed = |said: String, arrows: &[arrows::Arrow]| Drawing { sheet: "", picture: said, moves: moves(it, arrows, it.table.states.len() > FEW) };
+    let arrows = arrows::gathered(it.table, it.tops);
     let live = arrows.iter().filter(|arrow| arrow.line != Line::Dead).count();
     if live > MOST_ARROWS {
         let said = format!("With {} a picture would be a tangle; the moves are listed instead.", count(arrows.len(), "arrow"));
-        return paragraph(&said) + &moves(table, names, &arrows, map);
+        return listed(paragraph(&said), &arrows);
     }
     let many = arrows.len() - live > MOST_DEAD;
-    let text = if many { draw::dot(&without_dead(table, tops), tops, names, map) } else { draw::dot(table, tops, names, map) };
-    let Some(picture) = drawn(&text).and_then(|svg| embedded(&svg, prefix)) else {
-        return paragraph(NO_PICTURE) + &moves(table, names, &arrows, map);
+    let without = without_dead(it.table, it.tops);
+    let table = if many { &without } else { it.table };
+    let drawn_of = Picture { table, tops: it.tops, names: it.names, map: it.map, broken: it.broken, explained: false };
+    let Some((sheet, picture)) = drawn(&draw::dot(&drawn_of)).and_then(|svg| embedded(&svg, it.prefix)) else {
+        return listed(paragraph(NO_PICTURE), &arrows);
     };
     let said = [
-        (map.is_some(), "A yellow box holds states that are one in the table that goes out."),
+        (it.map.is_some(), "A yellow box holds states of one class."),
         (many, "Dead returns, which no script can take, are left out of the picture: there are too many."),
     ];
-    said.iter().filter(|(so, _)| *so).map(|(_, said)| paragraph(said)).collect::<String>() + &picture
+    let said: String = said.iter().filter(|(so, _)| *so).map(|(_, said)| paragraph(said)).collect();
+    let looks = Looks::of(table, it.tops, it.broken);
+    let picture = said + &picture + &legend(&looks.meanings(table, it.names, &arrows::gathered(table, it.tops)));
+    Drawing { sheet, picture, moves: moves(it, &arrows, true) }
+}
+
+/// What a picture means, under it.
+fn legend(meanings: &[Meaning]) -> String {
+    let line = |meaning: &Meaning| {
+        let swatch = meaning.colour.map(|colour| format!("<span class=\"swatch\" style=\"background:{}\"></span> ", colour.fill));
+        format!("<li>{}{}</li>\n", swatch.unwrap_or_default(), escaped(&meaning.says))
+    };
+    format!("<ul class=\"legend\">\n{}</ul>\n", meanings.iter().map(line).collect::<String>())
 }
 
 /// A table without its dead returns.
@@ -80,28 +128,51 @@ fn ends_well(child: &mut Child) -> bool {
     }
 }
 
-/// A picture inside of the page: no smaller than can be read, and in a frame that scrolls.
-fn embedded(svg: &str, prefix: &str) -> Option<String> {
+/// A picture inside of the page: without a script no smaller than can be read, in a frame that scrolls; and the sheet that it needs on paper, where it would
+/// be too small beside the text.
+fn embedded(svg: &str, prefix: &str) -> Option<(&'static str, String)> {
     let svg = &svg[svg.find("<svg")?..];
-    let points: f64 = svg.split("width=\"").nth(1)?.split("pt\"").next()?.parse().ok()?;
-    let wide = points * 4.0 / 3.0;
-    let style = format!("<svg role=\"img\" aria-label=\"a picture of the table\" style=\"width:{wide:.0}px; min-width:{:.0}px\"", wide * 0.6);
+    let points = |side: &str| svg.split(&format!("{side}=\"")).nth(1)?.split("pt\"").next()?.parse::<f64>().ok();
+    let (wide, high) = (points("width")?, points("height")?);
+    let pixels = wide * 4.0 / 3.0;
+    let style = format!("<svg role=\"img\" aria-label=\"a picture of the table\" style=\"width:{pixels:.0}px; min-width:{:.0}px\"", pixels * 0.6);
     let svg = svg.replacen("<svg", &style, 1).replace(" id=\"", &format!(" id=\"{prefix}-"));
-    let narrow = if wide > 1_700.0 { "" } else { " narrow" };
-    let hint = format!("<p class=\"hint{narrow}\">The picture is wider than the page: it scrolls sideways.</p>\n");
-    Some(format!("{hint}<div class=\"picture\">\n{}\n</div>\n", svg.trim_end()))
+    let svg = svg.replace("<a xlink:title=\"", "<g><title>").replace("</a>", "</g>");
+    let svg: Vec<String> = svg.lines().filter(|line| !line.starts_with("<title>")).map(titled).collect();
+    let sheet = match (INLINE[0] / wide).min(INLINE[1] / high) {
+        scale if scale >= SMALLEST => "",
+        _ if wide > high => "broad",
+        _ => "tall",
+    };
+    Some((sheet, format!("<div class=\"picture\" id=\"{prefix}\">\n{}\n</div>\n", svg.join("\n").trim_end())))
 }
 
-/// The moves by state, kind by kind; folded away where there are many states.
-pub fn moves(table: &Table, names: &Names, arrows: &[arrows::Arrow], map: Option<&[u8]>) -> String {
+/// The points that a picture has in the width of a printed page, beside the head, and how small it may become there.
+const INLINE: [f64; 2] = [510.0, 400.0];
+const SMALLEST: f64 = 0.55;
+
+/// A line in which Graphviz's tip is made the title of its group.
+fn titled(line: &str) -> String {
+    match line.split_once("<g><title>") {
+        Some((before, after)) => format!("{before}<g><title>{}", after.replacen("\">", "</title>", 1)),
+        None => line.into(),
+    }
+}
+
+/// Up to so many states the moves are open where there is no picture.
+const FEW: usize = 16;
+
+/// The moves by state, kind by kind; folded away where asked.
+pub fn moves(it: &Shown, arrows: &[arrows::Arrow], away: bool) -> String {
+    let looks = Looks::of(it.table, it.tops, it.broken);
     let row = |q: usize| {
-        let class = map.map(|map| map[q].to_string());
-        let cells = [escaped(names.state(q as u8)), said(table, names, q), kinds(names, arrows, q as u8)];
-        class.into_iter().chain(cells).collect()
+        let (class, more) = it.column.map_or((String::new(), None), |(_, column)| (format!(" data-class=\"{}\"", column[q].0), Some(escaped(&column[q].1))));
+        let cells = [escaped(it.names.state(q as u8)), said(it, &looks, q), kinds(it.names, arrows, q as u8)];
+        (format!(" id=\"{}-row{q}\"{class}", it.prefix), more.into_iter().chain(cells).collect())
     };
-    let head = ["class", "state", "is", "moves"];
-    let rows: Vec<Vec<String>> = (0..table.states.len()).map(row).collect();
-    folded("The moves, state by state", rows.len() > 16, &html_table(&head[usize::from(map.is_none())..], &rows))
+    let head: Vec<&str> = it.column.map(|(head, _)| head).into_iter().chain(["state", "is", "moves"]).collect();
+    let rows: Vec<(String, Vec<String>)> = (0..it.table.states.len()).map(row).collect();
+    format!("<div class=\"moves\">\n{}</div>\n", folded("The moves, state by state", away, &html_table(&head, &rows)))
 }
 
 /// The moves of a state, a line for each kind.
@@ -117,10 +188,15 @@ fn kinds(names: &Names, arrows: &[arrows::Arrow], q: u8) -> String {
 }
 
 /// What a state is.
-fn said(table: &Table, names: &Names, q: usize) -> String {
-    let state = table.states[q];
-    let mark = (state.mark != 0).then(|| format!("mark {}", names.mark(state.mark)));
-    let initial = state.initial.then(|| "initial".to_string());
-    let all: Vec<String> = initial.into_iter().chain(state.accepting.then(|| "accepting".to_string())).chain(mark).collect();
-    escaped(&all.join(", "))
+fn said(it: &Shown, looks: &Looks, q: usize) -> String {
+    let (state, number) = (it.table.states[q], q as u8);
+    let said = [
+        (state.initial, "initial".to_string()),
+        (state.accepting, "accepting".into()),
+        (state.mark != 0, format!("mark {}", it.names.mark(state.mark))),
+        (looks.unreached(number), "no run reaches it".into()),
+        (looks.stuck(number), "nothing is accepted from it".into()),
+        (it.broken.contains(&number), "breaks the map".into()),
+    ];
+    escaped(&said.into_iter().filter(|(so, _)| *so).map(|(_, said)| said).collect::<Vec<_>>().join(", "))
 }

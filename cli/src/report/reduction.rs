@@ -1,8 +1,39 @@
 //! A reduction with all that the page tells of it, as the library answers.
 
+use crate::maps;
 use crate::model::Table;
 use crate::names::Names;
 use basilvault::{Limits, Recorded, Reduced, Refusal, Tops};
+
+/// Who proposed the map that the check has accepted.
+#[derive(Clone, Debug, PartialEq, Eq)]
+pub enum Proposer {
+    /// The library's search.
+    Search,
+    /// The library's search, whose map is no worse than that of this solver.
+    SearchAgainst(String),
+    /// A solver, by its command line.
+    Solver(String),
+    /// Whoever wrote this file.
+    File(String),
+}
+
+impl Proposer {
+    /// Who it was, in words.
+    pub fn said(&self) -> String {
+        match self {
+            Proposer::Search => "proposed by the library's search".into(),
+            Proposer::SearchAgainst(solver) => format!("proposed by the library's search; what {solver} proposed is no better"),
+            Proposer::Solver(solver) => format!("proposed by {solver}"),
+            Proposer::File(file) => format!("proposed in {file}"),
+        }
+    }
+
+    /// Whether it was the library's search.
+    pub fn is_search(&self) -> bool {
+        matches!(self, Proposer::Search | Proposer::SearchAgainst(_))
+    }
+}
 
 /// A table before and after.
 pub struct Reduction<'a> {
@@ -12,7 +43,11 @@ pub struct Reduction<'a> {
     pub map: Vec<u8>,
     pub fates: Vec<u8>,
     pub recorded: Recorded,
+    /// what the map comes to
     pub reduced: Reduced,
+    /// what the library's search came to
+    pub search: Reduced,
+    pub proposer: Proposer,
     pub after: Table,
     pub after_tops: Tops,
     pub after_names: Names,
@@ -33,7 +68,26 @@ impl<'a> Reduction<'a> {
         let after = Table::from_bytes(limits, small)?;
         let after_names = class_names(names, &map, reduced.classes);
         let (tops, after_tops) = (basilvault::tops_within(limits, bytes)?, basilvault::tops_within(limits, small)?);
-        Ok(Reduction { names, before, tops, map, fates, recorded, reduced, after, after_tops, after_names, budget, room, bytes: bytes.len() })
+        let (proposer, search, bytes) = (Proposer::Search, reduced, bytes.len());
+        Ok(Reduction { names, before, tops, map, fates, recorded, reduced, search, proposer, after, after_tops, after_names, budget, room, bytes })
+    }
+
+    /// The same table under another map, where the check accepts it.
+    pub fn under(self, limits: Limits, bytes: &[u8], map: &[u8], proposer: Proposer) -> Result<Reduction<'a>, Refusal> {
+        let classes = basilvault::check_within(limits, bytes, map)?;
+        let mut out = vec![0; bytes.len()];
+        let length = basilvault::quotient_within(limits, bytes, map, &mut out)?;
+        let mut fates = vec![0; self.fates.len()];
+        let recorded = basilvault::records_within(limits, bytes, map, &mut fates)?;
+        let after = Table::from_bytes(limits, &out[..length])?;
+        let (after_tops, after_names) = (basilvault::tops_within(limits, &out[..length])?, class_names(self.names, map, classes));
+        let reduced = Reduced { classes, length, joined: maps::joined(map), ..self.search };
+        Ok(Reduction { map: map.to_vec(), fates, recorded, reduced, proposer, after, after_tops, after_names, ..self })
+    }
+
+    /// Whether the map is the search's, and the search was cut short.
+    pub fn spent(&self) -> bool {
+        self.search.spent && self.proposer.is_search()
     }
 
     /// The states of a class.

@@ -1,58 +1,81 @@
 //! The page's sections, in the order in which the desk reads them.
 
-use super::html::{LONG, count, escaped, folded, grouped, paragraph, section, table};
+use super::html::{LONG, count, escaped, folded, grouped, heading, notice, noted_table, opening, paragraph, section, table};
+use super::picture::{self, Shown};
 use super::reduction::Reduction;
-use super::{picture, words};
+use super::words;
 use crate::facts::Facts;
-use crate::model::Kind;
+use crate::model::{Kind, Table};
+use crate::names::Names;
+use basilvault::Tops;
 
 /// The title, what happened in one line, and the numbers that matter.
 pub fn head(it: &Reduction, title: &str) -> String {
     let (before, after) = (it.before.states.len(), it.reduced.classes);
     let lead = match (before == after, before) {
         (true, 1) => "The one state stays as it is".into(),
-        (true, _) if it.reduced.spent => format!("All {before} states stay: none was merged"),
+        (true, _) if it.spent() => format!("All {before} states stay: none was merged"),
+        (true, _) if !it.proposer.is_search() => format!("All {before} states stay: the map joins none"),
         (true, _) => format!("All {before} states stay: none can be merged"),
         (false, _) => format!("{before} states became {after}"),
     };
     let pairs = format!("{} of at most {}", grouped(it.reduced.joined as u64), grouped(it.reduced.ceiling as u64));
     let kept = format!("{} of {}", grouped(it.recorded.kept as u64), grouped(it.recorded.records as u64));
-    let (search, ended) = match it.reduced.spent {
-        true => ("Search cut short", format!("the budget of {} was spent", guesses(it.budget))),
-        false if it.reduced.guesses == 0 => ("Search complete", "it came to its end without a guess".into()),
-        false => ("Search complete", format!("it came to its end after {}", guesses(it.reduced.guesses))),
-    };
     let facts = [
         (kept, format!("records kept; {} folded, {} dead", grouped(it.recorded.folded as u64), grouped(it.recorded.dead as u64))),
         (pairs, "pairs of states joined".into()),
-        (search.into(), ended),
+        searched(it),
+        ("Accepted by the check".into(), format!("the map is {}", it.proposer.said())),
         ("Same scripts".into(), "both tables accept exactly the same ones".into()),
     ];
-    let facts: String = facts.iter().map(|(number, said)| format!("<li><b>{}</b><span>{}</span></li>\n", escaped(number), escaped(said))).collect();
-    let spent = if it.reduced.spent { notice(it) } else { String::new() };
-    format!("<h1>{}</h1>\n<p class=\"lead\">{}</p>\n<ul class=\"facts\">\n{facts}</ul>\n{spent}", escaped(title), escaped(&lead)) + &words::glossary()
+    let spent = if it.spent() { spent(it) } else { String::new() };
+    opening(title, &lead, &facts) + &spent + &words::glossary()
+}
+
+/// How the library's search ended.
+fn searched(it: &Reduction) -> (String, String) {
+    let (head, ended) = match it.search.spent {
+        true => ("Search cut short", format!("the budget of {} was spent", guesses(it.budget))),
+        false if it.search.guesses == 0 => ("Search complete", "it came to its end without a guess".into()),
+        false => ("Search complete", format!("it came to its end after {}", guesses(it.search.guesses))),
+    };
+    match it.proposer.is_search() {
+        true => (head.into(), ended),
+        false => (format!("The library's own {}", head.to_lowercase()), format!("{ended}; it joined {}", count(it.search.joined, "pair"))),
+    }
 }
 
 /// What a spent budget means.
-fn notice(it: &Reduction) -> String {
+fn spent(it: &Reduction) -> String {
     let more = match it.all_joined() {
         true => "As many pairs are joined as can be, so it has cost nothing.",
         false => "More merges may be possible: a larger budget would tell.",
     };
     let said = "The budget of guesses was spent before the search came to its end. Every merge on this page has passed the check all the same.";
-    format!("<p class=\"notice\">{said} {more}</p>\n")
+    notice(&format!("{said} {more}"))
 }
 
 /// The table that came in.
 pub fn came_in(it: &Reduction) -> String {
-    let of = |kind: Kind| it.before.symbols.iter().filter(|symbol| **symbol == kind).count();
-    let counts = [count(of(Kind::Internal), "internal symbol"), count(of(Kind::Call), "call"), count(of(Kind::Return), "return")].join(", ");
-    let records = [(it.before.internals.len(), "internal"), (it.before.calls.len(), "call"), (it.before.returns.len(), "return")];
-    let records = records.map(|(number, noun)| count(number, noun)).join(", ");
-    let said = format!("{}. Symbols: {counts}. Records: {records}.", count(it.before.states.len(), "state"));
+    let said = counts(&it.before);
     let map = (!it.joined().is_empty()).then_some(&it.map[..]);
-    let facts: String = Facts::of(&it.before, &it.tops).told(it.names).iter().map(|fact| paragraph(&sentence(fact))).collect();
-    section("What came in", &(paragraph(&said) + &facts + &picture::shown(&it.before, &it.tops, it.names, map, "in")))
+    let column: Vec<(u8, String)> = it.map.iter().map(|class| (*class, class.to_string())).collect();
+    let shown = Shown { table: &it.before, tops: &it.tops, names: it.names, map, broken: &[], prefix: "in", column: Some(("class", &column)) };
+    picture::shown(&shown).under("section", &heading("What came in"), &(paragraph(&said) + &facts(&it.before, &it.tops, it.names)))
+}
+
+/// How many states, symbols and records a table has.
+pub fn counts(table: &Table) -> String {
+    let of = |kind: Kind| table.symbols.iter().filter(|symbol| **symbol == kind).count();
+    let counts = [count(of(Kind::Internal), "internal symbol"), count(of(Kind::Call), "call"), count(of(Kind::Return), "return")].join(", ");
+    let records = [(table.internals.len(), "internal"), (table.calls.len(), "call"), (table.returns.len(), "return")];
+    let records = records.map(|(number, noun)| count(number, noun)).join(", ");
+    format!("{}. Symbols: {counts}. Records: {records}.", count(table.states.len(), "state"))
+}
+
+/// What a table is worth, in sentences.
+pub fn facts(table: &Table, tops: &Tops, names: &Names) -> String {
+    Facts::of(table, tops).told(names).iter().map(|fact| paragraph(&sentence(fact))).collect()
 }
 
 /// A fact as a sentence.
@@ -70,7 +93,11 @@ pub fn goes_out(it: &Reduction) -> String {
         true => format!("The same states, without {} that no script can take.", count(it.recorded.dead, "return")),
         false => format!("{}, each named after the states that became it.", count(it.reduced.classes, "state")),
     };
-    section("What goes out", &(paragraph(&said) + &picture::shown(&it.after, &it.after_tops, &it.after_names, None, "out")))
+    let all = |class: u8| it.members(class).iter().map(|q| it.names.state(*q)).collect::<Vec<_>>().join(", ");
+    let column: Vec<(u8, String)> = (0..it.reduced.classes as u8).map(|class| (class, format!("{class}: {}", all(class)))).collect();
+    let (table, names) = (&it.after, &it.after_names);
+    let shown = Shown { table, tops: &it.after_tops, names, map: None, broken: &[], prefix: "out", column: Some(("class", &column)) };
+    picture::shown(&shown).under("section", &heading("What goes out"), &paragraph(&said))
 }
 
 /// How much was joined, and whether more can be.
@@ -80,19 +107,32 @@ pub fn more_to_gain(it: &Reduction) -> String {
         0 => "No map that passes the check joins any two states.".into(),
         _ => format!("The map joins {} of states. No map that passes the check joins more than {}.", count(joined, "pair"), grouped(ceiling as u64)),
     };
-    let end = match (it.reduced.spent, it.all_joined()) {
-        (_, true) => "So nothing more can be joined.",
+    let end = match (it.spent(), it.all_joined()) {
+        (_, true) => "So nothing more can be joined.".into(),
+        _ if !it.proposer.is_search() => own_search(it),
         (false, false) => {
             "The search came to its end: no map that passes the check joins all of these pairs and one more. Another choice of merges might still join \
              more pairs, up to that number."
+                .into()
         }
-        (true, false) => "The budget was spent before the search came to its end, so more merges may be possible, up to that number of pairs.",
+        (true, false) => "The budget was spent before the search came to its end, so more merges may be possible, up to that number of pairs.".into(),
     };
-    let guesses = match it.reduced.spent {
-        false => format!("Guesses made: {} of the {} that were allowed.", grouped(it.reduced.guesses), grouped(it.budget)),
+    let guesses = match it.search.spent {
+        false => format!("Guesses made by the search: {} of the {} that were allowed.", grouped(it.search.guesses), grouped(it.budget)),
         true => format!("All {} that were allowed were made.", guesses(it.budget)),
     };
-    section("Is there more to gain?", &(paragraph(&pairs) + &paragraph(end) + &paragraph(&guesses)))
+    section("Is there more to gain?", &(paragraph(&pairs) + &paragraph(&end) + &paragraph(&guesses)))
+}
+
+/// What the library's own search joins, where the map is not its own.
+fn own_search(it: &Reduction) -> String {
+    let joins = format!("The library's own search joins {}, into {}.", count(it.search.joined, "pair"), classes(it.search.classes));
+    format!("{joins} Whether all pairs that are joined here and one more can be joined was not asked.")
+}
+
+/// A number of classes.
+pub fn classes(number: usize) -> String {
+    format!("{number} {}", if number == 1 { "class" } else { "classes" })
 }
 
 /// A number of guesses.
@@ -104,13 +144,15 @@ fn guesses(number: u64) -> String {
 pub fn map(it: &Reduction) -> String {
     let row = |q: usize| {
         let names = [it.names.state(q as u8), it.after_names.state(it.map[q])].map(escaped);
-        vec![q.to_string(), names[0].clone(), it.map[q].to_string(), names[1].clone()]
+        let cells = vec![q.to_string(), names[0].clone(), it.map[q].to_string(), names[1].clone()];
+        (format!(" data-class=\"{}\"", it.map[q]), cells)
     };
-    let rows: Vec<Vec<String>> = (0..it.map.len()).map(row).collect();
+    let rows: Vec<(String, Vec<String>)> = (0..it.map.len()).map(row).collect();
     let plain: Vec<String> = it.map.iter().map(u8::to_string).collect();
-    let inner = folded("State by state", rows.len() > LONG, &table(&["state", "named", "class", "named"], &rows));
+    let inner = folded("State by state", rows.len() > LONG, &noted_table(&["state", "named", "class", "named"], &rows));
     let plain = format!("<p><code>{}</code></p>\n", plain.join(" "));
-    section("The map", &(paragraph("The class of each state, in the order of their numbers:") + &plain + &inner))
+    let lead = paragraph("The class of each state, in the order of their numbers:");
+    section("The map", &format!("{lead}{plain}<div id=\"map\">\n{inner}</div>\n"))
 }
 
 /// The numbers behind it all.
@@ -121,7 +163,7 @@ pub fn numbers(it: &Reduction) -> String {
         ("reachable stack tops, over all states", it.tops.found as u64),
         ("clause words, without those of transitivity", it.reduced.words as u64),
         ("clause words that there was room for", it.room as u64),
-        ("guesses made", it.reduced.guesses),
+        ("guesses made by the search", it.search.guesses),
         ("guesses allowed", it.budget),
     ];
     let rows: Vec<Vec<String>> = rows.iter().map(|(name, number)| vec![escaped(name), grouped(*number)]).collect();

@@ -1,6 +1,6 @@
 //! What is promised and what is not, in plain words. docs/PROMISES.md has the whole of it.
 
-use super::html::{escaped, folded, grouped, list, paragraph, section};
+use super::html::{escaped, grouped, list, paragraph, section};
 use super::reduction::Reduction;
 
 /// The words of the page.
@@ -22,7 +22,8 @@ pub fn glossary() -> String {
         ("Guess", "the search for a map tries to join two states and takes it back where that fails. The budget is how often it may."),
     ];
     let line = |(word, said): &(&str, &str)| format!("<dt>{}</dt><dd>{}</dd>\n", escaped(word), escaped(said));
-    folded("The words on this page", true, &format!("<dl>\n{}</dl>\n", words.iter().map(line).collect::<String>()))
+    let words: String = words.iter().map(line).collect();
+    format!("<details class=\"glossary\">\n<summary>The words on this page</summary>\n<dl>\n{words}</dl>\n</details>\n")
 }
 
 /// What holds of this table and its reduction.
@@ -43,10 +44,10 @@ pub fn promised(it: &Reduction) -> String {
         items.insert(2, marks.into());
     }
     items.push(format!("No map that passes the check joins more pairs of states than {}.", grouped(it.reduced.ceiling as u64)));
-    items.push(match it.reduced.spent {
+    items.extend(it.proposer.is_search().then(|| match it.search.spent {
         false => "The search came to its end: no map that passes the check joins all pairs that are joined here and one more.".into(),
         true => "The budget was spent, and the page says so: that the search came to its end is not claimed.".into(),
-    });
+    }));
     let lead = "These sentences are proved of the library that made the table, for every table, not tried on some:";
     section("What is promised", &(paragraph(lead) + &list(&items)))
 }
