@@ -16,7 +16,7 @@ pub const COMMAND: Command = Command {
     usage: "TABLE [--map MAP] [--names TEXT] [-o OUT]",
     help: "\
 Prints the graph of a table in the language of Graphviz, whose program `dot` makes a picture of it. With a map that the check accepts, the states of a class
-are drawn together. Each mark has a colour, whose name is told; a state that no run reaches is pale, and one from which nothing is accepted has a ×.
+are drawn together. Each mark has a colour, whose name is told; a state that no run reaches is pale, and one from which nothing is accepted has a cross.
 
 Example:
 
