@@ -28,7 +28,7 @@ const STEP: f64 = 345.0;
 const SIZE: [f64; 2] = [1070.0, 400.0];
 
 /// The colours of a light and of a dark ground.
-const STYLE: &str = "text { font-family: system-ui, sans-serif; font-size: 13px; fill: #1f2328 }
+pub const STYLE: &str = "text { font-family: system-ui, sans-serif; font-size: 13px; fill: #1f2328 }
 .title { font-weight: 600; font-size: 14px } .quiet { fill: #59636e } .ground { fill: #ffffff } .grid { stroke: #d8dee4 } .frame { stroke: #818b98; fill: none }
 .line { fill: none; stroke-width: 2 } .s0 { stroke: #0969da } .s1 { stroke: #bc4c00; stroke-dasharray: 6 4 } .d0 { fill: #0969da } .d1 { fill: #bc4c00 }
 @media (prefers-color-scheme: dark) {
@@ -66,12 +66,12 @@ impl Axis {
 }
 
 /// A line of text, by its class, anchor and place.
-fn text(out: &mut String, class: &str, anchor: &str, [x, y]: [f64; 2], words: &str) {
+pub fn text(out: &mut String, class: &str, anchor: &str, [x, y]: [f64; 2], words: &str) {
     writeln!(out, r#"<text class="{class}" text-anchor="{anchor}" x="{x:.1}" y="{y:.1}">{words}</text>"#).expect("text is written");
 }
 
 /// A straight line between two places.
-fn straight(out: &mut String, class: &str, from: [f64; 2], to: [f64; 2]) {
+pub fn straight(out: &mut String, class: &str, from: [f64; 2], to: [f64; 2]) {
     writeln!(out, r#"<line class="{class}" x1="{:.1}" y1="{:.1}" x2="{:.1}" y2="{:.1}"/>"#, from[0], from[1], to[0], to[1]).expect("text is written");
 }
 

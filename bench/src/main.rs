@@ -11,10 +11,13 @@
 //!   basilvault-bench worst-tables           seconds of the operations on their worst inputs, and how they grow
 //!   basilvault-bench worst                  seconds of the search on its worst lists
 //!   basilvault-bench load                   tables a second of a load from the library's generator
+//!   basilvault-bench source FILE            the source's own experiments on random automata: pairs joined, and states left by density as a figure in the file
 //!   basilvault-bench seeds                  how the inputs' seeds were found
 
+mod automata;
 mod before;
 mod compare;
+mod curve;
 mod figure;
 mod growth;
 mod inputs;
@@ -24,6 +27,7 @@ mod pairs;
 mod processes;
 mod report;
 mod rest;
+mod source;
 mod stages;
 mod times;
 mod worst;
@@ -46,6 +50,7 @@ fn main() {
         ["worst-tables"] => worst_tables::print(),
         ["worst"] => worst::print(),
         ["load"] => load::print(),
+        ["source", file] => source::print(file),
         ["seeds"] => inputs::find(),
         _ => panic!("unknown arguments: {arguments:?}"),
     }
