@@ -1,0 +1,6 @@
+// The records of two tables combined, collected as keys in the order of the file. Where there is no room for all of them, their count is one more than
+// there is room for.
+mod push;
+mod shift;
+
+pub use shift::sum;
