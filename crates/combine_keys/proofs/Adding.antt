@@ -7,7 +7,8 @@ use native.Mathlib.Omega.{arith}
 use native.Mathlib.Decide.{decLt}
 use lib.ListN.{length, getD, set, take, length-append}
 use lib.Seq.{take-suc, take-suc-set, take-all}
-use Rattle.lists.specs.Lists.{concatMap}
+use Rattle.lists.specs.Lists.{concatMap, upto}
+use Rattle.lists.proofs.Members.{length-upto, getD-upto}
 use Rattle.lists.proofs.Counts.{concatMap-append}
 use Rattle.table_write.specs.Keys.{Holds}
 use Rattle.combine_keys.specs.Adding.{Collected, Adds}
@@ -84,3 +85,11 @@ module _ {A : Type 0} {f : A → List ℕ} {xs : List A} {ks : List ℕ} {n : �
 
     pub added : length xs ≤ i → Adds (concatMap f xs) ks n ks' n'
     added h = subst (λ ys. Adds (concatMap f ys) ks n ks' n') (take-all i xs h) (w .adds)
+
+-- .. and for each number below a bound
+module _ {f : ℕ → List ℕ} {m : ℕ} {ks : List ℕ} {n : ℕ} {ks' : List ℕ} {n' i : ℕ} (w : Adding f (upto m) ks n ks' n' i) where
+  pub count-next : {ys ks'' : List ℕ} {n'' : ℕ} → i < m → length ks'' ≡ length ks' → ys ≡ f i → Adds ys ks' n' ks'' n'' → Adding f (upto m) ks n ks'' n'' (i + 1)
+  count-next h l e a = add-next w 0 (omega (arith, length-upto m)) l (e ∙ ap f (sym (getD-upto m i 0 h))) a
+
+  pub counted : m ≤ i → Adds (concatMap f (upto m)) ks n ks' n'
+  counted h = added w (omega (arith, length-upto m))

@@ -8,6 +8,7 @@ use lib.ListN.{length, replicate}
 use lib.Dec.{eqb}
 use Rattle.limits.specs.Limits.{stateMost, symbolMost}
 use Rattle.table_spec.specs.File.{records}
+use Rattle.table_spec.specs.Reading.{ascend}
 use Rattle.table_find.specs.Keys.{key}
 use Rattle.table_index.specs.Index.{Lent, Indexed}
 
@@ -28,7 +29,10 @@ pub record Summands (w n : ℕ) (first second : List ℕ) : Type 0 where
 
 -- sections of n and m states, whose pairs are at most as many as a table has states
 pub record Factors (w n m : ℕ) (first second : List ℕ) : Type 0 where
+  pub width : (w ≡ 3) ⊎ (w ≡ 4)
   pub some-second : 1 ≤ m
+  pub firsts-few : n ≤ stateMost
+  pub seconds-few : m ≤ stateMost
   pub few : n * m ≤ stateMost
   pub first-lent : Lent w n first
   pub second-lent : Lent w m second
@@ -38,6 +42,16 @@ pub record Ready (w n m : ℕ) (first second one two : List ℕ) : Type 0 where
   pub factors : Factors w n m first second
   pub one-indexed : Indexed n (records w first) one
   pub two-indexed : Indexed m (records w second) two
+
+-- parts of sections of returns that ascend, and a symbol of one of n pairs
+pub record Blocks (m n x a : ℕ) (first second : List ℕ) : Type 0 where
+  pub some-second : 1 ≤ m
+  pub seconds-few : m ≤ stateMost
+  pub few : n ≤ stateMost
+  pub pair : x < n
+  pub symbol : a < symbolMost
+  pub first-ascends : ascend (records 4 first) ≡ true
+  pub second-ascends : ascend (records 4 second) ≡ true
 
 -- the bounds of the bytes of a record between its symbol and its target: of a return the pair that was pushed
 abbrev pub stackBounds : ℕ → ℕ → List ℕ
