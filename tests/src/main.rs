@@ -33,8 +33,8 @@ const NUMBERS: [(&str, &[u8]); 33] = [
     ("fit", &[0, 3, 7, 8, 37, 38]),
     ("fit: no", &[0]),
     ("fit: yes", &[0]),
-    ("intersection", &[0, 39, 3, 7, 8, 37, 35, 36, 21]),
-    ("union", &[0, 39, 3, 7, 8, 37, 35, 36, 21]),
+    ("intersection", &[0, 39, 3, 37, 35, 36, 21]),
+    ("union", &[0, 39, 3, 37, 35, 36, 21]),
     ("combined, accepted by both", &[0]),
     ("combined, accepted by one", &[0]),
     ("the first map chosen", &[0]),
@@ -218,7 +218,7 @@ fn generated(r: &mut Random, most: usize) -> Table {
 
 /// Two tables with one list of symbols, mostly, for a combination at limits.
 fn to_combine(r: &mut Random, l: Limits) -> [Table; 2] {
-    if r.chance(4) {
+    if r.chance(10) {
         // as many records as two small tables can have, so that a kind may have too many
         let [internals, calls, returns] = [[1, 1, 1 + r.below(40)], [20 + r.below(20), 10, 5]][r.below(2)];
         return [0; 2].map(|_| {
