@@ -101,8 +101,9 @@ enum basilvault_refusal {
     BASILVAULT_REFUSED_LINES = 32,         /* use lines whose length is not a multiple of 5, or over 65,536 lines */
     BASILVAULT_REFUSED_LINE_STATE = 33,    /* a use line with a state past the count */
     BASILVAULT_REFUSED_LENGTHS = 34,       /* no table, more than 8, or lengths that do not add up to the buffer */
-    BASILVAULT_REFUSED_LOAD = 35,          /* a load whose state count, symbol counts added up, or density is outside its limits */
-    BASILVAULT_REFUSED_LOAD_RECORDS = 36,  /* a load with more records of a kind than a file permits */
+    BASILVAULT_REFUSED_LOAD = 35,          /* a load whose state count, symbol counts added up, or density is outside its limits, or more states than
+                                              permitted in two tables combined */
+    BASILVAULT_REFUSED_LOAD_RECORDS = 36,  /* a load, or two tables combined, with more records of a kind than a file permits */
     BASILVAULT_REFUSED_SYMBOLS = 37,       /* two tables whose symbols differ */
     BASILVAULT_REFUSED_CHOICE = 38,        /* a second table with a choice */
     BASILVAULT_REFUSED_LIMITS = 39,        /* a limit of zero, or past its maximum */
@@ -160,6 +161,12 @@ uint32_t basilvault_records(const uint8_t *table, size_t table_len, const uint8_
 /* One value: 1 where the second table accepts every word of the first, 0 where it does not. Both are read at 24 states and 32 symbols. */
 uint32_t basilvault_fit(const uint8_t *first, size_t first_len, const uint8_t *second, size_t second_len, uint64_t *values, size_t values_len);
 
+/* One value: the length of the table of the words that both tables accept, or of those that one of them accepts, which is written to `out`. */
+uint32_t basilvault_intersection(const uint8_t *first, size_t first_len, const uint8_t *second, size_t second_len, uint8_t *out, size_t out_len,
+                                 uint64_t *values, size_t values_len);
+uint32_t basilvault_union(const uint8_t *first, size_t first_len, const uint8_t *second, size_t second_len, uint8_t *out, size_t out_len,
+                          uint64_t *values, size_t values_len);
+
 /* 64 values: for each of 8 tables its refusal's number or 0, classes, guesses, clause words, quotient length, joined pairs, their ceiling, and 1 where
  * its guesses were spent, else 0; zeros past the count. The tables stand back to back and `lengths` has `count` lengths, 1 to 8, that add up to
  * `tables_len`. Maps and reduced tables are written back to back; a refused table writes none, and the rest go on. */
@@ -189,6 +196,10 @@ uint32_t basilvault_script_within(size_t states, size_t symbols, const uint8_t *
                                   size_t script_len, uint64_t *values, size_t values_len);
 uint32_t basilvault_generate_within(size_t state_limit, size_t symbol_limit, uint32_t seed, size_t states, size_t internals, size_t calls,
                                     size_t returns, uint32_t density, uint8_t *out, size_t out_len, uint64_t *values, size_t values_len);
+uint32_t basilvault_intersection_within(size_t states, size_t symbols, const uint8_t *first, size_t first_len, const uint8_t *second,
+                                        size_t second_len, uint8_t *out, size_t out_len, uint64_t *values, size_t values_len);
+uint32_t basilvault_union_within(size_t states, size_t symbols, const uint8_t *first, size_t first_len, const uint8_t *second,
+                                 size_t second_len, uint8_t *out, size_t out_len, uint64_t *values, size_t values_len);
 uint32_t basilvault_season_within(size_t states, size_t symbols, const uint8_t *tables, size_t tables_len, const uint64_t *lengths,
                                   size_t count, uint64_t guesses, uint16_t *list, size_t list_len, uint8_t *maps, size_t maps_len, uint8_t *out,
                                   size_t out_len, uint64_t *values, size_t values_len);

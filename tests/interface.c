@@ -51,6 +51,8 @@ OPERATION(script_within, STATES, SYMBOLS, w->table, w->length, w->script, SCRIPT
 OPERATION(records_within, STATES, SYMBOLS, w->table, w->length, w->map, w->states, w->out, sizeof w->out)
 OPERATION(generate_within, STATES, SYMBOLS, 1, 12, 2, 2, 2, 9000, w->out, sizeof w->out)
 OPERATION(fit, w->table, w->length, w->table, w->length)
+OPERATION(intersection_within, STATES, SYMBOLS, w->table, w->length, w->table, w->length, w->out, sizeof w->out)
+OPERATION(union_within, STATES, SYMBOLS, w->table, w->length, w->table, w->length, w->out, sizeof w->out)
 
 static void *do_season_within(void *p) {
     struct work *w = p;
@@ -68,6 +70,7 @@ static const struct {
     {"read", do_read_within},   {"tops", do_tops_within},       {"clauses", do_clauses_within},   {"search", do_search_within}, {"reduce", do_reduce_within},
     {"check", do_check_within}, {"quotient", do_quotient_within}, {"uses", do_uses_within},       {"choose", do_choose_within}, {"script", do_script_within},
     {"records", do_records_within}, {"generate", do_generate_within}, {"fit", do_fit},            {"season", do_season_within},
+    {"intersection", do_intersection_within}, {"union", do_union_within},
 };
 enum { OPERATIONS = sizeof operations / sizeof *operations };
 

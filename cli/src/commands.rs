@@ -3,6 +3,7 @@
 mod check;
 mod choose;
 mod clauses;
+mod combine;
 mod compare;
 mod completions;
 mod draw;
@@ -43,6 +44,7 @@ const COMMANDS: &[&Command] = &[
     &generate::COMMAND,
     &fit::COMMAND,
     &compare::COMMAND,
+    &combine::COMMAND,
     &choose::COMMAND,
     &propose::COMMAND,
     &make::COMMAND,

@@ -1,4 +1,4 @@
-//! Two tables that are compared: their symbols matched by name where both have names, else by place.
+//! Two tables that are compared or combined: their symbols matched by name where both have names, else by place.
 
 use crate::counterexample::{self, Found};
 use crate::arguments::{Call, NAMES};
@@ -29,11 +29,15 @@ pub enum Fit {
 impl Compared {
     /// The tables that a call names, read at the limits of the comparison.
     pub fn of(call: &Call) -> Result<Compared, Failure> {
-        let limits = Limits::STANDARD;
+        Compared::within(Limits::STANDARD, call).map_err(smaller)
+    }
+
+    /// The tables that a call names, read at limits.
+    pub fn within(limits: Limits, call: &Call) -> Result<Compared, Failure> {
         let [first, second] = [0, 1].map(|place| Input::of(limits, call.file(place)));
         let (first, second) = (first?, second?);
-        let (table, names) = first.named_symbols(limits, call).map_err(smaller)?;
-        let mut other = Table::from_bytes(limits, &second.bytes).map_err(|refusal| smaller(second.refused(refusal)))?;
+        let (table, names) = first.named_symbols(limits, call)?;
+        let mut other = Table::from_bytes(limits, &second.bytes).map_err(|refusal| second.refused(refusal))?;
         let named = [first.own_names().is_some() || call.has(NAMES.name), second.own_names().is_some()];
         match (named, second.own_names()) {
             ([true, true], Some(others)) => other = renumbered((&first, &table, &names), (&second, &other, others))?,

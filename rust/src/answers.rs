@@ -238,6 +238,15 @@ impl Values<4> for Recorded {
     }
 }
 
+/// How two tables are combined.
+#[derive(Clone, Copy, Debug, PartialEq, Eq, Hash)]
+pub enum How {
+    /// The words that both accept. States are pairs: state p of the first and q of the second's m are p times m plus q.
+    Intersection,
+    /// The words that one of them accepts. States are the first's, then the second's.
+    Union,
+}
+
 /// What a random table is asked to be.
 #[derive(Clone, Copy, Debug, PartialEq, Eq, Hash)]
 pub struct Load {

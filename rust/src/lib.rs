@@ -49,7 +49,7 @@ pub mod raw;
 mod refusal;
 mod table;
 
-pub use answers::{Counts, Listed, Load, Recorded, Reduced, Starts, Tops, Uses};
+pub use answers::{Counts, How, Listed, Load, Recorded, Reduced, Starts, Tops, Uses};
 pub use limits::*;
 pub use operations::*;
 pub use refusal::{NoRefusal, Refusal};

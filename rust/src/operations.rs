@@ -2,7 +2,7 @@
 //! all that the functions of [`raw`](crate::raw) ask for.
 
 use crate::raw::{self, Values};
-use crate::{Limits, Listed, Load, Recorded, Reduced, Refusal, Result, Starts, Tops, Uses};
+use crate::{How, Limits, Listed, Load, Recorded, Reduced, Refusal, Result, Starts, Tops, Uses};
 
 /// The answer of a call that is lent room for its values and gives the refusal's number or 0.
 fn answer<A: Values<K>, const K: usize>(call: impl FnOnce(*mut u64, usize) -> u32) -> Result<A> {
@@ -297,6 +297,39 @@ pub fn generate_within(limits: Limits, load: Load, out: &mut [u8]) -> Result<usi
 /// ```
 pub fn fit(first: &[u8], second: &[u8]) -> Result<bool> {
     call!(basilvault_fit(first.as_ptr(), first.len(), second.as_ptr(), second.len()))
+}
+
+/// Combines two tables with equal symbols into one: its length.
+///
+/// ```
+/// use basilvault::{EXAMPLE, How, LONGEST_FILE};
+///
+/// let mut out = [0; LONGEST_FILE];
+/// let length = basilvault::combine(&EXAMPLE, &EXAMPLE, How::Intersection, &mut out)?;
+/// assert_eq!(basilvault::script(&out[..length], &[1, 0, 0, 2]), Ok(true));
+/// assert_eq!(basilvault::read(&out[..length])?.counts(length).states, 16);
+/// # Ok::<(), basilvault::Refusal>(())
+/// ```
+pub fn combine(first: &[u8], second: &[u8], how: How, out: &mut [u8]) -> Result<usize> {
+    match how {
+        How::Intersection => {
+            call!(basilvault_intersection(first.as_ptr(), first.len(), second.as_ptr(), second.len(), out.as_mut_ptr(), out.len()))
+        }
+        How::Union => call!(basilvault_union(first.as_ptr(), first.len(), second.as_ptr(), second.len(), out.as_mut_ptr(), out.len())),
+    }
+}
+
+/// [`combine`] at limits.
+pub fn combine_within(limits: Limits, first: &[u8], second: &[u8], how: How, out: &mut [u8]) -> Result<usize> {
+    let Limits { states, symbols } = limits;
+    match how {
+        How::Intersection => call!(basilvault_intersection_within(
+            states, symbols, first.as_ptr(), first.len(), second.as_ptr(), second.len(), out.as_mut_ptr(), out.len(),
+        )),
+        How::Union => {
+            call!(basilvault_union_within(states, symbols, first.as_ptr(), first.len(), second.as_ptr(), second.len(), out.as_mut_ptr(), out.len()))
+        }
+    }
 }
 
 /// The answers of so many tables, of which each has a row: its number or 0, and what a reduction answers.

@@ -31,6 +31,12 @@ unsafe extern "C" {
         table: *const u8, table_len: usize, map: *const u8, map_len: usize, out: *mut u8, out_len: usize, values: *mut u64, values_len: usize,
     ) -> u32;
     pub fn basilvault_fit(first: *const u8, first_len: usize, second: *const u8, second_len: usize, values: *mut u64, values_len: usize) -> u32;
+    pub fn basilvault_intersection(
+        first: *const u8, first_len: usize, second: *const u8, second_len: usize, out: *mut u8, out_len: usize, values: *mut u64, values_len: usize,
+    ) -> u32;
+    pub fn basilvault_union(
+        first: *const u8, first_len: usize, second: *const u8, second_len: usize, out: *mut u8, out_len: usize, values: *mut u64, values_len: usize,
+    ) -> u32;
     pub fn basilvault_season(
         tables: *const u8, tables_len: usize, lengths: *const u64, count: usize, guesses: u64, list: *mut u16, list_len: usize, maps: *mut u8,
         maps_len: usize, out: *mut u8, out_len: usize, values: *mut u64, values_len: usize,
@@ -73,6 +79,14 @@ unsafe extern "C" {
     pub fn basilvault_generate_within(
         state_limit: usize, symbol_limit: usize, seed: u32, states: usize, internals: usize, calls: usize, returns: usize, density: u32, out: *mut u8,
         out_len: usize, values: *mut u64, values_len: usize,
+    ) -> u32;
+    pub fn basilvault_intersection_within(
+        states: usize, symbols: usize, first: *const u8, first_len: usize, second: *const u8, second_len: usize, out: *mut u8, out_len: usize,
+        values: *mut u64, values_len: usize,
+    ) -> u32;
+    pub fn basilvault_union_within(
+        states: usize, symbols: usize, first: *const u8, first_len: usize, second: *const u8, second_len: usize, out: *mut u8, out_len: usize,
+        values: *mut u64, values_len: usize,
     ) -> u32;
     pub fn basilvault_season_within(
         states: usize, symbols: usize, tables: *const u8, tables_len: usize, lengths: *const u64, count: usize, guesses: u64, list: *mut u16,

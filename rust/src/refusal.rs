@@ -76,8 +76,8 @@ refusals! {
     Lines = 32, "use lines whose length is not a multiple of 5, or over 65,536 lines";
     LineState = 33, "a use line with a state past the count";
     Season = 34, "a season of no table or more than 8, or lengths that do not add up to the buffer";
-    Load = 35, "a load whose state count, symbol counts added up, or density is outside its limits";
-    LoadRecords = 36, "a load with more records of a kind than a file permits";
+    Load = 35, "a load whose state count, symbol counts added up, or density is outside its limits, or more states than permitted in two tables combined";
+    LoadRecords = 36, "a load, or two tables combined, with more records of a kind than a file permits";
     Symbols = 37, "of two tables the symbols differ";
     Choice = 38, "the second of two tables has a choice: two initial states, or two records of one section that differ in their target alone";
     Limits = 39, "a limit of zero, or past its maximum";

@@ -1,6 +1,6 @@
 //! Tables that own their bytes, for callers with a heap: the buffers of each call are made inside, as long as it can need them.
 
-use crate::{Counts, Limits, Load, Recorded, Reduced, Result, Starts, Tops, Uses};
+use crate::{Counts, How, Limits, Load, Recorded, Reduced, Result, Starts, Tops, Uses};
 
 /// A table that was read, with the limits that it was read at. All its operations are at these limits, and none refuses the table itself.
 ///
@@ -120,6 +120,22 @@ impl Table {
     /// Whether another table accepts every script of this one; both have at most 24 states and 32 symbols.
     pub fn fits(&self, other: &Table) -> Result<bool> {
         crate::fit(&self.bytes, &other.bytes)
+    }
+
+    /// Combined with another table that has equal symbols, at the limits of this one.
+    ///
+    /// ```
+    /// use basilvault::{EXAMPLE, How, Table};
+    ///
+    /// let table = Table::read(EXAMPLE)?;
+    /// assert_eq!(table.combine(&table, How::Union)?.counts().states, 8);
+    /// # Ok::<(), basilvault::Refusal>(())
+    /// ```
+    pub fn combine(&self, other: &Table, how: How) -> Result<Table> {
+        let mut out = vec![0; self.limits.longest().min(crate::LONGEST_FILE)];
+        let length = crate::combine_within(self.limits, &self.bytes, &other.bytes, how, &mut out)?;
+        out.truncate(length);
+        Table::read_within(self.limits, out)
     }
 
     /// Checks a map, the class of each state: the class count.

@@ -2,6 +2,7 @@
 //! implementation's answer, and hands that answer back.
 
 use crate::reference::{self, Delivery, Limits, Load};
+use basilvault::How;
 use std::fmt::Write;
 
 /// What every buffer is filled with beforehand.
@@ -26,7 +27,7 @@ pub struct Cases {
     pub limits: Limits,
     pub input: Vec<u8>,
     pub output: String,
-    pub counts: [usize; 15],
+    pub counts: [usize; 17],
 }
 
 /// 16-bit little-endian numbers.
@@ -42,7 +43,7 @@ fn longs<T: Copy + Into<u64>>(values: &[T]) -> Vec<u64> {
 impl Cases {
     /// None yet, and the limits of a caller that gives none.
     pub fn new() -> Cases {
-        Cases { limits: reference::STANDARD, input: vec![], output: String::new(), counts: [0; 15] }
+        Cases { limits: reference::STANDARD, input: vec![], output: String::new(), counts: [0; 17] }
     }
 
     /// A case in the form that crates/cases/src/main.rt tells: its length, its numbers, the operation's name and three parts.
@@ -204,6 +205,19 @@ impl Cases {
         self.line("fit", answer.map(|yes| vec![u64::from(yes)]));
         self.end();
         answer
+    }
+
+    /// The written file of two tables combined.
+    pub fn combine(&mut self, first: &[u8], second: &[u8], how: How, room: usize) -> Result<Vec<u8>, u8> {
+        let (number, name) = if how == How::Union { (16, "union") } else { (15, "intersection") };
+        self.frame(number, name, Room { out: room, ..NONE }, [first, &[], second]);
+        let mut out = vec![FILL; room];
+        let answer = reference::combine(self.limits, first, second, how, &mut out);
+        assert!(answer.is_ok() || out.iter().all(|&x| x == FILL), "outputs keep their bytes");
+        self.line(name, answer.map(|length| vec![length as u64]));
+        self.buffer(&longs(&out));
+        self.end();
+        answer.map(|length| out[..length].to_vec())
     }
 
     /// The answers of the tables, and every buffer.

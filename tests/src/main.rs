@@ -2,7 +2,7 @@
 //! `basilvault-tests [CASES] [SEED]`
 
 use basilvault::raw::{self, Values};
-use basilvault::{Counts as TableCounts, Reduced, Refusal};
+use basilvault::{Counts as TableCounts, How, Reduced, Refusal};
 use basilvault_tests::flat;
 use basilvault_tests::random::{self, Random};
 use basilvault_tests::reference::{self, Configuration, Delivery, LARGEST, Limits, Load, STANDARD, Table};
@@ -20,7 +20,7 @@ impl Counts {
 }
 
 /// The numbers that each operation can give, 0 for none: a run of many cases must have met each of them.
-const NUMBERS: [(&str, &[u8]); 29] = [
+const NUMBERS: [(&str, &[u8]); 33] = [
     ("read", &[0, 39, 1, 2, 3, 4, 5, 6, 7, 8]),
     ("tops", &[0, 39, 2, 3, 5, 7, 8]),
     ("clauses", &[0, 39, 3, 5, 7, 8, 10]),
@@ -33,6 +33,10 @@ const NUMBERS: [(&str, &[u8]); 29] = [
     ("fit", &[0, 3, 7, 8, 37, 38]),
     ("fit: no", &[0]),
     ("fit: yes", &[0]),
+    ("intersection", &[0, 39, 3, 37, 35, 36, 21]),
+    ("union", &[0, 39, 3, 37, 35, 36, 21]),
+    ("combined, accepted by both", &[0]),
+    ("combined, accepted by one", &[0]),
     ("the first map chosen", &[0]),
     ("the second map chosen", &[0]),
     ("records", &[0, 39, 3, 7, 8, 15, 16, 17, 18, 19, 20, 21]),
@@ -210,6 +214,64 @@ fn generated(r: &mut Random, most: usize) -> Table {
     let mut out = vec![0; 22_644];
     let length = basilvault::generate_within(LARGEST, load, &mut out).expect("few records");
     reference::parse(LARGEST, &out[..length]).expect("a generated table is readable").0
+}
+
+/// Two tables with one list of symbols, mostly, for a combination at limits.
+fn to_combine(r: &mut Random, l: Limits) -> [Table; 2] {
+    if r.chance(10) {
+        // as many records as two small tables can have, so that a kind may have too many
+        let [internals, calls, returns] = [[1, 1, 1 + r.below(40)], [20 + r.below(20), 10, 5]][r.below(2)];
+        return [0; 2].map(|_| {
+            let load = Load { seed: r.next() as u32, states: 4 + r.below(3), internals, calls, returns, density: 30_000 };
+            let mut out = vec![0; 22_644];
+            let length = basilvault::generate_within(LARGEST, load, &mut out).expect("few records");
+            reference::parse(LARGEST, &out[..length]).expect("a generated table is readable").0
+        });
+    }
+    let most = if r.chance(50) { 6 } else { l.states.clamp(2, 9) };
+    let (first, second) = random::two_tables(r, most);
+    let marked = [r.chance(20), r.chance(20)];
+    let [first, second] = [(first, marked[0]), (second, marked[1])].map(|(t, m)| if m { random::marked(r, &t) } else { t });
+    [first, second]
+}
+
+fn compare_combine(r: &mut Random, l: Limits, c: &mut Counts) {
+    let [first, second] = to_combine(r, l);
+    let mut bytes = [first.bytes(), second.bytes()];
+    if r.chance(8) {
+        let i = r.below(2);
+        bytes[i] = random::damaged(r, &bytes[i]);
+    }
+    for (how, name) in [(How::Intersection, "intersection"), (How::Union, "union")] {
+        let expected = reference::combined(l, &bytes[0], &bytes[1], how);
+        let fresh = vec![0x44u8; around(r, expected.as_ref().map_or(9, |t| t.bytes().len()))];
+        let mut theirs = fresh.clone();
+        let e = reference::combine(l, &bytes[0], &bytes[1], how, &mut theirs).map(|k| [k as u64]);
+        for &within in ways(l) {
+            let mut ours = fresh.clone();
+            let a = flat(if within { basilvault::combine_within(l, &bytes[0], &bytes[1], how, &mut ours) } else { basilvault::combine(&bytes[0], &bytes[1], how, &mut ours) });
+            same(name, &bytes.concat(), (a, &ours), (e, &theirs));
+        }
+        c.add(name, e);
+        if let Ok(table) = expected {
+            compare_combined(r, l, &bytes, &table, how, c);
+        }
+    }
+}
+
+/// Random words on two tables and on their combination.
+fn compare_combined(r: &mut Random, l: Limits, bytes: &[Vec<u8>; 2], table: &Table, how: How, c: &mut Counts) {
+    let [s, t] = [0, 1].map(|i| reference::parse(l, &bytes[i]).unwrap().0);
+    for _ in 0..20 {
+        let n = r.below(8);
+        let word: Vec<u8> = (0..n).filter(|_| !s.symbols.is_empty()).map(|_| r.below(s.symbols.len()) as u8).collect();
+        let [first, second, both] = [&s, &t, table].map(|t| reference::accepts(t, &word));
+        let wanted = if how == How::Union { first || second } else { first && second };
+        assert!(both == wanted, "{word:?} on {s:?} and {t:?}, {how:?}");
+        if both {
+            c.add(if first && second { "combined, accepted by both" } else { "combined, accepted by one" }, Ok(()));
+        }
+    }
 }
 
 fn compare_script(r: &mut Random, l: Limits, t: &Table, b: &[u8], c: &mut Counts) {
@@ -658,6 +720,7 @@ fn main() {
             4 => compare_reduce(&mut r, l, &b, &mut c),
             _ => {
                 compare_fit(&mut r, &mut c);
+                compare_combine(&mut r, l, &mut c);
                 let n = 1 + r.below(6);
                 let small = match r.below(3) {
                     0 => random::table(&mut r, n, false),

@@ -3,6 +3,7 @@
 mod check;
 mod choose;
 mod clauses;
+mod combine;
 mod fit;
 mod generate;
 mod quotient;
@@ -18,6 +19,7 @@ mod uses;
 pub use check::*;
 pub use choose::*;
 pub use clauses::*;
+pub use combine::*;
 pub use fit::*;
 pub use generate::*;
 pub use quotient::*;

@@ -18,8 +18,11 @@ ghost use Rattle.script_spec.specs.Script.{scriptOf};
 ghost use Rattle.records_spec.specs.Fates.{recordsOf};
 ghost use Rattle.fit_spec.specs.Fit.{fitOf};
 ghost use Rattle.season_spec.specs.Seasons.{seasonOf};
+ghost use Rattle.combine_spec.specs.Combine.{combineOf};
+ghost use Rattle.combine_spec.specs.declared.How.the-variants.{Intersection, Union};
 ghost use Rattle.capi.specs.Answers.{readOut, topsOut, clausesOut, searchOut, checkOut, quotientOut, reduceOut, usesOut, chooseOut, scriptOut, recordsOut, fitOut, seasonOut};
 use choose_spec::Which;
+use combine_spec::How;
 use limits::Limits;
 use table_spec::Reading;
 
@@ -493,6 +496,74 @@ pub extern "C" fn basilvault_fit(first: &[u8], second: &[u8], values: &mut [u64]
 {
     let fitting = fit::fit(first, second);
     capi_answers::say_fitting(fitting, values)
+}
+
+// Writes the table of the words that both tables accept. One value: its length.
+#[no_mangle]
+pub extern "C" fn basilvault_intersection_within(
+    states: usize,
+    symbols: usize,
+    first: &[u8],
+    second: &[u8],
+    out: &mut [u8],
+    values: &mut [u64],
+) -> u32
+    ensures answers { λ r. ⌜
+        record { number = r; buffers = now (out .exit) ∷ []; values = now (values .exit) }
+        ≡ quotientOut (now (values .entry)) (combineOf (record { states = states; symbols = symbols }) Intersection (now (first .entry)) (now (second .entry)) (now (out .entry))) ⌝ }
+{
+    let limits = Limits { states, symbols };
+    let written = combine::combine_within(limits, first, second, How::Intersection, out);
+    capi_answers::say_written(written, values)
+}
+
+// The same at the limits of a caller that gives none.
+#[no_mangle]
+pub extern "C" fn basilvault_intersection(
+    first: &[u8],
+    second: &[u8],
+    out: &mut [u8],
+    values: &mut [u64],
+) -> u32
+    ensures answers { λ r. ⌜
+        record { number = r; buffers = now (out .exit) ∷ []; values = now (values .exit) }
+        ≡ quotientOut (now (values .entry)) (combineOf standard Intersection (now (first .entry)) (now (second .entry)) (now (out .entry))) ⌝ }
+{
+    basilvault_intersection_within(limits::STATES, limits::SYMBOLS, first, second, out, values)
+}
+
+// Writes the table of the words that one of two tables accepts. One value: its length.
+#[no_mangle]
+pub extern "C" fn basilvault_union_within(
+    states: usize,
+    symbols: usize,
+    first: &[u8],
+    second: &[u8],
+    out: &mut [u8],
+    values: &mut [u64],
+) -> u32
+    ensures answers { λ r. ⌜
+        record { number = r; buffers = now (out .exit) ∷ []; values = now (values .exit) }
+        ≡ quotientOut (now (values .entry)) (combineOf (record { states = states; symbols = symbols }) Union (now (first .entry)) (now (second .entry)) (now (out .entry))) ⌝ }
+{
+    let limits = Limits { states, symbols };
+    let written = combine::combine_within(limits, first, second, How::Union, out);
+    capi_answers::say_written(written, values)
+}
+
+// The same at the limits of a caller that gives none.
+#[no_mangle]
+pub extern "C" fn basilvault_union(
+    first: &[u8],
+    second: &[u8],
+    out: &mut [u8],
+    values: &mut [u64],
+) -> u32
+    ensures answers { λ r. ⌜
+        record { number = r; buffers = now (out .exit) ∷ []; values = now (values .exit) }
+        ≡ quotientOut (now (values .entry)) (combineOf standard Union (now (first .entry)) (now (second .entry)) (now (out .entry))) ⌝ }
+{
+    basilvault_union_within(limits::STATES, limits::SYMBOLS, first, second, out, values)
 }
 
 // Reduces up to 8 tables back to back with shared guesses. 64 values: for each of 8 tables its refusal's number or 0, classes, guesses, words,

@@ -18,6 +18,8 @@
 //   12 generate the seed of 32 bits, states, internals, calls, returns, the density of 32 bits; nothing; nothing
 //   13 fit      the first table; nothing; the second
 //   14 choose   the first map; the second; the table
+//   15 intersection  the first table; nothing; the second
+//   16 union    the first table; nothing; the second
 //
 // A line is the name, the refusal's number or 0, the answer's values and, each after a bar, the buffers at exit, which are filled with 7
 // beforehand. Choose prints which map it is, 1 or 2, or 0 with a refusal, and after the bar the map that is handed back.
@@ -28,6 +30,7 @@ ghost use Rattle.lists.specs.Lists.{over};
 ghost use Rattle.cases.specs.Numbers.{wordAt, doubleAt, longAt, wordsIn, longsIn};
 use bits::long;
 use choose_spec::Which;
+use combine_spec::How;
 use libc::STDIN_FILENO;
 use libc::STDOUT_FILENO;
 use limits::Limits;
@@ -323,6 +326,17 @@ fn say_fit(first: &[u8], second: &[u8]) {
     say_answer(refused, &values);
 }
 
+// The length of two tables combined, and the output.
+fn say_combine(limits: Limits, first: &[u8], second: &[u8], how: How, case: &[u8]) {
+    let mut space = [7u8; 4096];
+    let out = bytes_of(&mut space, case, 10);
+    let mut values = [0u64; 1];
+    let written = combine::combine_within(limits, first, second, how, out);
+    let refused = capi_answers::say_written(written, &mut values);
+    say_answer(refused, &values);
+    say_bytes(out);
+}
+
 // Which map it is, 1 or 2, or 0 with a refusal, and the map that is handed back.
 fn say_choose<'a>(limits: Limits, first: &'a [u8], second: &'a [u8], table: &[u8]) {
     number(choose::choose_number_within(limits, table, first, second) as u64);
@@ -358,6 +372,8 @@ fn say_operation<'a>(case: &'a [u8], first: &'a [u8], second: &'a [u8], third: &
         12 => say_generate(limits, first, case),
         13 => say_fit(first, third),
         14 => say_choose(limits, first, second, third),
+        15 => say_combine(limits, first, third, How::Intersection, case),
+        16 => say_combine(limits, first, third, How::Union, case),
         _ => {}
     }
 }

@@ -44,17 +44,17 @@ bit-small true = omega arith
 bit-small false = omega arith
 
 -- a class's byte, of two bits and a mark
-abbrev byteWith : Bool → Bool → ℕ → ℕ
+abbrev pub byteWith : Bool → Bool → ℕ → ℕ
 byteWith a b k = bitOf a + 2 * bitOf b + 4 * k
 
-low-bit : (a b : Bool) (k : ℕ) → byteWith a b k % 2 ≡ 1 ↔ a ≡ true
+pub low-bit : (a b : Bool) (k : ℕ) → byteWith a b k % 2 ≡ 1 ↔ a ≡ true
 unfolding bitOf
 low-bit true true k = (λ e. refl, λ e. omega arith)
 low-bit true false k = (λ e. refl, λ e. omega arith)
 low-bit false true k = (λ e. absurd (omega arith), λ e. absurd (true≢false (sym e)))
 low-bit false false k = (λ e. absurd (omega arith), λ e. absurd (true≢false (sym e)))
 
-high-bit : (a b : Bool) (k : ℕ) → byteWith a b k / 2 % 2 ≡ 1 ↔ b ≡ true
+pub high-bit : (a b : Bool) (k : ℕ) → byteWith a b k / 2 % 2 ≡ 1 ↔ b ≡ true
 unfolding bitOf
 high-bit true true k = (λ e. refl, λ e. omega arith)
 high-bit false true k = (λ e. refl, λ e. omega arith)

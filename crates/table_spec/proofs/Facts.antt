@@ -128,7 +128,7 @@ four-bytes (x ∷ y ∷ z ∷ u ∷ v ∷ r) e = absurd (omega arith)
 -- ---- the targets of a key
 
 -- a record that starts with the key is the key and its target
-key-split : (r key : List ℕ) → length r ≡ suc (length key) → key ≡ take (length key) r → r ≡ key ++ (getD r (length key) 0 ∷ [])
+pub key-split : (r key : List ℕ) → length r ≡ suc (length key) → key ≡ take (length key) r → r ≡ key ++ (getD r (length key) 0 ∷ [])
 key-split r key e p =
     sym (take-all (suc (length key)) r (omega arith))
     ∙ take-suc r (length key) 0 (omega arith)

@@ -22,7 +22,7 @@ module _ {S T : Type 0} (A : Automaton S) (m : S → T) where
   abbrev pub image : Configuration S → Configuration T
   image c = m (c .state) at map m (c .stack)
 
-  image-path : {c : Configuration S} {C : Configuration T} → Corresponds A m c C → image c ≡ C
+  pub image-path : {c : Configuration S} {C : Configuration T} → Corresponds A m c C → image c ≡ C
   image-path {c} {C} h =
       let stacks : map m (c .stack) ≡ C .stack = h .stacks in
       λ i. record { state = h .states i; stack = stacks i }
@@ -35,11 +35,11 @@ module _ {S T : Type 0} (A : Automaton S) (m : S → T) where
   steps-image (at-end h) = λ i. image-path h i ∷ []
   steps-image (at-step h k) = λ i. image-path h i ∷ steps-image k i
 
-  image-corresponds : (c : Configuration S) → Corresponds A m c (image c)
+  pub image-corresponds : (c : Configuration S) → Corresponds A m c (image c)
   image-corresponds c = record { states = refl; stacks = refl }
 
   -- a stack and its image are empty together
-  empty-exact : (σ : List S) (ξ : List T) → map m σ ≡ ξ → σ ≡ [] ↔ ξ ≡ []
+  pub empty-exact : (σ : List S) (ξ : List T) → map m σ ≡ ξ → σ ≡ [] ↔ ξ ≡ []
   empty-exact [] ξ e = (λ f. sym e, λ f. refl)
   empty-exact (s ∷ σ) ξ e = (λ f. let z : _≡_ {A = ℕ} 0 1 = cc in absurd (omega arith), λ f. let z : _≡_ {A = ℕ} 0 1 = cc in absurd (omega arith))
 

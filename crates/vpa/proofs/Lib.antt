@@ -4,3 +4,6 @@ pub mod Simulation
 pub mod Equal
 pub mod Relations
 pub mod Correspondence
+pub mod Homomorphism
+pub mod Product
+pub mod Sum

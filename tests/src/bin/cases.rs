@@ -1,6 +1,7 @@
 //! Writes the cases that the program `cases` is run on and the output that it must give: `cases ROOT` writes crates/cases/stdin and
 //! crates/cases/stdout below ROOT. The answers are the plain implementation's. What document 01 says of a named case is asserted.
 
+use basilvault::How;
 use basilvault_tests::frames::{Cases, Room};
 use basilvault_tests::named::{faults, fewer_pairs, joined_stack_symbols, longest, more_classes, more_faults, named_located, not_transitive, one_undone, one_way, pigeons};
 use basilvault_tests::named::{self, silent, t, t_with_call, t_with_return, two_undone, unreachable_stack};
@@ -801,6 +802,39 @@ fn going(c: &mut Cases, r: &mut Random) {
     }
 }
 
+/// Combinations: a table with itself, the refusals in their order, pseudo-random ones.
+fn combining(c: &mut Cases, r: &mut Random) {
+    let b = t().bytes();
+    for (how, length, states) in [(How::Intersection, 65, 16), (How::Union, 55, 8)] {
+        assert_eq!(c.combine(&b, &b, how, length + 3).map(|x| x.len()), Ok(length));
+        assert_eq!(c.combine(&b, &b, how, length - 1), Err(21));
+        for (f, k) in faults().iter().zip(1..) {
+            assert_eq!(c.combine(f, &faults()[0], how, 0), Err(k));
+            assert_eq!(c.combine(&b, f, how, 0), Err(k));
+        }
+        let mut other = t();
+        other.symbols.push(0);
+        assert_eq!(c.combine(&b, &other.bytes(), how, 0), Err(37));
+        c.limits = Limits { states: states - 1, symbols: 64 };
+        assert_eq!(c.combine(&b, &b, how, 0), Err(35));
+        c.limits = Limits { states, symbols: 64 };
+        assert_eq!(c.combine(&b, &b, how, length).map(|x| x.len()), Ok(length));
+        c.limits = Limits { states: 41, symbols: 64 };
+        assert_eq!(c.combine(&b, &b, how, 0), Err(39));
+        c.limits = STANDARD;
+        for _ in 0..20 {
+            let (first, second) = random::two_tables(r, 4);
+            c.combine(&first.bytes(), &second.bytes(), how, 900).ok();
+        }
+    }
+    // one symbol that goes from everywhere to everywhere: 36 before 21
+    let load = Load { seed: 1, states: 6, internals: 0, calls: 0, returns: 1, density: 65_536 };
+    let all = reference::generated(STANDARD, load).unwrap().bytes();
+    c.limits = Limits { states: 36, symbols: 64 };
+    assert_eq!(c.combine(&all, &all, How::Intersection, 0), Err(36));
+    c.limits = STANDARD;
+}
+
 /// Comparisons: a table with itself and with its quotient, the sink that no return leaves, the refusals in their order, pseudo-random ones.
 fn fitting(c: &mut Cases, r: &mut Random) {
     let b = t().bytes();
@@ -947,6 +981,7 @@ fn main() {
     scripts(&mut c, &mut r);
     generating(&mut c, &mut r);
     seasons(&mut c, &mut r);
+    combining(&mut c, &mut r);
     println!("cases of the operations by number: {:?}; {} bytes", &c.counts[1..], c.input.len() + c.output.len());
     std::fs::write(format!("{root}/crates/cases/stdin"), &c.input).unwrap();
     std::fs::write(format!("{root}/crates/cases/stdout"), &c.output).unwrap();

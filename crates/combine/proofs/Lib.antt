@@ -1,0 +1,3 @@
+pub mod StateBytes
+pub mod Combining
+pub mod Answers

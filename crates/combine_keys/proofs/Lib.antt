@@ -1,0 +1,5 @@
+pub mod Adding
+pub mod Sections
+pub mod Sums
+pub mod Walks
+pub mod Products
