@@ -14,7 +14,7 @@ use Rattle.combine_keys.proofs.pairs.add_over.Statement.{statement}
 use Rattle.combine_keys.proofs.pairs.add_over.Tie as tie
 
 abbrev Inv-pushed : tie.InvT-pushed
-Inv-pushed first second states pairs pair symbol keys₀ count p q by held₀ pushed₀ keys held pushed = 
+Inv-pushed first second states pairs pair symbol keys₀ count p q by held₀ pushed₀ keys held pushed =
     Adding (λ y. map (keyFrom ((pair * 256 + symbol) * 256 + y)) (walk states (records 4 first) (records 4 second) [] (pair ∷ symbol ∷ y ∷ []))) (upto pairs) keys₀ count keys held pushed
 
 abbrev μ-pushed : tie.MeasureT-pushed
