@@ -11,9 +11,11 @@
 //!   basilvault-bench worst-tables           seconds of the operations on their worst inputs, and how they grow
 //!   basilvault-bench worst                  seconds of the search on its worst lists
 //!   basilvault-bench load                   tables a second of a load from the library's generator
+//!   basilvault-bench combine                microseconds of two tables combined
 //!   basilvault-bench seeds                  how the inputs' seeds were found
 
 mod before;
+mod combine;
 mod compare;
 mod figure;
 mod growth;
@@ -46,6 +48,7 @@ fn main() {
         ["worst-tables"] => worst_tables::print(),
         ["worst"] => worst::print(),
         ["load"] => load::print(),
+        ["combine"] => combine::print(),
         ["seeds"] => inputs::find(),
         _ => panic!("unknown arguments: {arguments:?}"),
     }
