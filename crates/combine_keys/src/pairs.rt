@@ -103,7 +103,16 @@ fn add_returns(
     if other.len() == 0 {
         return count;
     }
-    add_over(own, other, states, firsts * states, pair, symbol, keys, count)
+    add_over(
+        own,
+        other,
+        states,
+        firsts * states,
+        pair,
+        symbol,
+        keys,
+        count,
+    )
 }
 
 // The records of a pair by a symbol; nothing is added once there is no room.
@@ -129,9 +138,31 @@ fn add_symbol(
         return count;
     }
     if width == 3 {
-        return add_moves(first, second, one, two, firsts, states, pair, symbol, keys, count);
+        return add_moves(
+            first,
+            second,
+            one,
+            two,
+            firsts,
+            states,
+            pair,
+            symbol,
+            keys,
+            count,
+        );
     }
-    add_returns(first, second, one, two, firsts, states, pair, symbol, keys, count)
+    add_returns(
+        first,
+        second,
+        one,
+        two,
+        firsts,
+        states,
+        pair,
+        symbol,
+        keys,
+        count,
+    )
 }
 
 // The records of a pair.
@@ -156,7 +187,19 @@ fn add_pair(
     let mut held = count;
     let mut symbol: usize = 0;
     'symbols: while symbol < symbols {
-        held = add_symbol(width, first, second, one, two, firsts, states, pair, symbol, keys, held);
+        held = add_symbol(
+            width,
+            first,
+            second,
+            one,
+            two,
+            firsts,
+            states,
+            pair,
+            symbol,
+            keys,
+            held,
+        );
         symbol += 1;
     }
     held
@@ -183,7 +226,19 @@ pub fn product(
     let mut held: usize = 0;
     let mut pair: usize = 0;
     'pairs: while pair < firsts * states {
-        held = add_pair(width, first, second, &one, &two, firsts, states, symbols, pair, keys, held);
+        held = add_pair(
+            width,
+            first,
+            second,
+            &one,
+            &two,
+            firsts,
+            states,
+            symbols,
+            pair,
+            keys,
+            held,
+        );
         pair += 1;
     }
     held

@@ -1,7 +1,6 @@
 -- `combine_keys::pairs::add_over` meets its contract: the returns over the pairs so far are added. Assumes nothing.
 use Prim.Native.Nat.{_+_, _*_, _-_}
 use native.Mathlib.Omega.{arith}
-use mathlib.Core.Path.{ap, _∙_}
 use mathlib.Core.List.{[], _∷_, map}
 use Rattle.lists.specs.Lists.{upto}
 use Rattle.table_spec.specs.File.{records}
@@ -14,7 +13,7 @@ use Rattle.combine_keys.proofs.pairs.add_over.Statement.{statement}
 use Rattle.combine_keys.proofs.pairs.add_over.Tie as tie
 
 abbrev Inv-pushed : tie.InvT-pushed
-Inv-pushed first second states pairs pair symbol keys₀ count p q by held₀ pushed₀ keys held pushed = 
+Inv-pushed first second states pairs pair symbol keys₀ count p q by held₀ pushed₀ keys held pushed =
     Adding (λ y. map (keyFrom ((pair * 256 + symbol) * 256 + y)) (walk states (records 4 first) (records 4 second) [] (pair ∷ symbol ∷ y ∷ []))) (upto pairs) keys₀ count keys held pushed
 
 abbrev μ-pushed : tie.MeasureT-pushed

@@ -15,7 +15,7 @@ use Rattle.combine_keys.proofs.pairs.add_pair.Statement.{statement}
 use Rattle.combine_keys.proofs.pairs.add_pair.Tie as tie
 
 abbrev Inv-symbols : tie.InvT-symbols
-Inv-symbols width first second one two firsts states symbols pair keys₀ count held₀ symbol₀ keys held symbol = 
+Inv-symbols width first second one two firsts states symbols pair keys₀ count held₀ symbol₀ keys held symbol =
     Adding (λ a. map (keyFrom (pair * 256 + a)) (walk states (records width first) (records width second) (stackBounds width (firsts * states)) (pair ∷ a ∷ []))) (upto symbols) keys₀ count keys held symbol
 
 abbrev μ-symbols : tie.MeasureT-symbols

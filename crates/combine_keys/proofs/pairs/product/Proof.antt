@@ -1,5 +1,5 @@
 -- `combine_keys::pairs::product` meets its contract: the records of the pairs so far are added. Assumes nothing.
-use Prim.Native.Nat.{_+_, _*_, _-_}
+use Prim.Native.Nat.{_*_, _-_}
 use native.Mathlib.Omega.{arith}
 use mathlib.Core.Path.{refl}
 use mathlib.Core.List.{[], _∷_, map}
@@ -15,7 +15,7 @@ use Rattle.combine_keys.proofs.pairs.product.Statement.{statement}
 use Rattle.combine_keys.proofs.pairs.product.Tie as tie
 
 abbrev Inv-pairs : tie.InvT-pairs
-Inv-pairs width firsts states symbols first second keys₀ one two held₀ pair₀ keys held pair = 
+Inv-pairs width firsts states symbols first second keys₀ one two held₀ pair₀ keys held pair =
     Adding (λ x. map (keyFrom x) (walk states (records width first) (records width second) (symbols ∷ stackBounds width (firsts * states)) (x ∷ []))) (upto (firsts * states)) keys₀ 0 keys held pair
 
 abbrev μ-pairs : tie.MeasureT-pairs
