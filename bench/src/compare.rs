@@ -1,5 +1,6 @@
 //! Library and plain Rust on random tables, damaged ones, lists and maps, with buffers of any length: the same answers and the same bytes.
 
+use basilvault::How;
 use basilvault_bench::plain;
 use basilvault_tests::flat;
 use basilvault_tests::random::{self, Random};
@@ -83,6 +84,14 @@ fn compare_pair(r: &mut Random) {
         bytes[i] = random::damaged(r, &bytes[i]);
     }
     assert_eq!(flat(basilvault::fit(&bytes[0], &bytes[1])), plain::fit(&bytes[0], &bytes[1]), "{bytes:02x?}");
+    for how in [How::Intersection, How::Union] {
+        let need = basilvault::combine_within(LARGEST, &bytes[0], &bytes[1], how, &mut vec![0; 22_644]).unwrap_or(9);
+        let mut ours = vec![7; around(r, need)];
+        let mut theirs = ours.clone();
+        let answer = flat(basilvault::combine_within(LARGEST, &bytes[0], &bytes[1], how, &mut ours));
+        assert_eq!(answer, plain::combine(LARGEST, &bytes[0], &bytes[1], how, &mut theirs), "{how:?} {bytes:02x?}");
+        assert!(ours == theirs, "{how:?} {bytes:02x?}");
+    }
 }
 
 /// So many cases; stops the program at the first difference.

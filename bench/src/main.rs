@@ -12,10 +12,12 @@
 //!   basilvault-bench worst                  seconds of the search on its worst lists
 //!   basilvault-bench load                   tables a second of a load from the library's generator
 //!   basilvault-bench source FILE            the source's own experiments on random automata: pairs joined, and states left by density as a figure in the file
+//!   basilvault-bench combine                microseconds of two tables combined
 //!   basilvault-bench seeds                  how the inputs' seeds were found
 
 mod automata;
 mod before;
+mod combine;
 mod compare;
 mod curve;
 mod figure;
@@ -51,6 +53,7 @@ fn main() {
         ["worst"] => worst::print(),
         ["load"] => load::print(),
         ["source", file] => source::print(file),
+        ["combine"] => combine::print(),
         ["seeds"] => inputs::find(),
         _ => panic!("unknown arguments: {arguments:?}"),
     }

@@ -1,6 +1,7 @@
 //! Operations in plain Rust, by the same algorithms as the proved ones and with the same answers on every input.
 
 mod clauses;
+mod combine;
 mod fit;
 mod generate;
 mod quotient;
@@ -12,6 +13,7 @@ mod tops;
 pub use fit::fit;
 
 pub use clauses::clauses;
+pub use combine::combine;
 pub use generate::generate;
 pub use quotient::{check, quotient};
 pub use reduce::reduce;

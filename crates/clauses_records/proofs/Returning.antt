@@ -2,7 +2,7 @@
 -- code reads. Assumes nothing.
 use mathlib.Core.Path.{_≡_, refl, sym, ap, _∙_, subst}
 use mathlib.Core.Logic.{_≢_}
-use mathlib.Core.Bool.{Bool, true, false, _&&_, true≢false}
+use mathlib.Core.Bool.{Bool, true, false, _&&_}
 use mathlib.Core.List.{List, [], _∷_, _++_, map}
 use Prim.Native.Nat.{ℕ, _+_, _-_, _^_, _≤_, _<_}
 use native.Mathlib.Omega.{arith}
@@ -14,7 +14,6 @@ use lib.Dec.{eqb}
 use Rattle.lists.specs.Lists.{concatMap, filter, upto, same}
 use Rattle.lists.specs.Bits.{hasBit, has}
 use Rattle.lists.proofs.Bits.{no-bit}
-use Rattle.lists.proofs.Members.{and-true, and-of}
 use Rattle.lists.proofs.Lowest.{LowestBit, trailing-lowest, filter-none, filter-lowest, bit-le}
 use Rattle.limits.specs.Limits.{stateMost}
 use Rattle.table_spec.specs.File.{records}
@@ -29,6 +28,7 @@ use Rattle.clauses_records.specs.declared.returns.Return.{Return}
 use Rattle.clauses_emit.specs.Emit.{literalsOf, withAll, Holds, matchingFrom, Ascending, lastBytes, State, Ordered, emit}
 use Rattle.clauses_targets.specs.Targets.{Premised}
 use Rattle.table_index.specs.Index.{Lent}
+use Rattle.table_index.proofs.Blocks.{starts-shorter, filter-within}
 use Rattle.clauses_records.specs.Returns.{returnOf, liveRecord, returnClausesBy}
 use Rattle.clauses_emit.proofs.Emitting.{Coming, coming, come-on, come-as, come-all, come}
 use Rattle.clauses_emit.proofs.Stepping.{Along, along-all, along-here, along-on}
@@ -102,27 +102,6 @@ module _ {g : ℕ → List (List ℕ)} {n : ℕ} {all : List (List ℕ)} {start 
   toward-done e = come (come-as (ap (concatMap g) (ap (λ v. filter (hasBit v) (upto n)) e ∙ filter-none n 0 (λ x l. no-bit x))) (w .coming))
 
 -- ---- one record
-
--- what starts with three starts with the first two
-starts-shorter : (q a u : ℕ) (r : List ℕ) → startsWith (q ∷ a ∷ u ∷ []) r ≡ true → startsWith (q ∷ a ∷ []) r ≡ true
-unfolding startsWith same
-starts-shorter q a u [] e = absurd (true≢false (sym e))
-starts-shorter q a u (x ∷ []) e = absurd (true≢false (sym (and-true (eqb q x) false e .1)))
-starts-shorter q a u (x ∷ y ∷ []) e = absurd (true≢false (sym (and-true (eqb a y) false (and-true (eqb q x) (eqb a y && false) e .1) .1)))
-starts-shorter q a u (x ∷ y ∷ z ∷ r) e =
-    let p = and-true (eqb q x) (same (a ∷ u ∷ []) (y ∷ z ∷ [])) e in
-    and-of (p .0) (and-of (and-true (eqb a y) (same (u ∷ []) (z ∷ [])) (p .1) .0) refl)
-
-filter-within : (f g : List ℕ → Bool) (rs : List (List ℕ)) → ((r : List ℕ) → f r ≡ true → g r ≡ true) → filter f (filter g rs) ≡ filter f rs
-unfolding filter
-filter-within f g [] h = refl
-filter-within f g (r ∷ rs) h = go (f r) (g r) refl refl (filter-within f g rs h)
-  where
-    go : (t v : Bool) → f r ≡ t → g r ≡ v → filter f (filter g rs) ≡ filter f rs → filter f (filter g (r ∷ rs)) ≡ filter f (r ∷ rs)
-    go true true a b ih = rw (b, filter, a, filter) (ap (λ ss. r ∷ ss) ih)
-    go true false a b ih = absurd (true≢false (sym (h r a) ∙ b))
-    go false true a b ih = rw (b, filter, a, filter) ih
-    go false false a b ih = rw (b, filter, a, filter) ih
 
 -- the clause by a part that has all the records that it is about is the one by all records
 of-part :

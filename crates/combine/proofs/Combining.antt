@@ -1,6 +1,6 @@
 -- Two tables that were read: what their sections are combined with, 36, and the table written. Assumes nothing.
 use mathlib.Core.Path.{_≡_, refl, sym, ap, _∙_, subst}
-use mathlib.Core.Logic.{_⊎_, inl, inr, _≢_}
+use mathlib.Core.Logic.{_⊎_, inl, inr}
 use mathlib.Core.Bool.{Bool, true, false, _&&_}
 use mathlib.Core.List.{List, [], _∷_, map, List·Memᴰ}
 use Prim.Native.Nat.{ℕ, zero, suc, _+_, _*_, _<_, _≤_}
@@ -10,21 +10,19 @@ use lib.ListN.{length, getD, take, drop, length-map, List·getD-eq-default}
 use lib.Seq.{take-at}
 use lib.Dec.{leb}
 use borrow.Author.Tests.{le-leb, lt-leb, leb-true}
-use Rattle.lists.specs.Lists.{upto, over}
-use Rattle.lists.proofs.Members.{and-true, and-of, same-of, same-true, not-so}
-use Rattle.lists.proofs.Refusals.{passes, fails, no-test, stage-passes, stage-fails, refuses, not-refused}
-use Rattle.limits.specs.declared.Limits.{Limits}
+use Rattle.lists.specs.Lists.{over}
+use Rattle.lists.proofs.Members.{and-of}
 use Rattle.limits.specs.Limits.{stateMost, symbolMost}
 use Rattle.limits.proofs.Within.{limits-within}
 use Rattle.table_spec.specs.File.{Table, version, records, tableOf, bytesOf}
-use Rattle.table_spec.specs.Reading.{readNumber, WellFormed}
-use Rattle.table_spec.specs.Language.{count, byteOf}
+use Rattle.table_spec.specs.Reading.{WellFormed}
+use Rattle.table_spec.specs.Language.{count}
 use Rattle.table_spec.specs.declared.Starts.{Starts}
 use Rattle.table_spec.proofs.Passed.{read-passed, formed-tested}
 use Rattle.table_spec.proofs.Bytes.{Bytes, read-well-formed}
 use Rattle.table_spec.proofs.Facts.{Fit, internals-fit, calls-fit, returns-fit, most-states}
 use Rattle.table_find.specs.Keys.{key}
-use Rattle.table_view.specs.Sections.{partOf, ReadAs}
+use Rattle.table_view.specs.Sections.{partOf}
 use Rattle.table_view.specs.declared.Section.the-variants.{Symbols, States, Internals, Calls, Returns}
 use Rattle.table_view.proofs.Parts.{symbols-read, states-read, internals-read, calls-read, returns-read}
 use Rattle.table_index.specs.Index.{Lent, LentParts}
@@ -36,9 +34,8 @@ use Rattle.table_write.specs.Keys.{keysOf, recordOf, Holds}
 use Rattle.table_write.specs.Tables.{keyedTable, writtenFor}
 use Rattle.table_write.proofs.Keys.{Same, keys-back}
 use Rattle.table_write.proofs.Whole.{bytes-long}
-use Rattle.fit_spec.specs.Fit.{sameSymbols}
 use Rattle.generate_spec.specs.Loads.{recordsFew}
-use Rattle.combine_spec.specs.Combine.{pairByte, pairRecords, bothRecords, laterVersion, intersectionTable, unionTable, combinedTable, combinedBytes, statesFew, combineNumber, combineOf}
+use Rattle.combine_spec.specs.Combine.{pairRecords, bothRecords, laterVersion, intersectionTable, unionTable, combinedTable, combinedBytes, statesFew}
 use Rattle.combine_spec.specs.Walk.{walk}
 use Rattle.combine_spec.specs.declared.How.{How}
 use Rattle.combine_spec.specs.declared.How.the-variants.{Intersection, Union}
@@ -46,8 +43,8 @@ use Rattle.combine_spec.proofs.States.{intersection-count, union-count}
 use Rattle.combine_spec.proofs.Table.{combined-symbols, combined-well-formed}
 use Rattle.combine_spec.proofs.Walked.{sections-walked}
 use Rattle.combine_keys.specs.Adding.{Collected}
-use Rattle.combine_keys.specs.Factors.{Factors, Summands, stackBounds}
-use Rattle.combine.specs.Parts.{stateCount, stateBytes, sectionRecords, Sections, BothRead, Combined, Few, combinedFor}
+use Rattle.combine_keys.specs.Factors.{Summands, stackBounds}
+use Rattle.combine.specs.Parts.{stateCount, stateBytes, sectionRecords, Sections, Combined, Few, combinedFor}
 use Rattle.combine.proofs.StateBytes as states
 
 -- ---- a section

@@ -97,45 +97,24 @@ pub fn write_combined(
     let n = own.len();
     let m = other.len();
     let k = symbols.len();
+    let internals = part(first, one, Section::Internals);
+    let others = part(second, two, Section::Internals);
     let mut moves = [0u32; 1024];
-    let i = section_keys(
-        how,
-        3,
-        n,
-        m,
-        k,
-        part(first, one, Section::Internals),
-        part(second, two, Section::Internals),
-        &mut moves,
-    );
+    let i = section_keys(how, 3, n, m, k, internals, others, &mut moves);
     if 1024 < i {
         return Written::Refused(36);
     }
+    let calls = part(first, one, Section::Calls);
+    let others = part(second, two, Section::Calls);
     let mut pushes = [0u32; 1024];
-    let c = section_keys(
-        how,
-        3,
-        n,
-        m,
-        k,
-        part(first, one, Section::Calls),
-        part(second, two, Section::Calls),
-        &mut pushes,
-    );
+    let c = section_keys(how, 3, n, m, k, calls, others, &mut pushes);
     if 1024 < c {
         return Written::Refused(36);
     }
+    let returns = part(first, one, Section::Returns);
+    let others = part(second, two, Section::Returns);
     let mut pops = [0u32; 4096];
-    let r = section_keys(
-        how,
-        4,
-        n,
-        m,
-        k,
-        part(first, one, Section::Returns),
-        part(second, two, Section::Returns),
-        &mut pops,
-    );
+    let r = section_keys(how, 4, n, m, k, returns, others, &mut pops);
     if 4096 < r {
         return Written::Refused(36);
     }

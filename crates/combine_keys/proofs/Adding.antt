@@ -1,7 +1,7 @@
 -- Keys put one after the other: what is collected then, and the turns of a loop that adds some for each element of a list. Assumes nothing.
 use mathlib.Core.Path.{_≡_, refl, sym, ap, _∙_, subst}
 use mathlib.Core.List.{List, [], _∷_, _++_, append-nil, append-assoc}
-use Prim.Native.Nat.{ℕ, suc, _+_, _<_, _≤_}
+use Prim.Native.Nat.{ℕ, _+_, _<_, _≤_}
 use native.Mathlib.Numerals.{add-one}
 use native.Mathlib.Omega.{arith}
 use native.Mathlib.Decide.{decLt}
@@ -10,7 +10,6 @@ use lib.Seq.{take-suc, take-suc-set, take-all}
 use Rattle.lists.specs.Lists.{concatMap, upto}
 use Rattle.lists.proofs.Members.{length-upto, getD-upto}
 use Rattle.lists.proofs.Counts.{concatMap-append}
-use Rattle.table_write.specs.Keys.{Holds}
 use Rattle.combine_keys.specs.Adding.{Collected, Adds}
 
 -- nothing is collected yet

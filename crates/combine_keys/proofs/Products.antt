@@ -1,7 +1,7 @@
 -- What the loops of the product have of two sections and their indexes: a pair's two states, and their blocks. Assumes nothing.
 use mathlib.Core.Path.{_≡_, refl, sym, ap, _∙_, subst}
 use mathlib.Core.Logic.{_⊎_, inl, inr, _≢_}
-use mathlib.Core.Bool.{Bool, true}
+use mathlib.Core.Bool.{Bool}
 use mathlib.Core.List.{List, [], _∷_, _++_, map}
 use Prim.Native.Nat.{ℕ, _+_, _*_, _/_, _%_, _<_, _≤_}
 use native.Mathlib.Nat.{div-lt-iff-lt-mul, mod-lt, div-le-self}
@@ -9,7 +9,6 @@ use native.Mathlib.Omega.{arith}
 use lib.ListN.{length}
 use Rattle.lists.specs.Lists.{filter, concatMap, upto, parts}
 use Rattle.table_spec.specs.File.{records}
-use Rattle.table_spec.specs.Reading.{ascend}
 use Rattle.table_find.specs.Keys.{keyFrom, key, Keyed}
 use Rattle.table_find.specs.Spans.{startsWith, StartingOf}
 use Rattle.table_index.specs.Index.{Lent, Placed}

@@ -1,16 +1,14 @@
 -- The keys of the product's records, as the loops add them: by pair, symbol and pushed pair, the targets of the two. Assumes nothing.
 use mathlib.Core.Path.{_≡_, refl, sym, ap, _∙_}
-use mathlib.Core.Bool.{Bool, true, false, _&&_, true≢false}
 use mathlib.Core.List.{List, [], _∷_, _++_, map, map-append}
 use Prim.Native.Nat.{ℕ, _+_, _-_, _*_, _/_, _%_}
 use lib.ListN.{getD}
-use lib.Dec.{eqb}
-use Rattle.lists.specs.Lists.{filter, concatMap, upto, same}
-use Rattle.lists.proofs.Members.{and-true, and-of}
+use Rattle.lists.specs.Lists.{filter, concatMap, upto}
 use Rattle.table_spec.specs.File.{records}
 use Rattle.table_spec.specs.Language.{targets}
 use Rattle.table_find.specs.Keys.{keyFrom}
 use Rattle.table_find.specs.Spans.{startsWith}
+use Rattle.table_index.proofs.Blocks.{starts-shorter, filter-within}
 use Rattle.combine_spec.specs.Combine.{renumbered, pairOf}
 use Rattle.combine_spec.specs.Walk.{pairTargets, walk}
 use Rattle.combine_keys.specs.Adding.{rowKeys, targetKeys}
@@ -81,26 +79,6 @@ walk-keyed k m rs ss c cs key = go (upto c)
         ∙ (λ i. one x (walk m rs ss cs (key ++ (x ∷ []))) i ++ go xs i)
 
 -- ---- the blocks of a pair and a symbol have all of its returns
-
-starts-shorter : (q a u : ℕ) (r : List ℕ) → startsWith (q ∷ a ∷ u ∷ []) r ≡ true → startsWith (q ∷ a ∷ []) r ≡ true
-unfolding startsWith same
-starts-shorter q a u [] e = absurd (true≢false (sym e))
-starts-shorter q a u (x ∷ []) e = absurd (true≢false (sym (and-true (eqb q x) false e .1)))
-starts-shorter q a u (x ∷ y ∷ []) e = absurd (true≢false (sym (and-true (eqb a y) false (and-true (eqb q x) (eqb a y && false) e .1) .1)))
-starts-shorter q a u (x ∷ y ∷ z ∷ r) e =
-    let p = and-true (eqb q x) (same (a ∷ u ∷ []) (y ∷ z ∷ [])) e in
-    and-of (p .0) (and-of (and-true (eqb a y) (same (u ∷ []) (z ∷ [])) (p .1) .0) refl)
-
-filter-within : (f g : List ℕ → Bool) (rs : List (List ℕ)) → ((r : List ℕ) → f r ≡ true → g r ≡ true) → filter f (filter g rs) ≡ filter f rs
-unfolding filter
-filter-within f g [] h = refl
-filter-within f g (r ∷ rs) h = go (f r) (g r) refl refl (filter-within f g rs h)
-  where
-    go : (t v : Bool) → f r ≡ t → g r ≡ v → filter f (filter g rs) ≡ filter f rs → filter f (filter g (r ∷ rs)) ≡ filter f (r ∷ rs)
-    go true true a b ih = rw (b, filter, a, filter) (ap (λ ss. r ∷ ss) ih)
-    go true false a b ih = absurd (true≢false (sym (h r a) ∙ b))
-    go false true a b ih = rw (b, filter, a, filter) ih
-    go false false a b ih = rw (b, filter, a, filter) ih
 
 targets-within : (rs : List (List ℕ)) (q a u : ℕ) → targets (filter (startsWith (q ∷ a ∷ [])) rs) (q ∷ a ∷ u ∷ []) ≡ targets rs (q ∷ a ∷ u ∷ [])
 unfolding targets startsWith

@@ -1,6 +1,6 @@
 -- The block of a state and a symbol: the records that start with them stand one after the other, from one entry of the index to the next. Assumes nothing.
 use mathlib.Core.Path.{_≡_, refl, sym, ap, _∙_, subst}
-use mathlib.Core.Bool.{Bool, true, false}
+use mathlib.Core.Bool.{Bool, true, false, _&&_, true≢false}
 use mathlib.Core.List.{List, [], _∷_, List·Memᴰ}
 use Prim.Native.Nat.{ℕ, zero, suc, _+_, _*_, _-_, _/_, _<_, _≤_}
 use native.Mathlib.Omega.{arith}
@@ -10,7 +10,7 @@ use lib.ListN.{length, getD, take, drop}
 use lib.Dec.{eqb}
 use borrow.Author.Tests.{eq-eqb, eqb-true}
 use Rattle.lists.specs.Lists.{filter, same}
-use Rattle.lists.proofs.Members.{and-true, not-so, getD-mem, filter-mem}
+use Rattle.lists.proofs.Members.{and-true, and-of, not-so, getD-mem, filter-mem}
 use Rattle.limits.specs.Limits.{stateMost, symbolMost}
 use Rattle.table_spec.specs.File.{records}
 use Rattle.table_spec.specs.Reading.{ascend}
@@ -62,6 +62,27 @@ two-start q a (x ∷ y ∷ r) l e =
     let p = and-true (eqb q x) (same (a ∷ []) (y ∷ [])) e in
     let o = and-true (eqb a y) (same [] []) (p .1) in
     (sym (eqb-true q x (p .0)), sym (eqb-true a y (o .0)))
+
+-- what starts with three starts with the first two
+pub starts-shorter : (q a u : ℕ) (r : List ℕ) → startsWith (q ∷ a ∷ u ∷ []) r ≡ true → startsWith (q ∷ a ∷ []) r ≡ true
+unfolding startsWith same
+starts-shorter q a u [] e = absurd (true≢false (sym e))
+starts-shorter q a u (x ∷ []) e = absurd (true≢false (sym (and-true (eqb q x) false e .1)))
+starts-shorter q a u (x ∷ y ∷ []) e = absurd (true≢false (sym (and-true (eqb a y) false (and-true (eqb q x) (eqb a y && false) e .1) .1)))
+starts-shorter q a u (x ∷ y ∷ z ∷ r) e =
+    let p = and-true (eqb q x) (same (a ∷ u ∷ []) (y ∷ z ∷ [])) e in
+    and-of (p .0) (and-of (and-true (eqb a y) (same (u ∷ []) (z ∷ [])) (p .1) .0) refl)
+
+pub filter-within : (f g : List ℕ → Bool) (rs : List (List ℕ)) → ((r : List ℕ) → f r ≡ true → g r ≡ true) → filter f (filter g rs) ≡ filter f rs
+unfolding filter
+filter-within f g [] h = refl
+filter-within f g (r ∷ rs) h = go (f r) (g r) refl refl (filter-within f g rs h)
+  where
+    go : (t v : Bool) → f r ≡ t → g r ≡ v → filter f (filter g rs) ≡ filter f rs → filter f (filter g (r ∷ rs)) ≡ filter f (r ∷ rs)
+    go true true a b ih = rw (b, filter, a, filter) (ap (λ ss. r ∷ ss) ih)
+    go true false a b ih = absurd (true≢false (sym (h r a) ∙ b))
+    go false true a b ih = rw (b, filter, a, filter) ih
+    go false false a b ih = rw (b, filter, a, filter) ih
 
 -- ---- entries of the index
 

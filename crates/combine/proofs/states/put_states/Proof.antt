@@ -1,7 +1,6 @@
 -- `combine::states::put_states` meets its contract: the bytes from here on are still to be written. Assumes nothing.
 use native.Mathlib.Omega.{arith}
 use Prim.Native.Nat.{_-_}
-use mathlib.Core.Path.{_∙_}
 use Rattle.lists.proofs.Copying as laws
 use Rattle.combine.specs.Parts.{stateBytes}
 use Rattle.combine.proofs.StateBytes.{bytes-long}

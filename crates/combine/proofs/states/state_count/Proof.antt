@@ -1,5 +1,4 @@
 -- `combine::states::state_count` meets its contract. Assumes nothing.
-use Prim.Native.Nat.{_*_, _≤_}
 use native.Mathlib.Nat.{mul-le-mul-right}
 use native.Mathlib.Omega.{arith}
 use Rattle.combine.proofs.StateBytes.{count-product, count-sum}

@@ -1,7 +1,6 @@
 -- `combine_keys::pairs::add_over` meets its contract: the returns over the pairs so far are added. Assumes nothing.
 use Prim.Native.Nat.{_+_, _*_, _-_}
 use native.Mathlib.Omega.{arith}
-use mathlib.Core.Path.{ap, _∙_}
 use mathlib.Core.List.{[], _∷_, map}
 use Rattle.lists.specs.Lists.{upto}
 use Rattle.table_spec.specs.File.{records}

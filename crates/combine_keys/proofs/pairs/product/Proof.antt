@@ -1,5 +1,5 @@
 -- `combine_keys::pairs::product` meets its contract: the records of the pairs so far are added. Assumes nothing.
-use Prim.Native.Nat.{_+_, _*_, _-_}
+use Prim.Native.Nat.{_*_, _-_}
 use native.Mathlib.Omega.{arith}
 use mathlib.Core.Path.{refl}
 use mathlib.Core.List.{[], _∷_, map}
