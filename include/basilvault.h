@@ -62,6 +62,8 @@ extern "C" {
 #define BASILVAULT_RECORDS_VALUES 4
 #define BASILVAULT_GENERATE_VALUES 1
 #define BASILVAULT_FIT_VALUES 1
+#define BASILVAULT_INTERSECTION_VALUES 1
+#define BASILVAULT_UNION_VALUES 1
 #define BASILVAULT_SEASON_VALUES 64
 
 /* No clause list of a table with n >= 1 states, so many internals and calls together, and so many returns is longer: neither the whole list of

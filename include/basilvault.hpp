@@ -166,6 +166,17 @@ inline auto generate(const load &g, byte_buffer out, limits l = {}) noexcept {
 inline auto fit(bytes first, bytes second) noexcept {
     return BASILVAULT_CALL(basilvault_fit, BASILVAULT_FIT_VALUES, detail::yes, BASILVAULT_SPAN(first), BASILVAULT_SPAN(second));
 }
+
+inline auto intersection(bytes first, bytes second, byte_buffer out, limits l = {}) noexcept {
+    return BASILVAULT_CALL(basilvault_intersection_within, BASILVAULT_INTERSECTION_VALUES, detail::only, l.states, l.symbols, BASILVAULT_SPAN(first),
+                           BASILVAULT_SPAN(second), BASILVAULT_SPAN(out));
+}
+
+// basilvault_union: the word alone is C++'s.
+inline auto union_of(bytes first, bytes second, byte_buffer out, limits l = {}) noexcept {
+    return BASILVAULT_CALL(basilvault_union_within, BASILVAULT_UNION_VALUES, detail::only, l.states, l.symbols, BASILVAULT_SPAN(first), BASILVAULT_SPAN(second),
+                           BASILVAULT_SPAN(out));
+}
 inline auto season(bytes tables, span<const std::uint64_t> lengths, std::uint64_t guesses, word_buffer list, byte_buffer maps, byte_buffer out,
                    limits l = {}) noexcept {
     return BASILVAULT_CALL(basilvault_season_within, BASILVAULT_SEASON_VALUES, detail::as_season, l.states, l.symbols, BASILVAULT_SPAN(tables),

@@ -35,6 +35,10 @@ static void try_map(const byte_vector &t, const byte_vector &map, const byte_vec
     const auto sums = bv::uses(t, map, lines);
     expect(sums.value.each[1] == 15 && sums.value.each[0] == 0 && sums.value.all == 15, "uses");
     expect(bv::fit(t, small).value && bv::fit(t, small) && bv::fit(byte_vector{}, small).number == 1, "fit");
+    const auto both = bv::intersection(t, small, out), one = bv::intersection(t, byte_vector{}, out);
+    expect(both && bv::fit(bv::bytes(out.data(), both.value), t).value && one.number == 1, "intersection");
+    const auto either = bv::union_of(t, small, out);
+    expect(either && bv::fit(bv::bytes(out.data(), either.value), t).value && bv::union_of(t, t, out, {7, 32}).number == 35, "union_of");
 }
 
 static void try_words(const byte_vector &t) {
