@@ -93,7 +93,7 @@ fn combined(compared: &Compared, limits: Limits, how: How, budget: Option<u64>) 
     if budget.is_some() {
         line += &format!(" reduced to {} {}", first.states(), second.states());
     }
-    let table = first.table.combine(&second.table, how).map_err(|refusal| refused(compared, limits, &first, &second, refusal))?;
+    let table = first.table.combine(&second.table, how).map_err(|refusal| refused(compared, limits, [&first, &second], refusal, budget.is_some()))?;
     let mut made = Named { names: names(&first.names, &second.names, how), table };
     line += &format!(" combined {}", made.states());
     if let Some(budget) = budget {
@@ -113,12 +113,13 @@ fn pair(compared: &Compared, limits: Limits) -> Result<[Named; 2], Failure> {
     Ok([Named { table: first, names }, Named { table: second, names: others }])
 }
 
-/// The failure of a combination that is refused, with the counts that it is about.
-fn refused(compared: &Compared, limits: Limits, first: &Named, second: &Named, refusal: Refusal) -> Failure {
+/// The failure of a combination that is refused, with the counts that it is about, and what may help.
+fn refused(compared: &Compared, limits: Limits, [first, second]: [&Named; 2], refusal: Refusal, reduced: bool) -> Failure {
     let counts = format!("{} and {} states", first.states(), second.states());
+    let help = if reduced { "" } else { "; --reduce may help" };
     match refusal {
-        Refusal::Load => compared.second.refused_as(refusal, &format!("{counts}, at most {} combined; --reduce may help", limits.states)),
-        Refusal::LoadRecords => compared.second.refused_as(refusal, &format!("{counts}; --reduce may help")),
+        Refusal::Load => compared.second.refused_as(refusal, &format!("{counts}, at most {} combined{help}", limits.states)),
+        Refusal::LoadRecords => compared.second.refused_as(refusal, &format!("{counts}{help}")),
         other => compared.second.refused(other),
     }
 }
