@@ -11,8 +11,8 @@ use std::io::{Read, Write};
 use std::process::{Child, Command, Stdio};
 use std::time::{Duration, Instant};
 
-/// More arrows than this are no picture that a person can follow.
-const MOST_ARROWS: usize = 140;
+/// More arrows than this are no picture that a person can follow, though it can be enlarged and shows the moves of one state alone.
+const MOST_ARROWS: usize = 600;
 
 /// More dead returns than this hide the rest.
 const MOST_DEAD: usize = 24;
