@@ -1,7 +1,7 @@
 // The check of a state map: definitions, laws, and the answer's form. No code.
 
 // What the check answers.
-#[derive(Drop)]
+#[derive(Clone, Copy)]
 pub enum Checked {
     // accepted: the class count
     Accepted(usize),

@@ -1,7 +1,7 @@
 // Which of two maps is handed back: definitions, laws, and the answer's form. No code.
 
 // Which of two maps is handed back.
-#[derive(Drop)]
+#[derive(Clone, Copy)]
 pub enum Which {
     Neither,
     First,
@@ -9,7 +9,7 @@ pub enum Which {
 }
 
 // The refusal's number or 0, and which map is handed back: neither with any refusal.
-#[derive(Drop)]
+#[derive(Clone, Copy)]
 pub struct Choice {
     pub number: u8,
     pub which: Which,

@@ -6,7 +6,7 @@ ghost use Rattle.clauses_emit.specs.Emit.{literals_of, state, Ordered, counted_b
 use super::literals::Literals;
 
 // What is counted so far, and whether it is written too.
-#[derive(Drop)]
+#[derive(Clone, Copy)]
 pub struct Tally {
     pub write: bool,
     pub clauses: usize,

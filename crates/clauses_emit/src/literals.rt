@@ -8,7 +8,7 @@ ghost use Rattle.clauses_emit.specs.Emit.{literals_of, with_literal, Holds};
 use pairs::variable_of;
 
 // The first n words: three are a clause of groups 1 and 2, two the premises of one with targets.
-#[derive(Drop)]
+#[derive(Clone, Copy)]
 pub struct Literals {
     pub words: [u16; 3],
     pub n: usize,

@@ -14,7 +14,7 @@ use clauses_targets::{matched, with_premise};
 use table_index::{block, starts_of};
 
 // A record (p, r, s, p').
-#[derive(Drop)]
+#[derive(Clone, Copy)]
 pub struct Return {
     pub from: u8,
     pub symbol: u8,

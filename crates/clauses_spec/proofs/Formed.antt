@@ -182,6 +182,7 @@ module _ (t : Table) where
       go (Memᴰ.head e) x y z i j k = of_three (variable_of p q) (variable_of q s) (variable_of p s) x y z i j k e
       go (Memᴰ.tail (Memᴰ.head e)) x y z i j k = of_three (variable_of p q) (variable_of p s) (variable_of q s) x z y k (λ f. j (sym f)) i e
       go (Memᴰ.tail (Memᴰ.tail (Memᴰ.head e))) x y z i j k = of_three (variable_of p s) (variable_of q s) (variable_of p q) z y x (λ f. j (sym f)) (λ f. i (sym f)) (λ f. k (sym f)) e
+      go (Memᴰ.tail (Memᴰ.tail (Memᴰ.tail x30))) x y z i j k = elim x30 [ ]
 
   transitivity_kinds : (c : List ℕ) → Memᴰ c (transitivity t) → Kind c
   unfolding transitivity triangles
@@ -294,6 +295,7 @@ module _ (t : Table) where
   three_below n x y z a b c l (Memᴰ.head e) = omega arith
   three_below n x y z a b c l (Memᴰ.tail (Memᴰ.head e)) = omega arith
   three_below n x y z a b c l (Memᴰ.tail (Memᴰ.tail (Memᴰ.head e))) = omega arith
+  three_below n x y z a b c l (Memᴰ.tail (Memᴰ.tail (Memᴰ.tail x13))) = elim x13 [ ]
 
   three_distinct : (x y z : ℕ) → x ≢ y → y ≢ z → x ≢ z → distinct ((2 * x + 1) / 2 ∷ (2 * y + 1) / 2 ∷ 2 * z / 2 ∷ []) ≡ true
   unfolding distinct
@@ -325,6 +327,7 @@ module _ (t : Table) where
       positive-last l p (Memᴰ.head e) = absurd (omega arith)
       positive-last l p (Memᴰ.tail (Memᴰ.head e)) = absurd (omega arith)
       positive-last l p (Memᴰ.tail (Memᴰ.tail (Memᴰ.head e))) = e
+      positive-last l p (Memᴰ.tail (Memᴰ.tail (Memᴰ.tail x24))) = elim x24 [ ]
   kind_horn d c (of_match premises p' qs h neg _ each one m) l k i j f g =
       both (target l f (append_cases premises (tidy-mem _ c m l i))) (target k g (append_cases premises (tidy-mem _ c m k j)))
     where

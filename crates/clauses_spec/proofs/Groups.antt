@@ -115,6 +115,7 @@ module _ (t : Table) (v : List ℕ) (full : Assignment (pairs (count t)) v) wher
   arrow_gives x y z (l, Memᴰ.head e, r) = record { third = λ a b. absurd (omega (arith, right-negative v x (subst (λ (k : ℕ). Right v k) e r))) }
   arrow_gives x y z (l, Memᴰ.tail (Memᴰ.head e), r) = record { third = λ a b. absurd (omega (arith, right-negative v y (subst (λ (k : ℕ). Right v k) e r))) }
   arrow_gives x y z (l, Memᴰ.tail (Memᴰ.tail (Memᴰ.head e)), r) = record { third = λ a b. right_positive v z (subst (λ (k : ℕ). Right v k) e r) }
+  arrow_gives x y z (l, Memᴰ.tail (Memᴰ.tail (Memᴰ.tail x15)), r) = elim x15 [ ]
 
   gives_arrow : (x y z : ℕ) → value_of v x < 2 → value_of v y < 2 → Gives x y z → HasRight v (arrow x y z)
   gives_arrow x y z a b g = go (ℕ_discrete (value_of v x) 1) (ℕ_discrete (value_of v y) 1)
@@ -143,6 +144,7 @@ module _ (t : Table) (v : List ℕ) (full : Assignment (pairs (count t)) v) wher
       go (Memᴰ.head e) = rw e (gives_arrow _ _ _ (bit p q a (omega arith)) (bit q s b l) h.over)
       go (Memᴰ.tail (Memᴰ.head e)) = rw e (gives_arrow _ _ _ (bit p q a (omega arith)) (bit p s (omega arith) l) h.low)
       go (Memᴰ.tail (Memᴰ.tail (Memᴰ.head e))) = rw e (gives_arrow _ _ _ (bit p s (omega arith) l) (bit q s b l) h.high)
+      go (Memᴰ.tail (Memᴰ.tail (Memᴰ.tail x12))) = elim x12 [ ]
 
   all_closed : Satisfied v (transitivity t) → (p q s : ℕ) → p < q → q < s → s < count t → Closed3 p q s
   unfolding transitivity triangles

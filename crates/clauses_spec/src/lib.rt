@@ -1,7 +1,7 @@
 // The clauses of a table and the map of an assignment: definitions, laws, and the answer's form. No code.
 
 // What writing the clause list answers.
-#[derive(Drop)]
+#[derive(Clone, Copy)]
 pub enum Listed {
     List { clauses: usize, words: usize },
     // 39, 1 to 8, 10

@@ -70,12 +70,13 @@ module _ (cs : List (List ℕ)) (n b : ℕ) (formed : Formed cs n) where
       → run k cs b (goes (state_of u gs m)) ≢ unfinished → LeadsTo cs n b (goes (state_of v gs m)) (run k cs b (goes (state_of u gs m)))
 
   after_turn : (k : ℕ) → Leads k → (t : Next) → Good t → run k cs b t ≢ unfinished → LeadsTo cs n b t (run k cs b t)
-  unfolding Leads
+  unfolding Leads run
   after_turn k ih (goes s) g h = ih s.values s.values s.guesses s.made g.now.values stay g h
   after_turn k ih (ends o) g h = subst (λ (p : Outcome). LeadsTo cs n b (ends o) p) (sym (run_ends k)) there
     where
       run_ends : (k : ℕ) → run k cs b (ends o) ≡ o
-      run_ends k = elim k [ zero ↦ unfold run in refl | suc j ↦ unfold run in refl ]
+      run_ends zero = refl
+      run_ends (suc j) = refl
 
   leads : (k : ℕ) → Leads k
   unfolding Leads run step act turn_to

@@ -103,8 +103,9 @@ lowest_is [] i = λ j h. absurd (omega arith)
 lowest_is (x ∷ xs) i = go (eqb x 2) refl (lowest_is xs (suc i))
   where
     further : (o : Option ℕ) → x ≢ 2 → LowestUnset xs (suc i) o → LowestUnset (x ∷ xs) i o
-    further none p r = λ j. elim j [ zero ↦ λ h. p | suc j ↦ λ h. r j (omega arith) ]
-    further (some y) p r = (suc r.0, omega arith, omega arith, r.3, λ j. elim j [ zero ↦ λ h. p | suc j ↦ λ h. r.4 j (omega arith) ])
+    further none p r = λ j. elim j as (λ j. j < length (x ∷ xs) → value_of (x ∷ xs) j ≢ 2) [ zero ↦ λ h. p | suc j ↦ λ h. r j (omega arith) ]
+    further (some y) p r =
+        (suc r.0, omega arith, omega arith, r.3, λ j. elim j as (λ j. j < suc r.0 → value_of (x ∷ xs) j ≢ 2) [ zero ↦ λ h. p | suc j ↦ λ h. r.4 j (omega arith) ])
 
     go : (t : Bool) → eqb x 2 ≡ t → LowestUnset xs (suc i) (lowest_unset xs (suc i)) → LowestUnset (x ∷ xs) i (elim t [ true ↦ some i | false ↦ lowest_unset xs (suc i) ])
     go true p r = (0, omega arith, omega arith, eqb-true _ _ p, λ h l. absurd (omega arith))

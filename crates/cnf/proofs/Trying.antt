@@ -62,12 +62,13 @@ module _ (cs : List (List ℕ)) (n b : ℕ) (formed : Formed cs n) where
       → run k cs b (goes (state_of u gs m)) ≢ unfinished → TriesTo cs n b (goes (state_of v gs m)) t (run_tried k cs b (goes (state_of u gs m)) t)
 
   after_turn : (k : ℕ) → Tries k → (x : Next) (t : Trials) → Good x → run k cs b x ≢ unfinished → TriesTo cs n b x t (run_tried k cs b x t)
-  unfolding Tries
+  unfolding Tries run_tried
   after_turn k ih (goes s) t g h = ih s.values s.values s.guesses s.made t g.now.values stay g h
   after_turn k ih (ends o) t g h = subst (λ (p : Tried). TriesTo cs n b (ends o) t p) (sym (run_ends k)) there
     where
       run_ends : (k : ℕ) → run_tried k cs b (ends o) t ≡ end_of o t
-      run_ends k = elim k [ zero ↦ unfold run_tried in refl | suc j ↦ unfold run_tried in refl ]
+      run_ends zero = refl
+      run_ends (suc j) = refl
 
   tries : (k : ℕ) → Tries k
   unfolding Tries run_tried run step act turn_to tried

@@ -251,6 +251,7 @@ arrow_over x y z = record {
     go m (Memᴰ.head e) = inl (omega arith)
     go m (Memᴰ.tail (Memᴰ.head e)) = inr (inl (omega arith))
     go m (Memᴰ.tail (Memᴰ.tail (Memᴰ.head e))) = inr (inr (omega arith))
+    go m (Memᴰ.tail (Memᴰ.tail (Memᴰ.tail x13))) = elim x13 [ ]
 
 over_turn : {c : List ℕ} {x y z : ℕ} → Over c x y z → Over c y x z
 over_turn {c} {x} {y} {z} o = record { one_of = λ m k. go m (o.one_of m k); has_x = o.has_y; has_y = o.has_x; has_z = o.has_z }
@@ -274,6 +275,7 @@ unfolding triangle
 triangle-over p q s c (Memᴰ.head e) = rw e (arrow_over _ _ _)
 triangle-over p q s c (Memᴰ.tail (Memᴰ.head e)) = rw e (over_last (arrow_over _ _ _))
 triangle-over p q s c (Memᴰ.tail (Memᴰ.tail (Memᴰ.head e))) = rw e (over_last (over_turn (over_last (arrow_over _ _ _))))
+triangle-over p q s c (Memᴰ.tail (Memᴰ.tail (Memᴰ.tail x12))) = elim x12 [ ]
 
 triangle_settled :
     (w : List ℕ) (p q s : ℕ) → ((i : ℕ) → value_of w i ≤ 2) → Triple w (variable_of p q) (variable_of q s) (variable_of p s)
@@ -283,6 +285,7 @@ unfolding triangle
 triangle_settled w p q s small f g h c (Memᴰ.head e) = rw e (triple_settled w _ _ _ small f)
 triangle_settled w p q s small f g h c (Memᴰ.tail (Memᴰ.head e)) = rw e (triple_settled w _ _ _ small g)
 triangle_settled w p q s small f g h c (Memᴰ.tail (Memᴰ.tail (Memᴰ.head e))) = rw e (triple_settled w _ _ _ small h)
+triangle_settled w p q s small f g h c (Memᴰ.tail (Memᴰ.tail (Memᴰ.tail x12))) = elim x12 [ ]
 
 -- the three states of a clause of the group
 record InTriangle (n : ℕ) (c : List ℕ) : Type 0 where
@@ -326,6 +329,7 @@ unfolding triangle
 triangle-one p q s c (Memᴰ.head e) = rw e (omega (arith, arrow_one (variable_of p q) (variable_of q s) (variable_of p s)))
 triangle-one p q s c (Memᴰ.tail (Memᴰ.head e)) = rw e (omega (arith, arrow_one (variable_of p q) (variable_of p s) (variable_of q s)))
 triangle-one p q s c (Memᴰ.tail (Memᴰ.tail (Memᴰ.head e))) = rw e (omega (arith, arrow_one (variable_of p s) (variable_of q s) (variable_of p q)))
+triangle-one p q s c (Memᴰ.tail (Memᴰ.tail (Memᴰ.tail x12))) = elim x12 [ ]
 
 -- each clause of the group has one positive literal
 pub triangles_horn : (n : ℕ) → Horn (triangles n)

@@ -8,7 +8,7 @@ use pairs::variable_of;
 use sat_trail::{put, wide};
 
 // Whether a clause is broken, and how many variables are set.
-#[derive(Drop)]
+#[derive(Clone, Copy)]
 pub struct Reached {
     pub broken: bool,
     pub count: usize,

@@ -8,7 +8,7 @@ use super::rows::{any, held, join, put};
 use bits::wide;
 
 // The moves that push nothing, or one state.
-#[derive(Drop)]
+#[derive(Clone, Copy)]
 pub enum Kind {
     Internal,
     Call,

@@ -1,7 +1,7 @@
 // Two tables compared: what the comparison answers. Definitions and theorems; the code is the crate `fit`.
 
 // What the comparison answers.
-#[derive(Drop)]
+#[derive(Clone, Copy)]
 pub enum Fitting {
     // the second table accepts every word of the first
     Yes,

@@ -4,7 +4,7 @@ ghost use Rattle.generate_spec.specs.Loads.{draw, possible};
 ghost use Rattle.generate.specs.Draws.{Shape, tails, record_at, Draws};
 
 // What the draws of a section give: whether the records present fit, how many of them have room, and the last s, or the first where they do not fit.
-#[derive(Drop)]
+#[derive(Clone, Copy)]
 pub struct Drawn {
     pub fits: bool,
     pub count: usize,

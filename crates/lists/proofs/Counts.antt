@@ -69,7 +69,7 @@ unfolding concat_map
 concat_map-append f [] ys = refl
 concat_map-append f (x ∷ xs) ys = ap (λ zs. f x ++ zs) (concat_map-append f xs ys) ∙ sym (append_assoc (f x) (concat_map f xs) (concat_map f ys))
 
-pub map_of_lem : {A B : Type 0} (f : A → B) {xs : List A} {x : A} → Memᴰ x xs → Memᴰ (f x) (map f xs)
+pub map_of_lem : {A B : Type 0} (f : A → B) {x : A} {xs : List A} → Memᴰ x xs → Memᴰ (f x) (map f xs)
 map_of_lem f (Memᴰ.head e) = Memᴰ.head (ap f e)
 map_of_lem f (Memᴰ.tail m) = Memᴰ.tail (map_of_lem f m)
 

@@ -7,7 +7,7 @@ mod table;
 pub use table::{pair_of, pair_table};
 
 // Two states, low below high; both 0 for a variable past the table.
-#[derive(Drop)]
+#[derive(Clone, Copy)]
 pub struct Pair {
     pub low: u8,
     pub high: u8,

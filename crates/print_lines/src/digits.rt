@@ -9,7 +9,7 @@ pub fn put(bytes: &[u8], text: &mut [u8], at: usize) -> usize
     requires { at + length bytes.now ≤ length text.old }
     ensures { Put bytes.now at text.old result text.new }
 {
-    bytes::copy(bytes, &mut text[at..]);
+    text[at..at + bytes.len()].copy_from_slice(bytes);
     at + bytes.len()
 }
 

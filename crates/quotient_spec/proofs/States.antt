@@ -94,6 +94,7 @@ module _ (t : Table) (m : List ℕ) (c : ℕ) where
       go true f j ih = mark-here q qs f ∙ h q (Memᴰ.head refl) (eqb-true _ _ f)
       go false f (Memᴰ.head d) ih = absurd (eqb-false _ _ f (ap (class_of m) (sym d) ∙ e))
       go false f (Memᴰ.tail j) ih = mark_on q qs f ∙ ih j
+  among-mark k [] h p i e = elim i [ ]
 
   pub members-mark : (p : ℕ) → p < count t → class_of m p ≡ c → ((q : ℕ) → q < count t → class_of m q ≡ c → mark_of (byte_of t q) ≡ mark_of (byte_of t p)) → class_mark t m c ≡ mark_of (byte_of t p)
   unfolding class_mark

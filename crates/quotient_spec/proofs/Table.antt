@@ -29,6 +29,7 @@ use Rattle.quotient_spec.proofs.States.{byte_small, count-classes, class-initial
 pub mem_index : (x : ℕ) (xs : List ℕ) → Memᴰ x xs → (i : ℕ) × (i < length xs) × (get_or xs i 0 ≡ x)
 mem_index x (y ∷ xs) (Memᴰ.head e) = (0, omega arith, sym e)
 mem_index x (y ∷ xs) (Memᴰ.tail m) = let r = mem_index x xs m in (suc r.0, omega (arith, r.1), r.2)
+mem_index x [] x'' = elim x'' [ ]
 
 module _ (L : Limits) (t : Table) (m : List ℕ) (f : WellFormed L t) (n : length m ≡ count t) (k : numbered m ≡ true) where
   few : classes m ≤ length m

@@ -1,7 +1,7 @@
 // The quotient of a table under a map: definitions, laws, and the answer's form. No code.
 
 // What writing the quotient answers.
-#[derive(Drop)]
+#[derive(Clone, Copy)]
 pub enum Written {
     // the quotient's length
     Length(usize),

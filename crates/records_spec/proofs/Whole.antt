@@ -45,7 +45,7 @@ module _ (alive : List ℕ → Bool) (m : List ℕ) where
 
   fate-past : (pre e : List (List ℕ)) (r : List ℕ) → ((x : List ℕ) → Memᴰ x pre → same (image m x) (image m r) ≡ false) → fate alive m (pre ++ e) r ≡ fate alive m e r
   unfolding fate
-  fate-past pre e r h = ap (λ k. elim (alive r) as (λ _. ℕ) [ true ↦ elim k as (λ _. ℕ) [ true ↦ 1 | false ↦ 0 ] | false ↦ 2 ]) (taken-past pre e r h)
+  fate-past pre e r h = ap {A = Bool} (λ k. elim (alive r) as (λ _. ℕ) [ true ↦ elim k as (λ _. ℕ) [ true ↦ 1 | false ↦ 0 ] | false ↦ 2 ]) (taken-past pre e r h)
 
   -- records whose images differ from those of rs fold none of rs
   fates_past : (pre e rs : List (List ℕ)) → Differ m pre rs → fates_behind alive m (pre ++ e) rs ≡ fates_behind alive m e rs

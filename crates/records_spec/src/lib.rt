@@ -1,7 +1,7 @@
 // Where the records of a table went under a map: definitions, laws, and the answer's form. No code.
 
 // What `records` answers.
-#[derive(Drop)]
+#[derive(Clone, Copy)]
 pub enum Recorded {
     // how many records there are, and how many of them are kept, folded and dead
     Counts {

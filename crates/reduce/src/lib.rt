@@ -21,7 +21,7 @@ use table_spec::{Reading, Starts};
 use table_view::Section;
 
 // The end of a search as its guesses, and whether none exists or the budget is spent.
-#[derive(Drop)]
+#[derive(Clone, Copy)]
 struct Made {
     absent: bool,
     guesses: u64,
@@ -69,7 +69,7 @@ fn deliver_held(
     ensures { ListWritten table.now result map.new out.new
         (λ L list. deliver L table.now list map.old out.old (map_of values.now n) guesses ceiling spent) }
 {
-    let classes = map_of_lem(values, n);
+    let classes = map_of(values, n);
     let joined = sat_trial::not_false(values);
     let found = classes.map;
     let count = n as usize;
@@ -77,7 +77,7 @@ fn deliver_held(
     match written {
         Written::Refused(number) => Reduction::Refused(number),
         Written::Length(length) => {
-            bytes::copy(&found[..count], map);
+            map[..count].copy_from_slice(&found[..count]);
             Reduction::Delivered {
                 classes: classes.count as usize,
                 guesses,

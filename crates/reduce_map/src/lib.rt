@@ -6,7 +6,7 @@ ghost use Rattle.reduce_map.specs.Lowest.{LowestJoined, MapOf};
 use bits::wide;
 
 // A class for each of the first states, and how many classes there are.
-#[derive(Drop)]
+#[derive(Clone, Copy)]
 pub struct Classes {
     pub map: [u8; 40],
     pub count: u8,
@@ -44,7 +44,7 @@ fn lowest_joined(values: &[u8], n: u8) -> [u8; 40]
 }
 
 // Numbers the classes by first member, from 0.
-pub fn map_of_lem(values: &[u8], n: u8) -> Classes
+pub fn map_of(values: &[u8], n: u8) -> Classes
     requires { (n ≤ 40) × (pairs n ≤ length values.now) }
     ensures { MapOf values.now n result }
 {

@@ -1,7 +1,7 @@
 // The reduction of a table: definitions, laws, and the answer's form. No code.
 
 // What reduce answers.
-#[derive(Drop)]
+#[derive(Clone, Copy)]
 pub enum Reduction {
     Delivered {
         classes: usize,

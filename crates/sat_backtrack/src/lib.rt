@@ -10,7 +10,7 @@ use sat_restore::restore;
 use sat_trail::undo;
 
 // The variable of a guess that is undone, now false and forced, and how many variables are set with it.
-#[derive(Drop)]
+#[derive(Clone, Copy)]
 pub struct Flipped {
     pub variable: usize,
     pub count: usize,

@@ -3,7 +3,7 @@ ghost use Rattle.std.specs.Prelude.{◌≤◌, length};
 ghost use Rattle.sat_decide.specs.Turns.{NextUnset, DueAt};
 
 // How the search ends, with the guesses made. The values left are those found, or where the budget is spent the trial that is held.
-#[derive(Drop)]
+#[derive(Clone, Copy)]
 pub enum Ending {
     Found(u64),
     Absent(u64),
@@ -11,7 +11,7 @@ pub enum Ending {
 }
 
 // What is due where the clauses are at rest: (c) nothing is unset, (d) the guesses made equal the budget, (e) the lowest unset variable is guessed.
-#[derive(Drop)]
+#[derive(Clone, Copy)]
 pub enum Due {
     Solved,
     Spent,

@@ -10,7 +10,7 @@ use sat_literal::{is_true, is_unset};
 use sat_trail::{force, wide};
 
 // Whether a clause is broken, how many variables are set, and how many clauses neither hold nor force.
-#[derive(Drop)]
+#[derive(Clone, Copy)]
 pub struct Scanned {
     pub broken: bool,
     pub count: usize,

@@ -22,7 +22,7 @@ use sat_trail::own_rows;
 use sat_trial::not_false;
 
 // How the search ends, and the ceiling: the variables that are not false at the first rest, where there is one.
-#[derive(Drop)]
+#[derive(Clone, Copy)]
 pub struct End {
     pub ending: Ending,
     pub ceiling: usize,

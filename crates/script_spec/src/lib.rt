@@ -1,7 +1,7 @@
 // What reading a script answers, and its definitions and laws. No code.
 
 // What reading a script answers.
-#[derive(Drop)]
+#[derive(Clone, Copy)]
 pub enum Read {
     // yes or no
     Answer(bool),

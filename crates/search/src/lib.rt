@@ -40,7 +40,7 @@ fn search_at(
     let ending = end.ending;
     match ending {
         Ending::Found(k) => {
-            bytes::copy(&values[..variables], answer);
+            answer[..variables].copy_from_slice(&values[..variables]);
             Solution::Solved(k)
         }
         Ending::Absent(_) => Solution::Refused(12),

@@ -1,7 +1,7 @@
 // The search over clause words: what is refused, definitions, laws, and the answer's form. No code.
 
 // What the search answers.
-#[derive(Drop)]
+#[derive(Clone, Copy)]
 pub enum Solution {
     // solved: the guesses made
     Solved(u64),

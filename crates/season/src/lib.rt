@@ -17,7 +17,7 @@ mod lengths;
 use lengths::lengths_fit;
 
 // One table's turn: its row of numbers, how many bytes of the maps and of the reduced tables it took, and its guesses.
-#[derive(Drop)]
+#[derive(Clone, Copy)]
 struct Turn {
     row: [u64; 8],
     states: usize,

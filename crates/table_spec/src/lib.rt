@@ -1,7 +1,7 @@
 // The table file: definitions, laws, and the form of what reading answers. No code.
 
 // "Reading answers the five section starts."
-#[derive(Drop)]
+#[derive(Clone, Copy)]
 pub struct Starts {
     pub symbols: usize,
     pub states: usize,
@@ -11,7 +11,7 @@ pub struct Starts {
 }
 
 // What reading a table answers.
-#[derive(Drop)]
+#[derive(Clone, Copy)]
 pub enum Reading {
     Sections(Starts),
     // 39, 1 to 8

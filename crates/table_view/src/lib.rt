@@ -9,7 +9,7 @@ ghost use Rattle.table_view.specs.Sections.{part_of, state_byte};
 use table_spec::Starts;
 
 // Which of the five sections.
-#[derive(Drop)]
+#[derive(Clone, Copy)]
 pub enum Section {
     Symbols,
     States,
@@ -19,7 +19,7 @@ pub enum Section {
 }
 
 // "the lent bytes together with its five section starts"
-#[derive(Drop)]
+#[derive(Clone, Copy)]
 pub struct TableView<'a> {
     pub bytes: &'a [u8],
     pub starts: Starts,

@@ -10,7 +10,7 @@ fn put_bytes(bytes: &[u8], out: &mut [u8])
     requires { length bytes.now ≤ length out.old }
     ensures { out.new ≡ over bytes.now out.old }
 {
-    bytes::copy(bytes, out);
+    out[..bytes.len()].copy_from_slice(bytes);
 }
 
 // A record by its key.

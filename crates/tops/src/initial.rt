@@ -26,7 +26,7 @@ fn clear(words: &mut [u64])
 }
 
 // A state's first word, by its byte: an initial state has bottom, numbered 40.
-fn start_word_lem(byte: u8) -> u64
+fn start_word(byte: u8) -> u64
     ensures { result ≡ start_word byte }
 {
     if byte % 2 == 1 {
@@ -43,7 +43,7 @@ pub fn start_words(states: &[u8], words: &mut [u64])
     clear(words);
     let mut q: usize = 0;
     'states: while q < states.len() {
-        words[q] = start_word_lem(states[q]);
+        words[q] = start_word(states[q]);
         q += 1;
     }
 }

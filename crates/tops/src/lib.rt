@@ -19,7 +19,7 @@ mod initial;
 pub use initial::{bit, start_words};
 
 // A table that was read, with its tops: what the other operations on a table go on with.
-#[derive(Drop)]
+#[derive(Clone, Copy)]
 pub struct Examined {
     pub number: u8,
     pub starts: Starts,
@@ -28,7 +28,7 @@ pub struct Examined {
 }
 
 // The kinds of records.
-#[derive(Drop)]
+#[derive(Clone, Copy)]
 enum Kind {
     Internal,
     Call,

@@ -1,7 +1,7 @@
 // Use counts by class: definitions, laws, and the answer's form. No code.
 
 // What counting answers: the refusal's number or 0, a sum for each possible state by its number as a class, and the total.
-#[derive(Drop)]
+#[derive(Clone, Copy)]
 pub struct Counted {
     pub number: u8,
     pub sums: [u64; 40],

@@ -240,7 +240,7 @@ walk-back-requires c κs =
     let p = (entry (head q)).pre in
     let i = (head q).turns.inv.0 in
     let s = q.propagate.ensures.0 in
-    ((p.0.All-there, rw (lengths q).values (laws.list-formed a.list.now a.n p.1.1.0.formed)), ((p.1.1.1.0, s.1), laws.can_retrace i s.0))
+    ((p.0.all_there, rw (lengths q).values (laws.list-formed a.list.now a.n p.1.1.0.formed)), ((p.1.1.1.0, s.1), laws.can_retrace i s.0))
 
 same-length-11 : tie.Need-same-length-11 invariant-turns decreases-turns
 same-length-11 c = (lengths (rested (spending c.before.before.before).before.before)).counters

@@ -7,7 +7,7 @@ use Rattle.sat_solve.proofs.finish.Tie as tie
 propagate-passes-requires : tie.Need-propagate-passes-requires
 propagate-passes-requires c κs =
     let the-pre = c.before.before.before.before.before.before.before.before.requires in
-    (the-pre.0.All-there, ((the-pre.0.ready, the-pre.0.queue), the-pre.1))
+    (the-pre.0.all_there, ((the-pre.0.ready, the-pre.0.queue), the-pre.1))
 
 same_length : tie.Need-same-length
 same_length c = search rules
@@ -45,7 +45,7 @@ turns-left-requires c κs =
     let c22 = c13.before.before.before.before.before.before.before.before.before in
     let the-propagate-passes = c13.propagate-passes in
     let the-pre = c22.requires in
-    (the-pre.0.All-there, (laws.first-rested the-pre.0 c22.args.budget the-propagate-passes.ensures.0 c8.if1.false, (the-pre.1.0, the-propagate-passes.ensures.1)))
+    (the-pre.0.all_there, (laws.first-rested the-pre.0 c22.args.budget the-propagate-passes.ensures.0 c8.if1.false, (the-pre.1.0, the-propagate-passes.ensures.1)))
 
 same-length-5 : tie.Need-same-length-5
 same-length-5 c = search rules

@@ -12,7 +12,7 @@ slice-aggregate-scan-clauses c = search rules
 scan-clauses-requires : tie.Need-scan-clauses-requires
 scan-clauses-requires c κs =
     let c9 = c.before.before.before.before.before.before.before.before.before in
-    ((c9.requires.0.0.All-there, λ _. c9.requires.0.1), (laws.list-ready c9.requires.0.0 c9.args.budget c9.requires.0.2, c9.requires.1))
+    ((c9.requires.0.0.all_there, λ _. c9.requires.0.1), (laws.list-ready c9.requires.0.0 c9.args.budget c9.requires.0.2, c9.requires.1))
 
 same_length : tie.Need-same-length
 same_length c = search rules

@@ -1,0 +1,14 @@
+-- `capi_answers::say_read` meets its contract: its values are stored, a refusal has none. Assumes nothing.
+use mathlib.Core.Path.{refl}
+use Rattle.script_spec.specs.Script.{read_number_of, read_values}
+use Rattle.capi_answers.proofs.Saying.{said, refused}
+use Rattle.capi_answers.proofs.say_read.Goals as goal
+
+pub returns-in-Answer : goal.returns-in-Answer
+unfolding read_number_of read_values
+returns-in-Answer c =
+    said read_number_of read_values c.in-Answer.is _ (rw c.yes_value.ensures at c.store.ensures)
+
+pub returns-in-Refused : goal.returns-in-Refused
+unfolding read_number_of read_values
+returns-in-Refused c = refused read_number_of read_values c.in-Refused.is _ refl

@@ -1,0 +1,8 @@
+-- `clauses_emit::emit::writes` meets its contract. Assumes nothing.
+use mathlib.Core.Path.{refl}
+use borrow.Author.Tests.{not-true, not-false}
+use Rattle.clauses_emit.proofs.Emitting.{writes_none, writes_full, writes_by}
+use Rattle.clauses_emit.proofs.emit.writes.Goals as goal
+
+pub returns-then-room-tally : goal.returns-then-room-tally
+returns-then-room-tally c = writes_full c.args.tally c.args.n c.args.room c.if-room-tally.true

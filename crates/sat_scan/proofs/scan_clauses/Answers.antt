@@ -1,0 +1,144 @@
+-- `sat_scan::scan_clauses` meets its contract. Between clauses: what was set so far are unit steps, each clause passed is settled or has a variable that
+-- was set, and it has a right literal or its place is put down. In a clause: what is seen of it is what is seen of the literals still to come, with the
+-- unset literal met so far. Assumes nothing.
+use native.Mathlib.Omega.{arith}
+use Prim.Native.Nat.{◌-◌}
+use mathlib.Core.Path.{◌≡◌, refl, sym, ap, ◌∙◌}
+use mathlib.Core.Logic.{⊎_elim}
+use mathlib.Core.Bool.{false}
+use lib.ListN.{length, get_or}
+use Rattle.sat_trail.proofs.Working.{worked-length, can_force}
+use Rattle.sat_literal.proofs.Walking.{end_inside, clause_in}
+use Rattle.sat_literal.proofs.Literals as asking
+use Rattle.sat_scan.proofs.Passing.{pass-clause}
+use Rattle.sat_scan.proofs.Scanning as laws
+use Rattle.sat_scan.proofs.scan_clauses.Goals as goal
+use Rattle.sat_scan.proofs.scan_clauses.Goals.{else-is_unset-2, then-is_unset-2}
+
+-- ---- what is left
+
+pub clauses-init : goal.clauses-init
+clauses-init c =
+    (laws.sifting c.requires.ready _ c.requires.list_value.0, refl, c.requires.pair_table.1, refl)
+
+pub overflow_add-at : goal.overflow_add-at
+overflow_add-at c =
+    omega (arith, end_inside c.clauses.invariant.0.passing.before c.clauses-test.true, c.wide.ensures, c.good.0)
+
+pub bounds-list-i : goal.bounds-list-i
+bounds-list-i c =
+    omega (arith, end_inside c.clauses.invariant.0.passing.before c.clauses-test.true, c.wide.ensures, c.if-i-at.true)
+
+pub is_true-requires : goal.is_true-requires
+is_true-requires c =
+    asking.next-below (pass-clause c.requires.ready c.clauses.invariant.0.passing c.clauses-test.true) (omega (arith, c.if-i-at.true, c.wide.ensures))
+
+pub clauses-preserved-then-is_true : goal.clauses-preserved-then-is_true
+clauses-preserved-then-is_true c =
+    let holds = asking.holds_by (pass-clause c.requires.ready c.clauses.invariant.0.passing c.clauses-test.true) (omega (arith, c.if-i-at.true, c.wide.ensures)) (sym c.is_true.ensures ∙ c.if-is_true.true) in
+    (rw c.wide.ensures (laws.scan_clauses_holding c.requires.ready c.clauses.invariant.0 c.clauses-test.true holds), c.clauses.invariant.1, c.clauses.invariant.2, c.clauses.invariant.3)
+
+pub is_unset-requires : goal.is_unset-requires
+is_unset-requires c =
+    asking.next-below (pass-clause c.requires.ready c.clauses.invariant.0.passing c.clauses-test.true) (omega (arith, c.if-i-at.true, c.wide.ensures))
+
+pub literals-init : goal.literals-init
+literals-init c =
+    let s = pass-clause c.requires.ready c.clauses.invariant.0.passing c.clauses-test.true in (
+      rw c.wide.ensures (laws.by_way
+          c.if-i-at.branch
+          (λ a.
+          let more : get_or c.args.list.now c.clauses.at 0 ≡ 0 → ⊥ = omega (arith, a.0.taken, c.wide.ensures) in
+          laws.by_way
+          a.7.came
+          (λ b. rw (a.8, a.9, a.10, b.1) (asking.step-unset s (omega (arith, more)) (omega arith) (sym a.6.ensures ∙ b.0.taken)))
+          (λ b. rw (a.8, a.9, a.10, b.1) (asking.last-any _ (asking.step_wrong s (omega (arith, more)) (sym a.3.ensures ∙ a.4.left) (sym a.6.ensures ∙ b.0.left)))))
+          (λ a. rw (a.1, a.2, a.3) s)),
+      c.clauses.invariant.1,
+      refl,
+      refl,
+    )
+
+pub is_true-requires-in-literals : goal.is_true-requires-in-literals
+is_true-requires-in-literals c = asking.next-below c.literals.invariant.0 c.if-i-at-2.false
+
+pub clauses-preserved-then-is_true-2 : goal.clauses-preserved-then-is_true-2
+clauses-preserved-then-is_true-2 c =
+    let i = c.literals.invariant in
+    let holds = asking.holds_by i.0 c.if-i-at-2.false (sym c.is_true-in-literals.ensures ∙ c.if-is_true-2.true) in
+    (rw c.wide.ensures (laws.scan_clauses_holding c.requires.ready (laws.scan_clauses_same c.clauses.invariant.0 i.2 i.3) c.clauses-test.true (rw c.wide.ensures at holds)), i.1, c.clauses.invariant.2, ap length i.3 ∙ c.clauses.invariant.3)
+
+pub is_unset-requires-in-literals : goal.is_unset-requires-in-literals
+is_unset-requires-in-literals c =
+    asking.next-below c.literals.invariant.0 c.if-i-at-2.false
+
+pub overflow_cast-places : goal.overflow_cast-places
+overflow_cast-places c =
+    omega (arith, c.requires.list_value.1 (omega (arith, c.if-kept-places.true, ap length c.literals.invariant.3, c.clauses.invariant.3)), c.clauses-test.true)
+
+pub overflow_add-kept : goal.overflow_add-kept
+overflow_add-kept c =
+    omega (arith, c.clauses.invariant.0.few, c.literals.invariant.2, c.clauses-test.true, c.good.0)
+
+pub clauses-preserved-then-unset-eq1 : goal.clauses-preserved-then-unset-eq1
+clauses-preserved-then-unset-eq1 c =
+    let i = c.literals.invariant in
+    let sees = asking.sees_second i.0 c.if-i-at-2.false c.if-unset-eq1.true (sym c.is_unset-in-literals.ensures ∙ c.if-is_unset-2.true) in
+    let long = ap length i.3 ∙ c.clauses.invariant.3 in
+    laws.by_way
+    c.if-kept-places.branch
+    (λ a. let p = laws.scan_clauses_put c.requires.ready (laws.scan_clauses_same c.clauses.invariant.0 i.2 i.3) c.clauses-test.true (rw c.wide.ensures at sees) a.1 in (rw c.wide.ensures p.0, i.1, c.clauses.invariant.2, p.1 ∙ long))
+    (λ a. let p = laws.scan_clauses_kept c.requires.ready (laws.scan_clauses_same c.clauses.invariant.0 i.2 i.3) c.clauses-test.true (rw c.wide.ensures at sees) (ap length a.1) (λ h. absurd (omega (arith, a.0.left, h))) in (rw c.wide.ensures p, i.1, c.clauses.invariant.2, ap length a.1 ∙ long))
+
+pub literals-preserved : goal.literals-preserved
+literals-preserved c =
+    let i = c.literals.invariant in
+    let more = c.if-i-at-2.false in
+    let u = c.is_unset-in-literals.ensures in (
+      elim c.if-is_unset-2.branch [ then-is_unset-2 a ↦ rw (a.2, a.3) (asking.step-unset i.0 more a.§-is.left (sym u ∙ a.if-is_unset-2.true)) | else-is_unset-2 a ↦ rw (a.§-is, a.2) (asking.step_wrong i.0 more (sym c.is_true-in-literals.ensures ∙ c.if-is_true-2.false) (sym u ∙ a.if-is_unset-2.false)) ],
+      i.1,
+      i.2,
+      i.3,
+    )
+
+pub force-count-requires : goal.force-count-requires
+force-count-requires c =
+    let i = c.clauses.invariant.0.passing in
+    let sees = asking.sees_forcing c.literals.invariant.0 c.if-i-at-2.true c.if-unset-eq0.false in
+    record { pair_table = c.requires.pair_table.0; settable = can_force c.requires.ready i.worked (clause_in i.before c.clauses-test.true) (rw c.wide.ensures at sees) c.clauses.invariant.2 }
+
+pub clauses-preserved : goal.clauses-preserved
+clauses-preserved c =
+    let i = c.literals.invariant in
+    let sees = asking.sees_forcing i.0 c.if-i-at-2.true c.if-unset-eq0.false in
+    let f = c.force-count.ensures in
+    (rw c.wide.ensures (laws.scan_clauses_forced c.requires.ready (laws.scan_clauses_same c.clauses.invariant.0 i.2 i.3) c.clauses-test.true (rw c.wide.ensures at sees) f), i.1, f.assigned.rows, ap length i.3 ∙ c.clauses.invariant.3)
+
+pub shape_of-values-after-clauses : goal.shape_of-values-after-clauses
+shape_of-values-after-clauses c = worked-length c.requires.ready c.clauses.invariant.0.passing.worked
+
+pub shape_of-trail-after-clauses : goal.shape_of-trail-after-clauses
+shape_of-trail-after-clauses c = c.clauses.invariant.0.passing.worked.grown.long
+
+pub shape_of-places-after-clauses : goal.shape_of-places-after-clauses
+shape_of-places-after-clauses c = c.clauses.invariant.3
+
+pub returns-after-clauses : goal.returns-after-clauses
+returns-after-clauses c =
+    record { sifts = rw c.clauses.invariant.1 (laws.scan_clauses_end c.requires.ready c.clauses.invariant.0 c.clauses-test.false); rows = c.clauses.invariant.2 }
+
+pub shape_of-values-then-unset-eq0 : goal.shape_of-values-then-unset-eq0
+shape_of-values-then-unset-eq0 c =
+    worked-length c.requires.ready c.clauses.invariant.0.passing.worked
+
+pub shape_of-trail-then-unset-eq0 : goal.shape_of-trail-then-unset-eq0
+shape_of-trail-then-unset-eq0 c = c.clauses.invariant.0.passing.worked.grown.long
+
+pub shape_of-places-then-unset-eq0 : goal.shape_of-places-then-unset-eq0
+shape_of-places-then-unset-eq0 c = ap length c.literals.invariant.3 ∙ c.clauses.invariant.3
+
+pub returns-then-unset-eq0 : goal.returns-then-unset-eq0
+returns-then-unset-eq0 c =
+    let i = c.literals.invariant in
+    let sees = asking.sees_broken i.0 c.if-i-at-2.true c.if-unset-eq0.true in
+    record { sifts = laws.scan_clauses_broken c.requires.ready (laws.scan_clauses_same c.clauses.invariant.0 i.2 i.3) c.clauses-test.true (rw c.wide.ensures at sees); rows = c.clauses.invariant.2 }

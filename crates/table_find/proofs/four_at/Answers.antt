@@ -1,0 +1,37 @@
+-- `table_find::four_at` meets its contract. Assumes nothing.
+use mathlib.Core.Path.{◌≡◌, refl}
+use native.Mathlib.Omega.{arith}
+use lib.ListN.{take, drop}
+use Rattle.table_find.specs.Keys.{key}
+use Rattle.table_find.proofs.Keys.{next_byte, part_small}
+use Rattle.table_find.proofs.four_at.Goals as goal
+
+pub two_at-requires : goal.two_at-requires
+two_at-requires c = omega (arith, c.requires)
+
+pub overflow_add-at : goal.overflow_add-at
+overflow_add-at c = omega (arith, c.requires, c.well_formed.0.0)
+
+pub bounds-section-at : goal.bounds-section-at
+bounds-section-at c = omega (arith, c.requires)
+
+pub with_byte-requires : goal.with_byte-requires
+with_byte-requires c =
+    omega (arith, c.two_at.ensures, part_small c.args.section.now (λ i. (c.shared_slice_known-1.given i).fits) c.args.at 2 (omega arith))
+
+pub overflow_add-at-2 : goal.overflow_add-at-2
+overflow_add-at-2 c =
+    omega (arith, c.requires, c.well_formed.0.0)
+
+pub bounds-section-at-2 : goal.bounds-section-at-2
+bounds-section-at-2 c = omega (arith, c.requires)
+
+pub with_byte-requires-2 : goal.with_byte-requires-2
+with_byte-requires-2 c =
+    let three : c.with_byte.result ≡ key (take 3 (drop c.args.at c.args.section.now)) = next_byte c.args.section.now c.args.at 2 c.two_at.ensures (omega (arith, c.requires)) refl c.with_byte.ensures in
+    omega (arith, three, part_small c.args.section.now (λ i. (c.shared_slice_known-1.given i).fits) c.args.at 3 (omega arith))
+
+pub returns : goal.returns
+returns c =
+    let three : c.with_byte.result ≡ key (take 3 (drop c.args.at c.args.section.now)) = next_byte c.args.section.now c.args.at 2 c.two_at.ensures (omega (arith, c.requires)) refl c.with_byte.ensures in
+    next_byte c.args.section.now c.args.at 3 three c.requires refl c.with_byte-2.ensures
