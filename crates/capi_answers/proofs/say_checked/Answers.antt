@@ -7,8 +7,11 @@ use Rattle.capi_answers.proofs.say_checked.Goals as goal
 pub returns-in-Accepted : goal.returns-in-Accepted
 unfolding checked_number checked_values
 returns-in-Accepted c =
-    said checked_number checked_values c.in-Accepted.is _ c.store.ensures
+    let the_facts = said checked_number checked_values c.in-Accepted.is _ c.store.ensures in
+    record { number = the_facts.0; values = the_facts.1 }
 
 pub returns-in-Refused : goal.returns-in-Refused
 unfolding checked_number checked_values
-returns-in-Refused c = refused checked_number checked_values c.in-Refused.is _ refl
+returns-in-Refused c =
+    let the_facts = refused checked_number checked_values c.in-Refused.is _ refl in
+    record { number = the_facts.0; values = the_facts.1 }

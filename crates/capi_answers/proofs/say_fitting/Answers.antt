@@ -7,13 +7,17 @@ use Rattle.capi_answers.proofs.say_fitting.Goals as goal
 pub returns-in-Yes : goal.returns-in-Yes
 unfolding fitting_number fitting_values
 returns-in-Yes c =
-    said fitting_number fitting_values c.in-Yes.is _ c.store.ensures
+    let the_facts = said fitting_number fitting_values c.in-Yes.is _ c.store.ensures in
+    record { number = the_facts.0; values = the_facts.1 }
 
 pub returns-in-No : goal.returns-in-No
 unfolding fitting_number fitting_values
 returns-in-No c =
-    said fitting_number fitting_values c.in-No.is _ c.store-in-No.ensures
+    let the_facts = said fitting_number fitting_values c.in-No.is _ c.store-in-No.ensures in
+    record { number = the_facts.0; values = the_facts.1 }
 
 pub returns-in-Refused : goal.returns-in-Refused
 unfolding fitting_number fitting_values
-returns-in-Refused c = refused fitting_number fitting_values c.in-Refused.is _ refl
+returns-in-Refused c =
+    let the_facts = refused fitting_number fitting_values c.in-Refused.is _ refl in
+    record { number = the_facts.0; values = the_facts.1 }

@@ -7,8 +7,11 @@ use Rattle.capi_answers.proofs.say_listed.Goals as goal
 pub returns-in-List : goal.returns-in-List
 unfolding listed_number listed_values
 returns-in-List c =
-    said listed_number listed_values c.in-List.is _ c.store.ensures
+    let the_facts = said listed_number listed_values c.in-List.is _ c.store.ensures in
+    record { number = the_facts.0; values = the_facts.1 }
 
 pub returns-in-Refused : goal.returns-in-Refused
 unfolding listed_number listed_values
-returns-in-Refused c = refused listed_number listed_values c.in-Refused.is _ refl
+returns-in-Refused c =
+    let the_facts = refused listed_number listed_values c.in-Refused.is _ refl in
+    record { number = the_facts.0; values = the_facts.1 }

@@ -7,8 +7,11 @@ use Rattle.capi_answers.proofs.say_reading.Goals as goal
 pub returns-in-Sections : goal.returns-in-Sections
 unfolding reading_number reading_values
 returns-in-Sections c =
-    said reading_number reading_values c.in-Sections.is _ c.store.ensures
+    let the_facts = said reading_number reading_values c.in-Sections.is _ c.store.ensures in
+    record { number = the_facts.0; values = the_facts.1 }
 
 pub returns-in-Refused : goal.returns-in-Refused
 unfolding reading_number reading_values
-returns-in-Refused c = refused reading_number reading_values c.in-Refused.is _ refl
+returns-in-Refused c =
+    let the_facts = refused reading_number reading_values c.in-Refused.is _ refl in
+    record { number = the_facts.0; values = the_facts.1 }

@@ -7,8 +7,11 @@ use Rattle.capi_answers.proofs.say_recorded.Goals as goal
 pub returns-in-Counts : goal.returns-in-Counts
 unfolding recorded_number recorded_values
 returns-in-Counts c =
-    said recorded_number recorded_values c.in-Counts.is _ c.store.ensures
+    let the_facts = said recorded_number recorded_values c.in-Counts.is _ c.store.ensures in
+    record { number = the_facts.0; values = the_facts.1 }
 
 pub returns-in-Refused : goal.returns-in-Refused
 unfolding recorded_number recorded_values
-returns-in-Refused c = refused recorded_number recorded_values c.in-Refused.is _ refl
+returns-in-Refused c =
+    let the_facts = refused recorded_number recorded_values c.in-Refused.is _ refl in
+    record { number = the_facts.0; values = the_facts.1 }

@@ -7,8 +7,11 @@ use Rattle.capi_answers.proofs.say_solution.Goals as goal
 pub returns-in-Solved : goal.returns-in-Solved
 unfolding solution_number solution_values
 returns-in-Solved c =
-    said solution_number solution_values c.in-Solved.is _ c.store.ensures
+    let the_facts = said solution_number solution_values c.in-Solved.is _ c.store.ensures in
+    record { number = the_facts.0; values = the_facts.1 }
 
 pub returns-in-Refused : goal.returns-in-Refused
 unfolding solution_number solution_values
-returns-in-Refused c = refused solution_number solution_values c.in-Refused.is _ refl
+returns-in-Refused c =
+    let the_facts = refused solution_number solution_values c.in-Refused.is _ refl in
+    record { number = the_facts.0; values = the_facts.1 }

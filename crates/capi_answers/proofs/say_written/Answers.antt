@@ -7,8 +7,11 @@ use Rattle.capi_answers.proofs.say_written.Goals as goal
 pub returns-in-Length : goal.returns-in-Length
 unfolding written_number written_values
 returns-in-Length c =
-    said written_number written_values c.in-Length.is _ c.store.ensures
+    let the_facts = said written_number written_values c.in-Length.is _ c.store.ensures in
+    record { number = the_facts.0; values = the_facts.1 }
 
 pub returns-in-Refused : goal.returns-in-Refused
 unfolding written_number written_values
-returns-in-Refused c = refused written_number written_values c.in-Refused.is _ refl
+returns-in-Refused c =
+    let the_facts = refused written_number written_values c.in-Refused.is _ refl in
+    record { number = the_facts.0; values = the_facts.1 }

@@ -13,7 +13,7 @@ use Rattle.sat_literal.proofs.Literals as asking
 use Rattle.sat_scan.proofs.Passing.{pass-clause}
 use Rattle.sat_scan.proofs.Scanning as laws
 use Rattle.sat_scan.proofs.scan_clauses.Goals as goal
-use Rattle.sat_scan.proofs.scan_clauses.Goals.{else-is_unset-2, then-is_unset-2}
+use Rattle.sat_scan.proofs.scan_clauses.Goals.{then-i-at+else-is_true, then-is_unset, else-is_unset, else-i-at, then-kept-places, else-kept-places, then-is_unset-2+else-unset-eq1, else-is_unset-2}
 
 -- ---- what is left
 
@@ -23,7 +23,7 @@ clauses-init c =
 
 pub overflow_add-at : goal.overflow_add-at
 overflow_add-at c =
-    omega (arith, end_inside c.clauses.invariant.0.passing.before c.clauses-test.true, c.wide.ensures, c.good.0)
+    omega (arith, end_inside c.clauses.invariant.0.passing.before c.clauses-test.true, c.wide.ensures, c.well_formed.0)
 
 pub bounds-list-i : goal.bounds-list-i
 bounds-list-i c =
@@ -45,15 +45,15 @@ is_unset-requires c =
 pub literals-init : goal.literals-init
 literals-init c =
     let s = pass-clause c.requires.ready c.clauses.invariant.0.passing c.clauses-test.true in (
-      rw c.wide.ensures (laws.by_way
-          c.if-i-at.branch
-          (λ a.
-          let more : get_or c.args.list.now c.clauses.at 0 ≡ 0 → ⊥ = omega (arith, a.0.taken, c.wide.ensures) in
-          laws.by_way
-          a.7.came
-          (λ b. rw (a.8, a.9, a.10, b.1) (asking.step-unset s (omega (arith, more)) (omega arith) (sym a.6.ensures ∙ b.0.taken)))
-          (λ b. rw (a.8, a.9, a.10, b.1) (asking.last-any _ (asking.step_wrong s (omega (arith, more)) (sym a.3.ensures ∙ a.4.left) (sym a.6.ensures ∙ b.0.left)))))
-          (λ a. rw (a.1, a.2, a.3) s)),
+      rw c.wide.ensures (elim c.if-i-at.branch [
+        | then-i-at+else-is_true a ↦
+            let more : get_or c.args.list.now c.clauses.at 0 ≡ 0 → ⊥ = omega (arith, a.if-i-at.true, c.wide.ensures) in
+            elim a.if-is_unset.branch [
+              | then-is_unset b ↦ rw (a.i-is, a.unset-is, a.last-is, b.unset-is) (asking.step-unset s (omega (arith, more)) (omega arith) (sym a.is_unset.ensures ∙ b.if-is_unset.true))
+              | else-is_unset b ↦ rw (a.i-is, a.unset-is, a.last-is, b.unset-is) (asking.last-any _ (asking.step_wrong s (omega (arith, more)) (sym a.is_true.ensures ∙ a.if-is_true.false) (sym a.is_unset.ensures ∙ b.if-is_unset.false)))
+            ]
+        | else-i-at a ↦ rw (a.i-is, a.unset-is, a.last-is) s
+      ]),
       c.clauses.invariant.1,
       refl,
       refl,
@@ -78,24 +78,29 @@ overflow_cast-places c =
 
 pub overflow_add-kept : goal.overflow_add-kept
 overflow_add-kept c =
-    omega (arith, c.clauses.invariant.0.few, c.literals.invariant.2, c.clauses-test.true, c.good.0)
+    omega (arith, c.clauses.invariant.0.few, c.literals.invariant.2, c.clauses-test.true, c.well_formed.0)
 
 pub clauses-preserved-then-unset-eq1 : goal.clauses-preserved-then-unset-eq1
 clauses-preserved-then-unset-eq1 c =
     let i = c.literals.invariant in
     let sees = asking.sees_second i.0 c.if-i-at-2.false c.if-unset-eq1.true (sym c.is_unset-in-literals.ensures ∙ c.if-is_unset-2.true) in
     let long = ap length i.3 ∙ c.clauses.invariant.3 in
-    laws.by_way
-    c.if-kept-places.branch
-    (λ a. let p = laws.scan_clauses_put c.requires.ready (laws.scan_clauses_same c.clauses.invariant.0 i.2 i.3) c.clauses-test.true (rw c.wide.ensures at sees) a.1 in (rw c.wide.ensures p.0, i.1, c.clauses.invariant.2, p.1 ∙ long))
-    (λ a. let p = laws.scan_clauses_kept c.requires.ready (laws.scan_clauses_same c.clauses.invariant.0 i.2 i.3) c.clauses-test.true (rw c.wide.ensures at sees) (ap length a.1) (λ h. absurd (omega (arith, a.0.left, h))) in (rw c.wide.ensures p, i.1, c.clauses.invariant.2, ap length a.1 ∙ long))
+    elim c.if-kept-places.branch [
+      | then-kept-places a ↦ let p = laws.scan_clauses_put c.requires.ready (laws.scan_clauses_same c.clauses.invariant.0 i.2 i.3) c.clauses-test.true (rw c.wide.ensures at sees) a.places-is in (rw c.wide.ensures p.0, i.1, c.clauses.invariant.2, p.1 ∙ long)
+      | else-kept-places a ↦
+          let p = laws.scan_clauses_kept c.requires.ready (laws.scan_clauses_same c.clauses.invariant.0 i.2 i.3) c.clauses-test.true (rw c.wide.ensures at sees) (ap length a.places-is) (λ h. absurd (omega (arith, a.if-kept-places.false, h))) in
+          (rw c.wide.ensures p, i.1, c.clauses.invariant.2, ap length a.places-is ∙ long)
+    ]
 
 pub literals-preserved : goal.literals-preserved
 literals-preserved c =
     let i = c.literals.invariant in
     let more = c.if-i-at-2.false in
     let u = c.is_unset-in-literals.ensures in (
-      elim c.if-is_unset-2.branch [ then-is_unset-2 a ↦ rw (a.2, a.3) (asking.step-unset i.0 more a.§-is.left (sym u ∙ a.if-is_unset-2.true)) | else-is_unset-2 a ↦ rw (a.§-is, a.2) (asking.step_wrong i.0 more (sym c.is_true-in-literals.ensures ∙ c.if-is_true-2.false) (sym u ∙ a.if-is_unset-2.false)) ],
+      elim c.if-is_unset-2.branch [
+        | then-is_unset-2+else-unset-eq1 a ↦ rw (a.unset-is, a.last-is) (asking.step-unset i.0 more a.if-unset-eq1.false (sym u ∙ a.if-is_unset-2.true))
+        | else-is_unset-2 a ↦ rw (a.unset-is, a.last-is) (asking.step_wrong i.0 more (sym c.is_true-in-literals.ensures ∙ c.if-is_true-2.false) (sym u ∙ a.if-is_unset-2.false))
+      ],
       i.1,
       i.2,
       i.3,

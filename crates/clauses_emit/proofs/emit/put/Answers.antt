@@ -13,7 +13,7 @@ use Rattle.clauses_emit.proofs.emit.put.Goals as goal
 
 pub returns-then-not-writes : goal.returns-then-not-writes
 returns-then-not-writes c =
-    let n_literals : c.args.clause.n ≡ length (literals_of c.args.clause) = let e : length c.args.clause.words ≡ 3 = whole c.args.clause.words c.well_formed.0.1.1.0.1.0.1 in
+    let n_literals : c.args.clause.n ≡ length (literals_of c.args.clause) = let e : length c.args.clause.words ≡ 3 = c.well_formed.0.1.1.0.1.0.1 in
     let k : c.args.clause.n ≤ length c.args.clause.words = omega (arith, c.requires.0) in
     sym (length-take-le c.args.clause.n c.args.clause.words k) in
     put_unwritten _ _ _ n_literals c.writes.ensures c.counted.ensures c.if-not-writes.true
@@ -40,7 +40,7 @@ store-requires c =
 
 pub returns : goal.returns
 returns c =
-    let n_literals : c.args.clause.n ≡ length (literals_of c.args.clause) = let e : length c.args.clause.words ≡ 3 = whole c.args.clause.words c.well_formed.0.1.1.0.1.0.1 in
+    let n_literals : c.args.clause.n ≡ length (literals_of c.args.clause) = let e : length c.args.clause.words ≡ 3 = c.well_formed.0.1.1.0.1.0.1 in
     let k : c.args.clause.n ≤ length c.args.clause.words = omega (arith, c.requires.0) in
     sym (length-take-le c.args.clause.n c.args.clause.words k) in
     put_stored _ _ _ n_literals c.writes.ensures c.counted-2.ensures c.if-not-writes.false c.store.ensures

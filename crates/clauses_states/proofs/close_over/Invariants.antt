@@ -1,0 +1,13 @@
+-- `clauses_states::close_over` meets its contract: the states so far have their clauses. Assumes nothing.
+use Prim.Native.Nat.{◌-◌}
+use Rattle.lists.specs.Lists.{concat_map}
+use Rattle.pairs.specs.Triangles.{triangle, past}
+use Rattle.clauses_emit.specs.Emit.{state}
+use Rattle.clauses_emit.proofs.Stepping.{Over}
+use Rattle.clauses_states.proofs.close_over.Given as goal
+
+abbrev pub invariant-states : goal.invariant-states
+invariant-states l = Over (λ l.s. triangle l.p l.q l.s) l.count (concat_map (λ l.s. triangle l.p l.q l.s) (past l.count l.q)) (state l.initial.at l.initial.list) l.s (state l.at l.list)
+
+abbrev pub decreases-states : goal.decreases-states
+decreases-states l = l.count - l.s

@@ -1,0 +1,15 @@
+-- `clauses_states::labels_apart` meets its contract: the variables so far have their clauses. Assumes nothing.
+use Prim.Native.Nat.{◌-◌}
+use Rattle.table_spec.specs.File.{of_states}
+use Rattle.lists.specs.Lists.{concat_map, upto}
+use Rattle.pairs.specs.Pairs.{pair_of}
+use Rattle.clauses_emit.specs.Emit.{state}
+use Rattle.clauses_states.specs.Alone.{look_clause}
+use Rattle.clauses_emit.proofs.Stepping.{Over}
+use Rattle.clauses_states.proofs.labels_apart.Given as goal
+
+abbrev pub invariant-variables : goal.invariant-variables
+invariant-variables l = Over (λ l.v. look_clause (of_states l.states) (pair_of l.v).low (pair_of l.v).high) l.end (concat_map (λ l.v. look_clause (of_states l.states) (pair_of l.v).low (pair_of l.v).high) (upto l.end)) (state l.initial.at l.initial.list) l.v (state l.at l.list)
+
+abbrev pub decreases-variables : goal.decreases-variables
+decreases-variables l = l.end - l.v

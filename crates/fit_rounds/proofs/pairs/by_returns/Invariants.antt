@@ -1,0 +1,11 @@
+-- `fit_rounds::pairs::by_returns` meets its contract. The invariant: what the records from here on do. Assumes nothing.
+use Rattle.fit_rounds.proofs.Passing.{Returning}
+use Prim.Native.Nat.{◌-◌}
+use lib.ListN.{length}
+use Rattle.fit_rounds.proofs.pairs.by_returns.Given as goal
+
+abbrev pub invariant-records : goal.invariant-records
+invariant-records l = Returning l.section l.next l.n l.initial.rows l.rows l.at
+
+abbrev pub decreases-records : goal.decreases-records
+decreases-records l = length l.section - l.at

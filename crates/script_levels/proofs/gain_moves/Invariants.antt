@@ -1,0 +1,11 @@
+-- `script_levels::gain_moves` meets its contract. Assumes nothing.
+use Prim.Native.Nat.{◌-◌}
+use Rattle.table_spec.specs.File.{records}
+use Rattle.script_levels.proofs.Stepping.{Running}
+use Rattle.script_levels.proofs.gain_moves.Given as goal
+
+abbrev pub invariant-records : goal.invariant-records
+invariant-records l = Running (λ r. l.w) 2 (records 3 l.section) l.from l.to l.initial.words l.k l.words
+
+abbrev pub decreases-records : goal.decreases-records
+decreases-records l = l.to - l.k

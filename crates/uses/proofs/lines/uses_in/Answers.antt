@@ -1,0 +1,10 @@
+-- `uses::lines::uses_in` meets its contract: the four bytes are below 256, so that the number fits. Assumes nothing.
+use borrow.Author.Rules.{rules}
+use Rattle.uses_spec.specs.Uses.{line_of}
+use Rattle.uses.proofs.lines.uses_in.Goals as goal
+
+pub returns : goal.returns
+unfolding line_of
+returns c =
+    let the_facts = search rules in
+    record { value = the_facts.0; small = the_facts.1 }
