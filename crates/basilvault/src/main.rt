@@ -1,5 +1,7 @@
 // Reduces the table on standard input, with 100,000 guesses and 32,768 clause words, and prints the counts, the class of each state, the reduced
 // table and where the records went; or the refusal. The text is made in a buffer and written at once.
+#![tactic(auto)]
+
 ghost use Rattle.std.specs.Prelude.{◌≡◌, ◌+◌, ◌≤◌, length, take};
 ghost use Rattle.io.specs.Counts.{IsPrefixLen};
 ghost use Rattle.print_spec.specs.Program.{widest};

@@ -1,4 +1,6 @@
 // A byte as an index and as a long number, and 64-bit words as sets of states: the states of a word one after the other.
+#![tactic(auto)]
+
 ghost use Rattle.std.specs.Prelude.{◌≡◌, ◌-◌, ◌^◌};
 ghost use Rattle.std.specs.Int.Count.{count_trailing_zeros};
 

@@ -1,6 +1,8 @@
 // The operations for programs in C: numbers and slices only.
 //
 // Each function returns the refusal's number, or 0. The answer's values are the first elements of `values` where it has room for all of them.
+#![tactic(auto)]
+
 ghost use Rattle.std.specs.Prelude.{◌≡◌, [], ◌∷◌};
 ghost use Rattle.limits.specs.Limits.{standard};
 ghost use Rattle.table_spec.specs.Reading.{read_of};

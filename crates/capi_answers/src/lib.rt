@@ -1,4 +1,6 @@
 // An operation's answer as C has it: a number, 0 where nothing is refused, and the answer's values, stored where there is room for all of them.
+#![tactic(auto)]
+
 ghost use Rattle.std.specs.Prelude.{◌≡◌};
 ghost use Rattle.table_spec.specs.Reading.{reading_number, reading_values};
 ghost use Rattle.clauses_spec.specs.Clauses.{listed_number, listed_values};

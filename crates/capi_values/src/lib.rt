@@ -1,4 +1,6 @@
 // The values of an answer as C has them, stored where there is room for all of them.
+#![tactic(auto)]
+
 ghost use Rattle.std.specs.Prelude.{◌≡◌, [], ◌∷◌, ◌++◌, length};
 ghost use Rattle.script_spec.specs.Script.{yes_value};
 ghost use Rattle.capi_values.specs.Storing.{stored};

@@ -23,6 +23,8 @@
 //
 // A line is the name, the refusal's number or 0, the answer's values and, each after a bar, the buffers at exit, which are filled with 7
 // beforehand. Choose prints which map it is, 1 or 2, or 0 with a refusal, and after the bar the map that is handed back.
+#![tactic(auto)]
+
 ghost use Rattle.std.specs.Prelude.{◌≡◌, ◌<◌, length, take};
 ghost use Rattle.lists.specs.Lists.{over};
 ghost use Rattle.cases.specs.Numbers.{word_at, double_at, long_at, words_in, longs_in};

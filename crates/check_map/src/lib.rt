@@ -1,4 +1,6 @@
 // Checking a state map.
+#![tactic(auto)]
+
 ghost use Rattle.std.specs.Prelude.{◌≡◌};
 ghost use Rattle.lists.specs.Lists.{first_failed};
 ghost use Rattle.limits.specs.Limits.{standard};

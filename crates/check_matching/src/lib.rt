@@ -1,4 +1,6 @@
 // Whether a map's relation meets the conditions (i) to (iv) of Definition 1.
+#![tactic(auto)]
+
 ghost use Rattle.std.specs.Prelude.{◌≡◌, true, ◌<◌, ◌≤◌, length, get_or, eqb};
 ghost use Rattle.lists.specs.Lists.{any};
 ghost use Rattle.lists.specs.Bits.{has};

@@ -1,4 +1,6 @@
 // A map's classes: a state's class, their numbering, their count.
+#![tactic(auto)]
+
 ghost use Rattle.std.specs.Prelude.{◌≡◌};
 ghost use Rattle.table_spec.specs.Maps.{class_of, classes, numbered};
 

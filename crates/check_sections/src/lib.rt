@@ -3,6 +3,8 @@
 // A room has a word for each symbol and each class of targets, by the least state of the class. A move has its state there as a bit, a return its stack state;
 // the moves of all states are in one room, the returns of each state in a room of their own. A record is matched where its word covers what it asks for: a move
 // the states that are joined to its own, a return, of a state q that is joined to its own, the tops of q that are joined to its stack state.
+#![tactic(auto)]
+
 ghost use Rattle.std.specs.Prelude.{◌≡◌, ◌<◌, ◌≤◌, length, get_or, take, eqb};
 ghost use Rattle.std.specs.Int.Bits.{bit_or};
 ghost use Rattle.lists.specs.Lists.{all, filter};

@@ -1,4 +1,5 @@
 // The check of a state map: definitions, laws, and the answer's form. No code.
+#![tactic(auto)]
 
 // What the check answers.
 #[derive(Clone, Copy)]

@@ -1,4 +1,6 @@
 // Two maps on the desk: that one of them which the check accepts.
+#![tactic(auto)]
+
 ghost use Rattle.std.specs.Prelude.{◌≡◌};
 ghost use Rattle.limits.specs.Limits.{standard};
 ghost use Rattle.check_map.specs.Known.{Known, WhereReadable};

@@ -1,4 +1,5 @@
 // Which of two maps is handed back: definitions, laws, and the answer's form. No code.
+#![tactic(auto)]
 
 // Which of two maps is handed back.
 #[derive(Clone, Copy)]

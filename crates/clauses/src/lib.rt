@@ -1,4 +1,6 @@
 // The clauses of a table.
+#![tactic(auto)]
+
 ghost use Rattle.std.specs.Prelude.{◌≡◌, ◌≤◌, min, length};
 ghost use Rattle.lists.specs.Lists.{over};
 ghost use Rattle.limits.specs.Limits.{standard, state_most};

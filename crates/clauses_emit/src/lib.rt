@@ -1,4 +1,6 @@
 // The clauses of a table, one by one: the literals of a clause collected, the clause counted and written.
+#![tactic(auto)]
+
 mod emit;
 mod literals;
 

@@ -1,4 +1,6 @@
 // The clauses of the records: groups 3 to 5 of the list.
+#![tactic(auto)]
+
 mod internals;
 mod returns;
 

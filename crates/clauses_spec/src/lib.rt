@@ -1,4 +1,5 @@
 // The clauses of a table and the map of an assignment: definitions, laws, and the answer's form. No code.
+#![tactic(auto)]
 
 // What writing the clause list answers.
 #[derive(Clone, Copy)]

@@ -1,4 +1,6 @@
 // The clauses of the states alone: groups 1 and 2 of the list.
+#![tactic(auto)]
+
 ghost use Rattle.std.specs.Prelude.{◌≡◌, [], ◌∷◌, ◌<◌, ◌≤◌, length};
 ghost use Rattle.table_spec.specs.File.{of_states};
 ghost use Rattle.lists.specs.Lists.{concat_map};

@@ -1,4 +1,6 @@
 // The clause of premises and the targets of which one is to be joined to a target.
+#![tactic(auto)]
+
 ghost use Rattle.std.specs.Prelude.{◌≡◌, ◌∷◌, ◌++◌, ◌+◌, ◌<◌, ◌≤◌, length, get_or};
 ghost use Rattle.lists.specs.Lists.{any, over};
 ghost use Rattle.clauses_spec.specs.Clauses.{premise};

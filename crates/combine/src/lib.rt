@@ -1,4 +1,6 @@
 // Two tables combined into one: the words that both accept, or those that one of them accepts.
+#![tactic(auto)]
+
 ghost use Rattle.std.specs.Prelude.{◌≡◌};
 ghost use Rattle.limits.specs.Limits.{standard};
 ghost use Rattle.table_view.specs.Sections.{ReadAs};

@@ -1,4 +1,6 @@
 // The equality solver: conclusions from pairs that are set, and from those that they set.
+#![tactic(auto)]
+
 ghost use Rattle.std.specs.Prelude.{◌≢◌, ◌<◌, length};
 ghost use Rattle.cnf.specs.Clauses.{value_of};
 ghost use Rattle.pairs.specs.Entries.{PairTable};

@@ -1,4 +1,6 @@
 // The equality solver: the pairs of one state with those of a word are set, and those of two states with those of two words.
+#![tactic(auto)]
+
 ghost use Rattle.pairs.specs.Triangles.{triangles};
 ghost use Rattle.sat_trail.specs.Trail.{Ready};
 ghost use Rattle.sat_trail.specs.Rows.{Rows};

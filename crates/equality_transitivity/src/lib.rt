@@ -1,4 +1,6 @@
 // The equality solver: what a pair that is joined or apart says of every third state.
+#![tactic(auto)]
+
 ghost use Rattle.std.specs.Prelude.{◌≡◌, ◌<◌};
 ghost use Rattle.cnf.specs.Clauses.{value_of};
 ghost use Rattle.pairs.specs.Pairs.{variable_of};

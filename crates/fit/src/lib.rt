@@ -1,4 +1,6 @@
 // Does the second table accept every word of the first?
+#![tactic(auto)]
+
 ghost use Rattle.std.specs.Prelude.{◌≡◌};
 ghost use Rattle.limits.specs.Limits.{standard};
 ghost use Rattle.table_view.specs.Sections.{ReadAs};

@@ -1,4 +1,6 @@
 // What one pair of states hands to another while their tops are walked: rows that gain tops, and links along which they flow. A row that changed is marked.
+#![tactic(auto)]
+
 ghost use Rattle.std.specs.Prelude.{◌≡◌, ◌+◌, ◌*◌, ◌<◌, ◌≤◌, get_or};
 ghost use Rattle.fit_rounds.specs.Rows.{Nexts};
 ghost use Rattle.fit_links.specs.Quick.{covered_in, FlowOn, GainOn, LinkOn};

@@ -1,4 +1,6 @@
 // What a pair of states pops is linked with the pair that it goes to.
+#![tactic(auto)]
+
 ghost use Rattle.std.specs.Prelude.{◌≡◌, ◌+◌, ◌*◌, ◌<◌, ◌≤◌, get_or};
 ghost use Rattle.fit_rounds.specs.Rows.{Named, Nexts};
 ghost use Rattle.fit_links.specs.Quick.{Place, PopsOver};

@@ -1,4 +1,6 @@
 // The tops of pairs of states as rows of bits, and one round over the records of the first table.
+#![tactic(auto)]
+
 mod pairs;
 mod rows;
 

@@ -1,4 +1,5 @@
 // Two tables compared: what the comparison answers. Definitions and theorems; the code is the crate `fit`.
+#![tactic(auto)]
 
 // What the comparison answers.
 #[derive(Clone, Copy)]

@@ -1,5 +1,7 @@
 // Most tops of pairs, before the rounds: a row that changed is marked and looked at again. What is found is a top; that none is missing the rounds
 // confirm, so nothing is asked of the marks, of the tops noted as done and of the places.
+#![tactic(auto)]
+
 ghost use Rattle.std.specs.Prelude.{◌<◌, ◌≤◌};
 ghost use Rattle.fit_rounds.specs.Rows.{Named, Nexts};
 ghost use Rattle.fit_links.specs.Quick.{AddsTops, Place, Places, WorklistInput, PushesOn, PopsOn, SpreadOn, LooksOn, LinksOn, AllLinks, AnyMarked};

@@ -1,4 +1,6 @@
 // A load that can be made again: a random table from a seed.
+#![tactic(auto)]
+
 ghost use Rattle.std.specs.Prelude.{◌≡◌, ◌+◌};
 ghost use Rattle.limits.specs.Limits.{standard};
 ghost use Rattle.generate_spec.specs.Loads.{load_of, sizes_fit, generate_of, GenerateSays};

@@ -1,4 +1,6 @@
 // The limits that a table is read at.
+#![tactic(auto)]
+
 ghost use Rattle.std.specs.Prelude.{◌≡◌};
 ghost use Rattle.limits.specs.Limits.{standard, limits_fit};
 

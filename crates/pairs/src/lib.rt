@@ -1,4 +1,6 @@
 // Pairs of states as variables (document 01, "Pairs and clauses"): the formula, and a constant table for the way back.
+#![tactic(auto)]
+
 ghost use Rattle.std.specs.Prelude.{◌≡◌};
 ghost use Rattle.pairs.specs.Pairs.{pairs, variable_of};
 

@@ -1,4 +1,6 @@
 // The lines that the program prints, put into a buffer one after the other.
+#![tactic(auto)]
+
 ghost use Rattle.std.specs.Prelude.{◌+◌, ◌*◌, ◌≤◌, length};
 ghost use Rattle.print_spec.specs.Lines.{Put, spent_text, counts_text, map_text, table_text};
 

@@ -1,4 +1,6 @@
 // Writing the quotient of a table under a map.
+#![tactic(auto)]
+
 ghost use Rattle.std.specs.Prelude.{◌≡◌};
 ghost use Rattle.limits.specs.Limits.{standard};
 ghost use Rattle.table_spec.specs.File.{bytes_of};

@@ -1,4 +1,5 @@
 // The quotient of a table under a map: definitions, laws, and the answer's form. No code.
+#![tactic(auto)]
 
 // What writing the quotient answers.
 #[derive(Clone, Copy)]

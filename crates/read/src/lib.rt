@@ -1,4 +1,6 @@
 // The table file: reading it.
+#![tactic(auto)]
+
 ghost use Rattle.std.specs.Prelude.{◌≡◌, true, ◌+◌, ◌≤◌, ◌<◌, length};
 ghost use Rattle.lists.specs.Lists.{first_failed};
 ghost use Rattle.limits.specs.Limits.{standard, limits_fit};

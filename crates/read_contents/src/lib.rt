@@ -1,4 +1,6 @@
 // What the five sections of a file hold: the tests 4 to 8 of reading.
+#![tactic(auto)]
+
 ghost use Rattle.std.specs.Prelude.{◌≡◌, [], ◌≤◌, ◌<◌, length, ltb};
 ghost use Rattle.lists.specs.Lists.{any, all, first_failed};
 ghost use Rattle.table_spec.specs.File.{records};

@@ -1,4 +1,6 @@
 // Where the records of a table went under a map.
+#![tactic(auto)]
+
 ghost use Rattle.std.specs.Prelude.{◌≡◌, ◌+◌, ◌/◌, ◌≤◌, length};
 ghost use Rattle.lists.specs.Lists.{over, first_failed};
 ghost use Rattle.limits.specs.Limits.{standard};

@@ -2,6 +2,8 @@
 //
 // An image that is met is stamped in a room that has a place for each symbol and two classes. Each pass has a stamp of its own, so the room is cleared
 // once.
+#![tactic(auto)]
+
 ghost use Rattle.std.specs.Prelude.{◌≡◌, ◌+◌, ◌-◌, ◌<◌, ◌≤◌, length};
 ghost use Rattle.lists.specs.Lists.{over};
 ghost use Rattle.table_spec.specs.File.{records};

@@ -1,4 +1,5 @@
 // Where the records of a table went under a map: definitions, laws, and the answer's form. No code.
+#![tactic(auto)]
 
 // What `records` answers.
 #[derive(Clone, Copy)]

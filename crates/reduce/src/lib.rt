@@ -1,4 +1,6 @@
 // Reducing a table.
+#![tactic(auto)]
+
 ghost use Rattle.std.specs.Prelude.{◌≡◌, ◌≤◌, length};
 ghost use Rattle.limits.specs.Limits.{standard};
 ghost use Rattle.table_spec.specs.File.{table_of};

@@ -1,4 +1,6 @@
 // The map of an assignment: joined states in one class, the classes numbered by first member.
+#![tactic(auto)]
+
 ghost use Rattle.std.specs.Prelude.{◌≡◌, ◌≤◌, length};
 ghost use Rattle.pairs.specs.Pairs.{pairs};
 ghost use Rattle.reduce_map.specs.Lowest.{LowestJoined, MapOf};

@@ -1,4 +1,5 @@
 // The reduction of a table: definitions, laws, and the answer's form. No code.
+#![tactic(auto)]
 
 // What reduce answers.
 #[derive(Clone, Copy)]

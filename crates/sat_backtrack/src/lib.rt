@@ -1,4 +1,6 @@
 // Backtracking: a guess is undone, and the counters of the clauses go back with the values.
+#![tactic(auto)]
+
 ghost use Rattle.std.specs.Prelude.{◌≡◌, ◌+◌, length};
 ghost use Rattle.pairs.specs.Entries.{PairTable};
 ghost use Rattle.sat_trail.specs.Rows.{Rows};

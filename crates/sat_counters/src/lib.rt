@@ -1,4 +1,6 @@
 // A counter for each clause: the weights of its literals that are not false.
+#![tactic(auto)]
+
 ghost use Rattle.std.specs.Prelude.{◌≡◌, true, ◌≤◌, length};
 ghost use Rattle.cnf.specs.Clauses.{clauses_in, whole};
 ghost use Rattle.cnf.specs.Closing.{Formed};

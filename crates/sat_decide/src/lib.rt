@@ -1,4 +1,6 @@
 // How the search ends, and what is due at a turn where the clauses are at rest.
+#![tactic(auto)]
+
 ghost use Rattle.std.specs.Prelude.{◌≤◌, length};
 ghost use Rattle.sat_decide.specs.Turns.{NextUnset, DueAt};
 

@@ -1,4 +1,6 @@
 // Whether a literal is true or unset under the values.
+#![tactic(auto)]
+
 ghost use Rattle.std.specs.Prelude.{◌≡◌, ◌+◌, ◌/◌, ◌%◌, ◌<◌, length, eqb};
 ghost use Rattle.cnf.specs.Search.{is_right, is_unset};
 

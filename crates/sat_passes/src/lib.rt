@@ -1,4 +1,6 @@
 // Unit propagation by passes over the whole list, until a pass sets nothing or a clause is in conflict.
+#![tactic(auto)]
+
 ghost use Rattle.std.specs.Prelude.{◌≡◌, true};
 ghost use Rattle.cnf.specs.Clauses.{whole};
 ghost use Rattle.pairs.specs.Entries.{PairTable};

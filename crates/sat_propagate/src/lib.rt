@@ -1,4 +1,6 @@
 // Unit propagation: a variable that is set leads to the clauses in which its falsified literal stands, and to no others; without an index, to its segments.
+#![tactic(auto)]
+
 ghost use Rattle.std.specs.Prelude.{◌≡◌, ◌≤◌, length};
 ghost use Rattle.pairs.specs.Entries.{PairTable};
 ghost use Rattle.sat_trail.specs.Conclusions.{with_triangles};

@@ -1,4 +1,6 @@
 // The counters of the clauses, as they were before a guess.
+#![tactic(auto)]
+
 ghost use Rattle.std.specs.Prelude.{◌≡◌, ◌≤◌, length};
 ghost use Rattle.sat_counters.specs.Counters.{Indexed};
 ghost use Rattle.sat_counters.specs.Earlier.{CountersBefore};

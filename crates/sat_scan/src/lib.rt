@@ -1,4 +1,6 @@
 // One scan of the clauses of a list: the literals of unit clauses are set, until the end or a conflict.
+#![tactic(auto)]
+
 ghost use Rattle.std.specs.Prelude.{◌≡◌, true, ◌≤◌, ◌<◌, length};
 ghost use Rattle.cnf.specs.Clauses.{clauses_in, whole};
 ghost use Rattle.pairs.specs.Entries.{PairTable};

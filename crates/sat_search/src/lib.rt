@@ -1,4 +1,6 @@
 // The turns of the search: unit propagation, then a guess is undone or made.
+#![tactic(auto)]
+
 ghost use Rattle.std.specs.Prelude.{◌≡◌, length};
 ghost use Rattle.cnf.specs.Trials.{not_false, search_tried};
 ghost use Rattle.pairs.specs.Entries.{PairTable};

@@ -1,4 +1,6 @@
 // Unit propagation over a long list by segments: where variables were set, only the segments in which one of them stands are scanned.
+#![tactic(auto)]
+
 ghost use Rattle.std.specs.Prelude.{◌≡◌, true, ◌%◌, ◌/◌, ◌^◌, ◌≤◌, ◌<◌, length};
 ghost use Rattle.std.proofs.Math.Seq.{slice};
 ghost use Rattle.lists.specs.Bits.{has};

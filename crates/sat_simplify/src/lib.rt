@@ -1,4 +1,6 @@
 // What is left of a list after the first scan: a clause with a true literal holds for good, since nothing was guessed yet.
+#![tactic(auto)]
+
 ghost use Rattle.std.specs.Prelude.{◌≡◌, ◌++◌, ℕ, ◌+◌, ◌*◌, ◌≤◌, length, take};
 ghost use Rattle.lists.specs.Lists.{any};
 ghost use Rattle.cnf.specs.Clauses.{value_of, clauses_in};

@@ -1,4 +1,6 @@
 // The search over clauses that fit: a first pass, then the turns over what it leaves of the list.
+#![tactic(auto)]
+
 ghost use Rattle.std.specs.Prelude.{◌≡◌, true, ◌≤◌, ◌<◌, length};
 ghost use Rattle.cnf.specs.Clauses.{whole};
 ghost use Rattle.cnf.specs.Trials.{not_false, search_tried};

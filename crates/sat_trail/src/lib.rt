@@ -1,4 +1,6 @@
 // Variables that are set, and unset again along the trail: their values, and the words of joined and apart states.
+#![tactic(auto)]
+
 ghost use Rattle.std.specs.Prelude.{◌≡◌, ◌-◌, ◌%◌};
 
 mod retract;

@@ -1,4 +1,6 @@
 // Trials: the variables that are true so far, with all others false, against the clauses.
+#![tactic(auto)]
+
 ghost use Rattle.std.specs.Prelude.{◌≡◌, true, ◌/◌, ◌<◌, length, take};
 ghost use Rattle.lists.specs.Lists.{any};
 ghost use Rattle.cnf.specs.Clauses.{clauses_in, whole};

@@ -1,4 +1,6 @@
 // Clauses that have at most one literal left, by their counters: unit clauses are propagated, an empty one is a conflict.
+#![tactic(auto)]
+
 ghost use Rattle.std.specs.Prelude.{◌≤◌, length};
 ghost use Rattle.cnf.specs.Clauses.{clauses_in};
 ghost use Rattle.pairs.specs.Entries.{PairTable};

@@ -1,4 +1,6 @@
 // Reading a script: by levels, which say what is reached on the empty stack and after each open call.
+#![tactic(auto)]
+
 ghost use Rattle.std.specs.Prelude.{◌≡◌, ◌≤◌, length};
 ghost use Rattle.lists.specs.Lists.{first_failed};
 ghost use Rattle.limits.specs.Limits.{standard};

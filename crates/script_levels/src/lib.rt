@@ -1,4 +1,6 @@
 // Levels of a script: what is reached on the empty stack and after each open call, symbol by symbol, by an index of each section.
+#![tactic(auto)]
+
 ghost use Rattle.std.specs.Prelude.{◌≡◌, [], ◌≤◌, ◌<◌, length};
 ghost use Rattle.std.proofs.Math.Seq.{slice};
 ghost use Rattle.lists.specs.Bits.{has_bit};

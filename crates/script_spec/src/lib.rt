@@ -1,4 +1,5 @@
 // What reading a script answers, and its definitions and laws. No code.
+#![tactic(auto)]
 
 // What reading a script answers.
 #[derive(Clone, Copy)]

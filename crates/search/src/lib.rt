@@ -1,4 +1,6 @@
 // The search over clause words.
+#![tactic(auto)]
+
 ghost use Rattle.std.specs.Prelude.{◌≡◌, true, ◌≤◌};
 ghost use Rattle.limits.specs.Limits.{standard, limits_fit};
 ghost use Rattle.pairs.specs.Pairs.{pairs};

@@ -1,4 +1,5 @@
 // The search over clause words: what is refused, definitions, laws, and the answer's form. No code.
+#![tactic(auto)]
 
 // What the search answers.
 #[derive(Clone, Copy)]

@@ -1,4 +1,6 @@
 // The records of a section that start with a key, found through the file's order. Records and keys are compared as numbers.
+#![tactic(auto)]
+
 ghost use Rattle.std.specs.Prelude.{◌≡◌, [], ◌∷◌, ◌+◌, ◌-◌, ◌*◌, ◌/◌, ◌^◌, ◌<◌, ◌≤◌, length, take, drop};
 ghost use Rattle.table_find.specs.Keys.{key, Keyed};
 ghost use Rattle.table_find.specs.Spans.{FirstOf, LastFrom, StartingOf};

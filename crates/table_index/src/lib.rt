@@ -1,4 +1,6 @@
 // An index of a section: where the records of each state and symbol begin, and the block that they are.
+#![tactic(auto)]
+
 ghost use Rattle.std.specs.Prelude.{◌≡◌, [], ◌∷◌, ◌≤◌, ◌<◌, length};
 ghost use Rattle.lists.specs.Lists.{filter};
 ghost use Rattle.table_spec.specs.File.{records};

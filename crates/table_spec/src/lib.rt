@@ -1,4 +1,5 @@
 // The table file: definitions, laws, and the form of what reading answers. No code.
+#![tactic(auto)]
 
 // "Reading answers the five section starts."
 #[derive(Clone, Copy)]

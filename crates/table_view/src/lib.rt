@@ -1,6 +1,8 @@
 // A read table as it is passed on: the lent bytes together with the five section starts. A function that takes or makes the view is proved by hand,
 // so there are few, and each hands the bytes and the starts to a function that is not. `part` has plain parameters and serves every caller.
 // Nothing is asked of the starts: bytes that are not there are left out of a section.
+#![tactic(auto)]
+
 ghost use Rattle.std.specs.Prelude.{◌≡◌};
 ghost use Rattle.std.proofs.Math.Seq.{slice};
 ghost use Rattle.table_spec.specs.File.{trailer};

@@ -1,4 +1,6 @@
 // Writing a table, section by section: each writer is lent the remaining output.
+#![tactic(auto)]
+
 ghost use Rattle.std.specs.Prelude.{◌≡◌, ◌+◌, ◌*◌, ◌^◌, ◌<◌, ◌≤◌, length};
 ghost use Rattle.lists.specs.Lists.{concat_map, over};
 ghost use Rattle.table_spec.specs.File.{bytes16, bytes_of};

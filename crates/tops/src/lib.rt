@@ -1,4 +1,6 @@
 // The reachable stack tops of a table.
+#![tactic(auto)]
+
 ghost use Rattle.std.specs.Prelude.{◌≡◌, suc, ◌*◌, ◌<◌, ◌≤◌, [], length, take};
 ghost use Rattle.std.specs.Int.Count.{ones_in};
 ghost use Rattle.lists.specs.Bits.{has, ones_over};

@@ -1,4 +1,5 @@
 // The reachable stack tops of a table: definitions, laws, and the answer's form. No code.
+#![tactic(auto)]
 
 // What tops answers: the refusal's number or 0, a word for each possible state, and the number of tops found.
 #[derive(Clone, Copy)]

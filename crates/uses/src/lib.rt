@@ -1,4 +1,6 @@
 // Use counts by class.
+#![tactic(auto)]
+
 ghost use Rattle.std.specs.Prelude.{◌≡◌, ◌*◌, ◌≤◌, length};
 ghost use Rattle.lists.specs.Lists.{first_failed};
 ghost use Rattle.limits.specs.Limits.{standard};

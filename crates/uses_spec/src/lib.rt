@@ -1,4 +1,5 @@
 // Use counts by class: definitions, laws, and the answer's form. No code.
+#![tactic(auto)]
 
 // What counting answers: the refusal's number or 0, a sum for each possible state by its number as a class, and the total.
 #[derive(Clone, Copy)]

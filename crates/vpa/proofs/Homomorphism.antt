@@ -1,6 +1,6 @@
 -- A homomorphism of automata: a map of states that respects initial states and moves. The image of a run is a run. Assumes nothing.
 use Prim.Native.Nat.{ℕ}
-use Rattle.vpa.specs.Automata.{Automaton, Configuration, ◌at◌, Step, internally, calling, returning}
+use Rattle.vpa.specs.Automata.{Automaton, Configuration, Step, internally, calling, returning}
 use Rattle.vpa.specs.Quotients.{Corresponds}
 use Rattle.vpa.proofs.Simulation.{Simulation}
 use Rattle.vpa.proofs.Correspondence.{image, image_path, image_corresponds}

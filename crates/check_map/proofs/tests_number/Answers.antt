@@ -1,6 +1,5 @@
 -- `check_map::tests_number` meets its contract, test by test. Assumes nothing.
 use Rattle.check_map.proofs.Checking.{number_15, number_16, number_17, number_18, number_19, number_20, number_0, lent-states}
-use borrow.Author.Tests.{not-true, not-false}
 use mathlib.Core.Path.{sym, ◌∙◌}
 use Rattle.check_map.proofs.tests_number.Goals as goal
 

@@ -1,7 +1,6 @@
 -- `check_matching::labels_agree` meets its contract: the states before this one agree with the first of their class. Assumes nothing.
 use Rattle.check_matching.proofs.Looks.{Looking, looking, look_on, look_first, looks_differ, looks_alike}
 use Rattle.table_spec.specs.Language.{agreed_on}
-use mathlib.Core.Logic.{⊎_elim}
 use mathlib.Core.Path.{refl, sym, ap, ◌∙◌, subst}
 use mathlib.Core.List.{List}
 use Prim.Native.Nat.{ℕ, ◌+◌, ◌-◌}

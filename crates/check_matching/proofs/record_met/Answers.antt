@@ -3,10 +3,8 @@ use Rattle.check_matching.specs.Matching.{record_matched}
 use Rattle.table_spec.specs.Maps.{class_of}
 use Rattle.check_matching.proofs.Matched.{by_class, record_apart, record_dead}
 use Rattle.lists.proofs.Upto.{counting, all-passed, all_failed, all_done}
-use borrow.Author.Tests.{not-true, not-false}
 use native.Mathlib.Omega.{arith}
 use Prim.Native.Nat.{◌-◌}
-use mathlib.Core.Logic.{⊎_elim}
 use mathlib.Core.Path.{sym, ap, ◌∙◌}
 use Rattle.check_matching.proofs.record_met.Goals as goal
 use Rattle.check_matching.proofs.record_met.Goals.{else-is_in, then-is_in+else-not-record_matched}

@@ -2,7 +2,6 @@
 use Rattle.check_matching.specs.Matching.{record_met}
 use Rattle.table_spec.specs.File.{records}
 use Rattle.table_find.proofs.Walks.{begin, records-passed, records_failed, records-done}
-use borrow.Author.Tests.{not-true, not-false}
 use native.Mathlib.Omega.{arith}
 use Prim.Native.Nat.{◌-◌}
 use mathlib.Core.Path.{sym, ◌∙◌}

@@ -3,7 +3,6 @@ use mathlib.Core.Path.{sym, ◌∙◌}
 use mathlib.Core.List.{[], ◌∷◌}
 use native.Mathlib.Omega.{arith}
 use lib.ListN.{get_or}
-use borrow.Author.Tests.{not-true, not-false}
 use Rattle.check_matching.proofs.Matched.{by_class, stack-apart, not-under, return_by}
 use Rattle.check_matching.proofs.return_matched.Goals as goal
 

@@ -2,7 +2,6 @@
 use Rattle.check_spec.specs.Check.{return_matched}
 use Rattle.table_spec.specs.Maps.{class_of}
 use Rattle.lists.proofs.Upto.{counting, all-passed, all_failed, all_done}
-use borrow.Author.Tests.{not-true, not-false}
 use native.Mathlib.Omega.{arith}
 use Prim.Native.Nat.{◌-◌}
 use mathlib.Core.Path.{sym, ap, ◌∙◌}

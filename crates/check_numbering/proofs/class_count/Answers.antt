@@ -2,7 +2,6 @@
 use Rattle.check_spec.proofs.Numbered.{classing, class-more, class-within, classed_all}
 use native.Mathlib.Omega.{arith}
 use Prim.Native.Nat.{◌-◌}
-use mathlib.Core.Logic.{⊎_elim}
 use Rattle.check_numbering.proofs.class_count.Goals as goal
 use Rattle.check_numbering.proofs.class_count.Goals.{else-n-class, then-n-class}
 

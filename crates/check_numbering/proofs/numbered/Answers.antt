@@ -1,7 +1,6 @@
 -- `check_numbering::numbered` meets its contract: the states from here on are numbered from the next class. Assumes nothing.
 use Rattle.check_spec.proofs.Numbered.{numbering, number_past, number-new, number_old, numbered-all}
 use Prim.Native.Nat.{◌-◌}
-use mathlib.Core.Logic.{⊎_elim}
 use Rattle.check_numbering.proofs.numbered.Goals as goal
 use Rattle.check_numbering.proofs.numbered.Goals.{else-next-class-2, then-next-class-2}
 

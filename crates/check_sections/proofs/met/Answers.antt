@@ -2,7 +2,6 @@
 use Rattle.check_sections.proofs.Rooms.{all_ahead, ahead_on, placed-here}
 use Rattle.table_find.proofs.Walks.{begin, records-passed, records_failed, records-done}
 use Rattle.table_spec.specs.File.{records}
-use borrow.Author.Tests.{not-true, not-false}
 use mathlib.Core.Path.{sym, ◌∙◌}
 use Prim.Native.Nat.{◌-◌}
 use native.Mathlib.Omega.{arith}

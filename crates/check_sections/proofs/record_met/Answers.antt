@@ -2,7 +2,6 @@
 use Rattle.check_sections.proofs.Rooms.{bit-small, asked_met}
 use Rattle.check_matching.proofs.Matched.{spared, met}
 use Rattle.lists.specs.Bits.{has_bit}
-use borrow.Author.Tests.{not-true, not-false}
 use mathlib.Core.Path.{sym, ap, ◌∙◌}
 use native.Mathlib.Omega.{arith}
 use Rattle.check_sections.proofs.record_met.Goals as goal

@@ -1,7 +1,6 @@
 -- `check_sections::returns_matched` meets its contract: the states before this one match the returns. Assumes nothing.
 use Rattle.check_sections.proofs.States.{lent_lies, state_met, by_states}
 use Rattle.lists.proofs.Upto.{counting, all-passed, all_failed, all_done}
-use borrow.Author.Tests.{not-true, not-false}
 use mathlib.Core.Path.{sym, ◌∙◌}
 use Prim.Native.Nat.{◌-◌}
 use native.Mathlib.Omega.{arith}

@@ -7,7 +7,7 @@ use Rattle.clauses_emit.proofs.Stepping.{Over}
 use Rattle.clauses_states.proofs.close_from.Given as goal
 
 abbrev pub invariant-states : goal.invariant-states
-invariant-states l = Over (λ l.q. concat_map (λ s. triangle l.p l.q s) (past l.count l.q)) l.count (concat_map (λ l.q. concat_map (λ s. triangle l.p l.q s) (past l.count l.q)) (past l.count l.p)) (state l.initial.at l.initial.list) l.q (state l.at l.list)
+invariant-states l = Over (λ q. concat_map (λ s. triangle l.p q s) (past l.count q)) l.count (concat_map (λ q. concat_map (λ s. triangle l.p q s) (past l.count q)) (past l.count l.p)) (state l.initial.at l.initial.list) l.q (state l.at l.list)
 
 abbrev pub decreases-states : goal.decreases-states
 decreases-states l = l.count - l.q

@@ -7,7 +7,7 @@ use Rattle.clauses_emit.proofs.Stepping.{Over}
 use Rattle.clauses_states.proofs.close_over.Given as goal
 
 abbrev pub invariant-states : goal.invariant-states
-invariant-states l = Over (λ l.s. triangle l.p l.q l.s) l.count (concat_map (λ l.s. triangle l.p l.q l.s) (past l.count l.q)) (state l.initial.at l.initial.list) l.s (state l.at l.list)
+invariant-states l = Over (λ s. triangle l.p l.q s) l.count (concat_map (λ s. triangle l.p l.q s) (past l.count l.q)) (state l.initial.at l.initial.list) l.s (state l.at l.list)
 
 abbrev pub decreases-states : goal.decreases-states
 decreases-states l = l.count - l.s

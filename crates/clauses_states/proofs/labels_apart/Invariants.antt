@@ -9,7 +9,7 @@ use Rattle.clauses_emit.proofs.Stepping.{Over}
 use Rattle.clauses_states.proofs.labels_apart.Given as goal
 
 abbrev pub invariant-variables : goal.invariant-variables
-invariant-variables l = Over (λ l.v. look_clause (of_states l.states) (pair_of l.v).low (pair_of l.v).high) l.end (concat_map (λ l.v. look_clause (of_states l.states) (pair_of l.v).low (pair_of l.v).high) (upto l.end)) (state l.initial.at l.initial.list) l.v (state l.at l.list)
+invariant-variables l = Over (λ v. look_clause (of_states l.states) (pair_of v).low (pair_of v).high) l.end (concat_map (λ v. look_clause (of_states l.states) (pair_of v).low (pair_of v).high) (upto l.end)) (state l.initial.at l.initial.list) l.v (state l.at l.list)
 
 abbrev pub decreases-variables : goal.decreases-variables
 decreases-variables l = l.end - l.v

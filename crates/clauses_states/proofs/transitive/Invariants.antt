@@ -7,7 +7,7 @@ use Rattle.clauses_emit.proofs.Stepping.{Over}
 use Rattle.clauses_states.proofs.transitive.Given as goal
 
 abbrev pub invariant-states : goal.invariant-states
-invariant-states l = Over (λ l.p. concat_map (λ q. concat_map (λ s. triangle l.p q s) (past l.count q)) (past l.count l.p)) l.count (concat_map (λ l.p. concat_map (λ q. concat_map (λ s. triangle l.p q s) (past l.count q)) (past l.count l.p)) (upto l.count)) (state l.initial.at l.initial.list) l.p (state l.at l.list)
+invariant-states l = Over (λ p. concat_map (λ q. concat_map (λ s. triangle p q s) (past l.count q)) (past l.count p)) l.count (concat_map (λ p. concat_map (λ q. concat_map (λ s. triangle p q s) (past l.count q)) (past l.count p)) (upto l.count)) (state l.initial.at l.initial.list) l.p (state l.at l.list)
 
 abbrev pub decreases-states : goal.decreases-states
 decreases-states l = l.count - l.p

@@ -1,7 +1,6 @@
 -- `clauses_targets::left_out` meets its contract: none of the targets so far leaves the clause out. Assumes nothing.
 use Prim.Native.Nat.{◌-◌}
 use native.Mathlib.Omega.{arith}
-use Rattle.clauses_emit.proofs.Collecting.{whole}
 use Rattle.clauses_targets.proofs.Targeting.{leaving, leaves-itself, leaves-both, leaves_on, leaves_none}
 use Rattle.clauses_targets.proofs.left_out.Goals as goal
 
@@ -14,6 +13,10 @@ target_at-q-requires c = (c.requires.0, c.targets-test.true)
 pub returns-then-q-target : goal.returns-then-q-target
 returns-then-q-target c =
     leaves-itself c.requires.0 c.targets.invariant c.targets-test.true c.target_at-q.ensures c.if-q-target.true
+
+pub contains-requires : goal.contains-requires
+contains-requires c =
+    (omega (arith, c.requires.1), c.well_formed.1.1.1.1.0.1.1.0.1.0.1)
 
 pub returns-then-contains : goal.returns-then-contains
 returns-then-contains c =

@@ -1,5 +1,4 @@
 -- `combine::combine_both` meets its contract: 37, 35, or what is written. Assumes nothing.
-use borrow.Author.Tests.{not-true, not-false}
 use mathlib.Core.Path.{sym, ◌∙◌}
 use mathlib.Core.Bool.{true≢false}
 use native.Mathlib.Omega.{arith}

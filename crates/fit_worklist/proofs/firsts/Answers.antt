@@ -1,5 +1,4 @@
 -- `fit_worklist::firsts` meets its contract: records start at the places. Assumes nothing.
-use mathlib.Core.Logic.{⊎_elim}
 use Prim.Native.Nat.{◌-◌}
 use native.Mathlib.Omega.{arith}
 use Rattle.fit_links.proofs.Quickly.{placing, placing_on, placing_set}

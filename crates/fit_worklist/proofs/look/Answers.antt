@@ -2,7 +2,6 @@
 use mathlib.Core.Path.{sym, ◌∙◌}
 use native.Mathlib.Omega.{arith}
 use borrow.Author.Rules.{rules}
-use borrow.Author.Tests.{not-false}
 use Rattle.fit_rounds.proofs.Passing.{few-pairs}
 use Rattle.fit_links.proofs.Quickly.{look_told}
 use Rattle.fit_worklist.proofs.look.Goals as goal

@@ -3,7 +3,6 @@ use mathlib.Core.Path.{sym, ◌∙◌}
 use Prim.Native.Nat.{◌-◌}
 use native.Mathlib.Omega.{arith}
 use borrow.Author.Rules.{rules}
-use borrow.Author.Tests.{not-false}
 use Rattle.fit_rounds.proofs.Passing.{few-pairs}
 use Rattle.fit_links.proofs.Quickly.{popping_on, tops_on}
 use Rattle.fit_worklist.proofs.pop_all.Goals as goal

@@ -2,7 +2,6 @@
 use mathlib.Core.Path.{sym, ◌∙◌}
 use Prim.Native.Nat.{◌-◌}
 use native.Mathlib.Omega.{arith}
-use borrow.Author.Tests.{not-false}
 use Rattle.fit_links.proofs.Quickly.{spreading, spread_on}
 use Rattle.fit_worklist.proofs.spread.Goals as goal
 

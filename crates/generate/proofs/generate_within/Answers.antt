@@ -1,5 +1,4 @@
 -- `generate::generate_within` meets its contract: 39, 35, or what the draws give. Assumes nothing.
-use borrow.Author.Tests.{not-true, not-false}
 use Rattle.std.proofs.Common.{sym, ◌∙◌}
 use Rattle.generate_spec.specs.Loads.{Load, load_of}
 use Rattle.generate_spec.proofs.Theorems.{generated}

@@ -1,7 +1,6 @@
 -- `read::read_fit` meets its contract: the first refusal that applies, or the starts. Assumes nothing.
 use mathlib.Core.Path.{sym, ap, ◌∙◌}
 use native.Mathlib.Omega.{arith}
-use borrow.Author.Tests.{not-true, not-false}
 use Rattle.table_spec.specs.Reading.{version_fits}
 use Rattle.read.proofs.Numbers as numbers
 use Rattle.read.proofs.read_fit.Goals as goal

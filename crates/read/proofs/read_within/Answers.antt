@@ -1,6 +1,5 @@
 -- `read::read_within` meets its contract: 39 comes first. Assumes nothing.
 use mathlib.Core.Path.{sym, ◌∙◌}
-use borrow.Author.Tests.{not-true, not-false}
 use Rattle.table_spec.proofs.Passed.{read_promised}
 use Rattle.read.proofs.Numbers.{limits_refused}
 use Rattle.read.proofs.read_within.Goals as goal

@@ -1,5 +1,4 @@
 -- `read_contents::all_below` meets its contract: every byte so far is below the limit. Assumes nothing.
-use Prim.Native.Nat.{◌-◌}
 use borrow.Author.Tests.{lt-ltb, le-ltb}
 use Rattle.table_find.proofs.Walks as walks
 use Rattle.read_contents.proofs.all_below.Goals as goal

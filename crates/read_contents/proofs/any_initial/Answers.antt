@@ -1,5 +1,4 @@
 -- `read_contents::any_initial` meets its contract: no state so far is initial. Assumes nothing.
-use Prim.Native.Nat.{◌-◌}
 use borrow.Author.Tests.{eq-eqb, ne_eqb}
 use Rattle.table_spec.specs.Reading.{is_initial}
 use Rattle.table_find.proofs.Walks as walks

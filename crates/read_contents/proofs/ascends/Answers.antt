@@ -1,5 +1,4 @@
 -- `read_contents::ascends` meets its contract: the records so far ascend. Assumes nothing.
-use Prim.Native.Nat.{◌-◌}
 use native.Mathlib.Omega.{arith}
 use Rattle.table_find.proofs.Walks.{rising, too_few, risen, rises, falls}
 use Rattle.read_contents.proofs.ascends.Goals as goal

@@ -4,7 +4,6 @@ use Prim.Native.Nat.{◌+◌}
 use native.Mathlib.Omega.{arith}
 use lib.Dec.{ltb}
 use Rattle.lists.specs.Lists.{all}
-use borrow.Author.Tests.{not-true, not-false}
 use Rattle.table_spec.proofs.Versions.{byte_most}
 use Rattle.read_contents.proofs.Numbers as numbers
 use Rattle.read_contents.proofs.bytes_fit.Goals as goal

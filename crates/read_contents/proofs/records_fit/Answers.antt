@@ -1,9 +1,5 @@
 -- `read_contents::records_fit` meets its contract: the records so far fit. Assumes nothing.
-use Prim.Native.Nat.{◌-◌}
 use mathlib.Core.Path.{sym, ◌∙◌}
-use borrow.Author.Tests.{not-true, not-false}
-use Rattle.table_spec.specs.File.{records}
-use Rattle.table_spec.specs.Reading.{record_fits}
 use Rattle.table_find.proofs.Walks as walks
 use Rattle.read_contents.proofs.records_fit.Goals as goal
 

@@ -1,6 +1,5 @@
 -- `read_contents::sections_ascend` meets its contract: internals, calls, returns. Assumes nothing.
 use mathlib.Core.Path.{sym, ◌∙◌}
-use borrow.Author.Tests.{not-true, not-false}
 use Rattle.read_contents.proofs.Numbers as numbers
 use Rattle.read_contents.proofs.sections_ascend.Goals as goal
 

@@ -1,6 +1,5 @@
 -- `read_contents::sections_fit` meets its contract: internals, calls, returns. Assumes nothing.
 use mathlib.Core.Path.{sym, ◌∙◌}
-use borrow.Author.Tests.{not-true, not-false}
 use Rattle.read_contents.proofs.Numbers as numbers
 use Rattle.read_contents.proofs.sections_fit.Goals as goal
 

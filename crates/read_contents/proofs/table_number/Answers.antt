@@ -1,6 +1,5 @@
 -- `read_contents::table_number` meets its contract: the first test that fails. Assumes nothing.
 use mathlib.Core.Path.{sym, ◌∙◌}
-use borrow.Author.Tests.{not-true, not-false}
 use Rattle.read_contents.proofs.Numbers as numbers
 use Rattle.read_contents.proofs.table_number.Goals as goal
 

@@ -1,7 +1,6 @@
 -- `records_fates::count_of` meets its contract: the marks from here on are still to be counted. Assumes nothing.
 use Prim.Native.Nat.{◌-◌}
 use Rattle.records_fates.proofs.Counting.{counting, counted, one_more, another}
-use mathlib.Core.Logic.{⊎_elim}
 use Rattle.records_fates.proofs.count_of.Goals as goal
 use Rattle.records_fates.proofs.count_of.Goals.{else-marks-i, then-marks-i}
 

@@ -2,7 +2,6 @@
 use mathlib.Core.Path.{sym, ap, ◌∙◌, subst}
 use Prim.Native.Nat.{ℕ}
 use lib.ListN.{get_or, set}
-use borrow.Author.Tests.{not-true, not-false}
 use Rattle.records_fates.specs.Marks.{Stamped, dead, again, first}
 use Rattle.records_fates.proofs.mark_of.Goals as goal
 

@@ -1,7 +1,6 @@
 -- `sat_counters::weigh_clause` meets its contract. The loop's invariant: the weights of the literals ahead are still to be added. Assumes nothing.
 use borrow.Author.Rules.{rules}
 use native.Mathlib.Omega.{arith}
-use mathlib.Core.Logic.{⊎_elim}
 use Prim.Native.Nat.{◌-◌}
 use Rattle.sat_counters.proofs.Weighing as laws
 use Rattle.sat_counters.proofs.weigh_clause.Goals as goal

@@ -18,8 +18,8 @@ use Rattle.sat_propagate.proofs.propagate_indexed.Goals as goal
 
 pub queue-init : goal.queue-init
 queue-init c =
-    let p = c.requires.1 in
-    (record { queueing = laws.queueing p.0 p.1.0.0 }, p.1.1.1.1, p.1.1.0, refl, refl)
+    let p = c.requires in
+    (record { queueing = laws.queueing p.ready p.queue.0 }, p.pair_table.1, p.counters_before, refl, refl)
 
 pub offset_bounds-trail-at : goal.offset_bounds-trail-at
 offset_bounds-trail-at c =
@@ -53,7 +53,7 @@ shape_of-noted-then-a c = c.queue.invariant.4
 pub returns-then-a : goal.returns-then-a
 returns-then-a c =
     let Seen : List ℕ → List ℕ → Bool → ℕ → Type 0 = λ w s isBroken more. laws.SeenTo (with_triangles c.args.list.now c.args.n) (get_or c.queue.trail c.queue.at 0) (slice (c.queue.at + 1) c.queue.count c.queue.trail) c.queue.values c.queue.trail c.queue.count w s isBroken more in
-    let seen-broken : Seen c.conclude-a.last.1.1.1.0 c.conclude-a.last.1.1.1.1.0 c.conclude-a.result.broken c.conclude-a.result.count = groups.first-broken c.queue.invariant.0 c.queue-test.true c.conclude-a.ensures.0 c.if-a.true in
+    let seen-broken : Seen c.conclude-a.new.values c.conclude-a.new.trail c.conclude-a.result.broken c.conclude-a.result.count = groups.first-broken c.queue.invariant.0 c.queue-test.true c.conclude-a.ensures.0 c.if-a.true in
     let j = c.queue.invariant.0.queueing in
     record { settles = (drained_settles j.ready (laws.queue-broken j c.queue-test.true seen-broken c.if-a.true), c.conclude-a.ensures.1); caught = λ e. absurd (true≢false (sym c.if-a.true ∙ e)) }
 

@@ -4,7 +4,6 @@ use native.Mathlib.Omega.{arith}
 use mathlib.Core.Path.{sym, ◌∙◌}
 use Prim.Native.Nat.{◌+◌, ◌-◌, ◌<◌}
 use lib.ListN.{get_or}
-use borrow.Author.Tests.{not-true}
 use Rattle.sat_trail.proofs.Working.{worked-length}
 use Rattle.sat_segments.specs.Segments.{Span}
 use Rattle.sat_segments.proofs.Gathering.{gained-keeps}

@@ -1,5 +1,4 @@
 -- `sat_trial::held_value` meets its contract. Assumes nothing.
-use borrow.Author.Tests.{eq-eqb, ne_eqb}
 use Rattle.sat_trial.proofs.held_value.Goals as goal
 
 pub returns-else-holds : goal.returns-else-holds

@@ -1,7 +1,6 @@
 -- `sat_trial::trial_holds` meets its contract. The loop's invariant: whether every clause holds is whether those still to come do. Assumes nothing.
 use native.Mathlib.Omega.{arith}
 use Prim.Native.Nat.{◌-◌}
-use borrow.Author.Tests.{not-true, not-false}
 use Rattle.sat_literal.proofs.Walking.{end_inside}
 use Rattle.sat_literal.proofs.Literals.{lent-over}
 use Rattle.sat_trial.proofs.Trying as laws

@@ -1,5 +1,4 @@
 -- `script_levels::ended` meets its contract. Assumes nothing.
-use mathlib.Core.Logic.{⊎_elim}
 use Prim.Native.Nat.{◌-◌}
 use Rattle.script_levels.proofs.Ending.{ending, pass-state, pass-word, end_found, end_none}
 use Rattle.script_levels.proofs.ended.Goals as goal

@@ -2,7 +2,6 @@
 use native.Mathlib.Omega.{arith}
 use lib.Pow.{shl_exact}
 use Rattle.script_levels.proofs.Stepping.{gain-internal, gain-none, gain-call}
-use borrow.Author.Tests.{not-true, not-false}
 use mathlib.Core.Path.{refl, ◌∙◌}
 use Rattle.script_levels.proofs.gain.Goals as goal
 

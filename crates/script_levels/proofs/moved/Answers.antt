@@ -1,7 +1,6 @@
 -- `script_levels::moved` meets its contract. Assumes nothing.
 use native.Mathlib.Omega.{arith}
 use mathlib.Core.Path.{sym, ap, ◌∙◌}
-use mathlib.Core.Logic.{⊎_elim}
 use Prim.Native.Nat.{◌+◌, ◌*◌}
 use Prim.Native.Nat.{◌-◌}
 use Rattle.script_spec.specs.Script.{gain, moved}

@@ -1,7 +1,6 @@
 -- `script_levels::returned` meets its contract. Assumes nothing.
 use native.Mathlib.Omega.{arith}
 use mathlib.Core.Path.{refl}
-use mathlib.Core.Logic.{⊎_elim}
 use Prim.Native.Nat.{◌+◌, ◌*◌}
 use Prim.Native.Nat.{◌-◌}
 use lib.ListN.{get_or}

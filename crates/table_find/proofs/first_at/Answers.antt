@@ -1,5 +1,4 @@
 -- `table_find::first_at` meets its contract: the first record at the key stands between the two ends. Assumes nothing.
-use Prim.Native.Nat.{◌-◌}
 use native.Mathlib.Omega.{arith}
 use native.Mathlib.Nat.{div-le_self}
 use lib.ListN.{length}

@@ -1,5 +1,4 @@
 -- `table_find::last_at` meets its contract: the records so far start with the key. Assumes nothing.
-use Prim.Native.Nat.{◌-◌}
 use native.Mathlib.Omega.{arith}
 use native.Mathlib.Nat.{div-le_self}
 use lib.ListN.{length}

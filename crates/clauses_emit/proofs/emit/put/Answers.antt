@@ -5,9 +5,7 @@ use native.Mathlib.Omega.{arith}
 use lib.ListN.{length}
 use lib.Seq.{length-take-le}
 use borrow.Author.Rules.{rules}
-use borrow.Author.Tests.{not-true, not-false}
 use Rattle.clauses_emit.specs.Emit.{literals_of}
-use Rattle.clauses_emit.proofs.Collecting.{whole}
 use Rattle.clauses_emit.proofs.Emitting.{put_unwritten, put_stored, put_room}
 use Rattle.clauses_emit.proofs.emit.put.Goals as goal
 

@@ -1,8 +1,8 @@
 -- `clauses_emit::emit::store` meets its contract: the count and the literals so far stand at the front. Assumes nothing.
-use mathlib.Core.Path.{◌≡◌, ◌∙◌}
-use lib.ListN.{length, get_or, set, length-set}
+use mathlib.Core.Path.{◌≡◌}
+use lib.ListN.{length, get_or, set}
 use native.Mathlib.Omega.{arith}
-use Rattle.clauses_emit.proofs.Collecting.{whole, Storing, storing, store_on, stored, stored-length}
+use Rattle.clauses_emit.proofs.Collecting.{Storing, storing, store_on, stored}
 use Rattle.clauses_emit.proofs.emit.store.Goals as goal
 
 pub returns-then-n-eq0 : goal.returns-then-n-eq0

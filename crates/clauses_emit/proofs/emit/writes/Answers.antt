@@ -1,7 +1,5 @@
 -- `clauses_emit::emit::writes` meets its contract. Assumes nothing.
-use mathlib.Core.Path.{refl}
-use borrow.Author.Tests.{not-true, not-false}
-use Rattle.clauses_emit.proofs.Emitting.{writes_none, writes_full, writes_by}
+use Rattle.clauses_emit.proofs.Emitting.{writes_full}
 use Rattle.clauses_emit.proofs.emit.writes.Goals as goal
 
 pub returns-then-room-tally : goal.returns-then-room-tally

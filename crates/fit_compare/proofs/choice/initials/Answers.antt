@@ -1,6 +1,5 @@
 -- `fit_compare::choice::initials` meets its contract: those passed are counted. Assumes nothing.
 use Prim.Native.Nat.{◌-◌}
-use mathlib.Core.Logic.{⊎_elim}
 use Rattle.fit_compare.proofs.Choosing.{counting, counted, passed_over, all-counted}
 use Rattle.fit_compare.proofs.choice.initials.Goals as goal
 use Rattle.fit_compare.proofs.choice.initials.Goals.{else-states-q-eq1, then-states-q-eq1}

@@ -1,7 +1,6 @@
 -- `fit_compare::choice::no_choice` meets its contract: the four tests in their order. Assumes nothing.
 use mathlib.Core.Path.{refl, sym, ◌∙◌}
 use native.Mathlib.Omega.{arith}
-use borrow.Author.Tests.{not-true, not-false}
 use Rattle.fit_compare.proofs.Reading.{one-initial, other_initials, internals-one, calls-one, returns_one, internals-ascend, calls-ascend, returns-ascend, many_initials, internals_choice, calls_choice, returns_choice}
 use Rattle.fit_compare.proofs.choice.no_choice.Goals as goal
 

@@ -1,6 +1,5 @@
 -- `sat_trail::rows::own_rows` meets its contract. The loop's invariant: the states below p have their words. Assumes nothing.
 use mathlib.Core.Path.{refl}
-use Prim.Native.Nat.{◌-◌}
 use native.Mathlib.Omega.{arith}
 use Rattle.sat_trail.proofs.Setting as laws
 use Rattle.sat_trail.proofs.rows.own_rows.Goals as goal

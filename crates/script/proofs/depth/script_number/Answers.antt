@@ -1,7 +1,6 @@
 -- `script::depth::script_number` meets its contract. Assumes nothing.
 use Rattle.script_spec.specs.Script.{script_tests}
 use Rattle.lists.proofs.Refusals.{passes, fails, no_test}
-use borrow.Author.Tests.{not-true, not-false}
 use mathlib.Core.Bool.{not}
 use mathlib.Core.Path.{sym, ap, ◌∙◌}
 use Rattle.script.proofs.depth.script_number.Goals as goal

@@ -1,6 +1,5 @@
 -- `uses::lines::lines_number` meets its contract, return by return. Assumes nothing.
 use mathlib.Core.Path.{sym, ◌∙◌}
-use borrow.Author.Tests.{not-true, not-false}
 use Rattle.uses_spec.proofs.Promises.{not-whole, too_many, past-count, no_refusal}
 use Rattle.uses.proofs.lines.lines_number.Goals as goal
 

@@ -3,8 +3,6 @@ use borrow.Author.Rules.{rules}
 use Rattle.uses_spec.specs.Uses.{line_of}
 use Rattle.uses.proofs.lines.uses_in.Goals as goal
 
-pub returns : goal.returns
+pub returns-clause-value : goal.returns-clause-value
 unfolding line_of
-returns c =
-    let the_facts = search rules in
-    record { value = the_facts.0; small = the_facts.1 }
+returns-clause-value c = search rules

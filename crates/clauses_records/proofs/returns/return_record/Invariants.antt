@@ -1,0 +1,15 @@
+-- `clauses_records::returns::return_record` meets its contract: the states so far have their clauses. Assumes nothing.
+use Prim.Native.Nat.{◌-◌}
+use Rattle.lists.specs.Lists.{concat_map, upto}
+use Rattle.table_spec.specs.File.{records}
+use Rattle.clauses_spec.specs.Clauses.{top_states}
+use Rattle.clauses_emit.specs.Emit.{state}
+use Rattle.clauses_records.specs.Returns.{return_of}
+use Rattle.clauses_emit.proofs.Stepping.{Over}
+use Rattle.clauses_records.proofs.returns.return_record.Given as goal
+
+abbrev pub invariant-states : goal.invariant-states
+invariant-states l = Over (λ l.q. concat_map (λ u. return_of (records 4 l.section) l.x l.q u) (top_states l.tops l.count l.q)) l.count (concat_map (λ l.q. concat_map (λ u. return_of (records 4 l.section) l.x l.q u) (top_states l.tops l.count l.q)) (upto l.count)) (state l.initial.at l.initial.list) l.q (state l.at l.list)
+
+abbrev pub decreases-states : goal.decreases-states
+decreases-states l = l.count - l.q

@@ -1,0 +1,18 @@
+-- `records::records_within` meets its contract: refused by reading, or as a table that was read. Assumes nothing.
+use Rattle.check_map.proofs.Checking.{read-readable, read_known, unread}
+use Rattle.records_spec.proofs.Answers.{records_refused, promised}
+use Rattle.records.proofs.records_within.Goals as goal
+
+pub returns-then-examined-ne0 : goal.returns-then-examined-ne0
+returns-then-examined-ne0 c =
+    let the_facts = promised _ _ _ _ (records_refused _ _ _ _ (unread _ _ _ c.examine-examined.ensures c.if-examined-ne0.true) c.if-examined-ne0.true) in
+    record { answers = the_facts.0; number = the_facts.1.0; promises = the_facts.1.1 }
+
+pub records_known-requires : goal.records_known-requires
+records_known-requires c =
+    read_known _ _ c.examine-examined.ensures c.if-examined-ne0.false
+
+pub returns : goal.returns
+returns c =
+    let the_facts = promised _ _ _ _ (c.records_known.ensures _ (read-readable _ _ c.examine-examined.ensures c.if-examined-ne0.false)) in
+    record { answers = the_facts.0; number = the_facts.1.0; promises = the_facts.1.1 }

@@ -1,0 +1,382 @@
+-- `sat_search::turns` meets its contract. The loop's invariant: whatever end the turns lead to from here, with the trial held, they lead to from the start; the counters are
+-- those of the values before the last closing began, and are saved where a guess stands. The measure is twice the guesses left and the guesses that stand. Assumes nothing.
+use Prim.Native.Nat.{suc, ◌-◌, ◌≤◌, ◌<◌}
+use native.Mathlib.Omega.{arith}
+use mathlib.Core.Path.{◌≡◌, refl, sym, ◌∙◌}
+use lib.ListN.{length}
+use Rattle.cnf.specs.Clauses.{clauses_in}
+use Rattle.sat_decide.specs.Turns.{DueAt}
+use Rattle.sat_decide.specs.declared.Due.{Due}
+use Rattle.sat_decide.specs.declared.Due.TheVariants as due
+use Rattle.sat_decide.proofs.Ends as laws
+use Rattle.sat_search.proofs.Wording as wording
+use Rattle.sat_search.proofs.turns.Goals as goal
+
+-- ---- what holds there
+
+-- what is lent keeps its length while the values are closed
+record Lengths (c : tie.After-propagate invariant-turns decreases-turns) : Type 0 where
+  counters : length c.propagate.new.1.1.1.1.1.1.1.0 ≡ length (entry (head c)).args.counters.now
+  saved : length (head c).turns.saved ≡ length (entry (head c)).args.saved.now
+  noted : length c.propagate.new.1.1.1.1.1.1.1.1.0 ≡ length (entry (head c)).args.noted.now
+  values : length c.propagate.new.1.1.1.1.1.1.1.1.1.0 ≡ length (entry (head c)).args.values.now
+  trail : length c.propagate.new.1.1.1.1.1.1.1.1.1.1.0 ≡ length (entry (head c)).args.trail.now
+
+pub propagate-r-requires : goal.propagate-r-requires
+propagate-r-requires c =
+    let i = c.turns.invariant in
+    record { prepared = wording.prepared_on i.5 i.7 c.requires.prepared; counters_before_if = i.2; ready = i.0.ready; queue = (i.0.queue, omega (arith, i.0.size, i.0.most)); pair_table = (c.requires.pair_table.0, i.1) }
+
+pub shape_of-counters-then-depth-eq0 : goal.shape_of-counters-then-depth-eq0
+shape_of-counters-then-depth-eq0 c =
+    let lengths : Lengths c = let i = c.turns.invariant in
+    let k = c.propagate-r.auto.1.1.1.1.1.1.1 in
+    let s = c.propagate-r.ensures.settles.0 in
+    let p = c.requires.1 in
+    record { counters = k.0 ∙ i.5; saved = i.6 ∙ sym p.0.1; noted = k.1.0 ∙ i.7; values = laws.after-size i.0 s; trail = laws.after-long i.0 s ∙ sym p.1.0.long } in
+    lengths.counters
+
+pub shape_of-saved-then-depth-eq0 : goal.shape_of-saved-then-depth-eq0
+shape_of-saved-then-depth-eq0 c =
+    let lengths : Lengths c = let i = c.turns.invariant in
+    let k = c.propagate-r.auto.1.1.1.1.1.1.1 in
+    let s = c.propagate-r.ensures.settles.0 in
+    let p = c.requires.1 in
+    record { counters = k.0 ∙ i.5; saved = i.6 ∙ sym p.0.1; noted = k.1.0 ∙ i.7; values = laws.after-size i.0 s; trail = laws.after-long i.0 s ∙ sym p.1.0.long } in
+    lengths.saved
+
+pub shape_of-noted-then-depth-eq0 : goal.shape_of-noted-then-depth-eq0
+shape_of-noted-then-depth-eq0 c =
+    let lengths : Lengths c = let i = c.turns.invariant in
+    let k = c.propagate-r.auto.1.1.1.1.1.1.1 in
+    let s = c.propagate-r.ensures.settles.0 in
+    let p = c.requires.1 in
+    record { counters = k.0 ∙ i.5; saved = i.6 ∙ sym p.0.1; noted = k.1.0 ∙ i.7; values = laws.after-size i.0 s; trail = laws.after-long i.0 s ∙ sym p.1.0.long } in
+    lengths.noted
+
+pub shape_of-values-then-depth-eq0 : goal.shape_of-values-then-depth-eq0
+shape_of-values-then-depth-eq0 c =
+    let lengths : Lengths c = let i = c.turns.invariant in
+    let k = c.propagate-r.auto.1.1.1.1.1.1.1 in
+    let s = c.propagate-r.ensures.settles.0 in
+    let p = c.requires.1 in
+    record { counters = k.0 ∙ i.5; saved = i.6 ∙ sym p.0.1; noted = k.1.0 ∙ i.7; values = laws.after-size i.0 s; trail = laws.after-long i.0 s ∙ sym p.1.0.long } in
+    lengths.values
+
+pub shape_of-trail-then-depth-eq0 : goal.shape_of-trail-then-depth-eq0
+shape_of-trail-then-depth-eq0 c =
+    let lengths : Lengths c = let i = c.turns.invariant in
+    let k = c.propagate-r.auto.1.1.1.1.1.1.1 in
+    let s = c.propagate-r.ensures.settles.0 in
+    let p = c.requires.1 in
+    record { counters = k.0 ∙ i.5; saved = i.6 ∙ sym p.0.1; noted = k.1.0 ∙ i.7; values = laws.after-size i.0 s; trail = laws.after-long i.0 s ∙ sym p.1.0.long } in
+    lengths.trail
+
+pub returns-then-depth-eq0 : goal.returns-then-depth-eq0
+returns-then-depth-eq0 c =
+    laws.turn_absent c.turns.invariant.0 c.propagate-r.ensures.settles.0 c.if-r.true c.if-depth-eq0.true
+
+pub offset_bounds-levels-depth : goal.offset_bounds-levels-depth
+offset_bounds-levels-depth c =
+    let depths : (c.turns.depth ≤ c.propagate-r.result.count) × (c.propagate-r.result.count ≤ 780) = let i = c.turns.invariant.0 in
+    let s = c.propagate-r.ensures.settles.0 in
+    (laws.after_depth i s, omega (arith, laws.after-count i s, i.most)) in
+    omega (arith, depths)
+
+pub bounds-levels-depth : goal.bounds-levels-depth
+bounds-levels-depth c =
+    let depths : (c.turns.depth ≤ c.propagate-r.result.count) × (c.propagate-r.result.count ≤ 780) = let i = c.turns.invariant.0 in
+    let s = c.propagate-r.ensures.settles.0 in
+    (laws.after_depth i s, omega (arith, laws.after-count i s, i.most)) in
+    omega (arith, c.if-depth-eq0.false, depths)
+
+pub backtrack-undone-requires : goal.backtrack-undone-requires
+backtrack-undone-requires c =
+    let lengths : Lengths c = let i = c.turns.invariant in
+    let k = c.propagate-r.auto.1.1.1.1.1.1.1 in
+    let s = c.propagate-r.ensures.settles.0 in
+    let p = c.requires.1 in
+    record { counters = k.0 ∙ i.5; saved = i.6 ∙ sym p.0.1; noted = k.1.0 ∙ i.7; values = laws.after-size i.0 s; trail = laws.after-long i.0 s ∙ sym p.1.0.long } in
+    let stands : let d = c.turns.depth in d ≡ suc (d - 1) = omega (arith, c.if-depth-eq0.false) in
+    let i = c.turns.invariant in
+    let s = c.propagate-r.ensures.settles in
+    let t = c.if-r.true in
+    let d = c.turns.depth - 1 in
+    let z = stands in
+    let m = c.wide-mark.ensures in
+    let l = lengths.counters in
+    let passed = wording.passed c.args.list.now c.args.n i.0 s.0 t d z m i.3 in
+    let saved = wording.saved_on c.args.list.now c.args.n i.0 s.0 c.args.clauses.now (λ k. i.4 k (omega (arith, z))) i.2 in
+    record { indexed_if = (c.requires.prepared.indexed, wording.prepared_sized l c.requires.prepared, i.6 ∙ sym l); trail_mark = (passed, saved); pair_table = (c.requires.pair_table.0, laws.can_undo i.0 s.0 t d z m, s.1) }
+
+pub overflow_add-low : goal.overflow_add-low
+overflow_add-low c =
+    let stands : let d = c.turns.depth in d ≡ suc (d - 1) = omega (arith, c.if-depth-eq0.false) in
+    let i = c.turns.invariant.0 in
+    omega (arith, laws.inside i c.propagate-r.ensures.settles.0 c.if-r.true _ stands c.wide-mark.ensures c.backtrack-undone.ensures.undone.0, i.most)
+
+pub turns-preserved-then-r : goal.turns-preserved-then-r
+turns-preserved-then-r c =
+    let lengths : Lengths c = let i = c.turns.invariant in
+    let k = c.propagate-r.auto.1.1.1.1.1.1.1 in
+    let s = c.propagate-r.ensures.settles.0 in
+    let p = c.requires.1 in
+    record { counters = k.0 ∙ i.5; saved = i.6 ∙ sym p.0.1; noted = k.1.0 ∙ i.7; values = laws.after-size i.0 s; trail = laws.after-long i.0 s ∙ sym p.1.0.long } in
+    let stands : let d = c.turns.depth in d ≡ suc (d - 1) = omega (arith, c.if-depth-eq0.false) in
+    let i = c.turns.invariant in
+    let s = c.propagate-r.ensures.settles.0 in
+    let t = c.if-r.true in
+    let d = c.turns.depth - 1 in
+    let z = stands in
+    let m = c.wide-mark.ensures in
+    rw c.backtrack-undone.ensures.forced (laws.turn_undo i.0 s t d z m c.backtrack-undone.ensures.undone.0, c.backtrack-undone.ensures.undone.1, c.backtrack-undone.ensures.back.lags, record { before = laws.earlier-mark i.0 s t d z m }, (λ k _. c.backtrack-undone.ensures.back.kept k), c.backtrack-undone.kept.1.1.1.1.1.0 ∙ c.propagate-r.kept.1.1.1.1.1.1.1.0 ∙ i.5, c.backtrack-undone.kept.1.1.1.1.1.1.0 ∙ i.6, lengths.noted)
+
+pub due_at-due-requires : goal.due_at-due-requires
+due_at-due-requires c =
+    let lengths : Lengths c = let i = c.turns.invariant in
+    let k = c.propagate-r.auto.1.1.1.1.1.1.1 in
+    let s = c.propagate-r.ensures.settles.0 in
+    let p = c.requires.1 in
+    record { counters = k.0 ∙ i.5; saved = i.6 ∙ sym p.0.1; noted = k.1.0 ∙ i.7; values = laws.after-size i.0 s; trail = laws.after-long i.0 s ∙ sym p.1.0.long } in
+    omega (arith, c.turns.invariant.0.low_in, lengths.values)
+
+pub shape_of-counters-in-Solved : goal.shape_of-counters-in-Solved
+shape_of-counters-in-Solved c =
+    let lengths : Lengths c = let i = c.turns.invariant in
+    let k = c.propagate-r.auto.1.1.1.1.1.1.1 in
+    let s = c.propagate-r.ensures.settles.0 in
+    let p = c.requires.1 in
+    record { counters = k.0 ∙ i.5; saved = i.6 ∙ sym p.0.1; noted = k.1.0 ∙ i.7; values = laws.after-size i.0 s; trail = laws.after-long i.0 s ∙ sym p.1.0.long } in
+    lengths.counters
+
+pub shape_of-saved-in-Solved : goal.shape_of-saved-in-Solved
+shape_of-saved-in-Solved c =
+    let lengths : Lengths c = let i = c.turns.invariant in
+    let k = c.propagate-r.auto.1.1.1.1.1.1.1 in
+    let s = c.propagate-r.ensures.settles.0 in
+    let p = c.requires.1 in
+    record { counters = k.0 ∙ i.5; saved = i.6 ∙ sym p.0.1; noted = k.1.0 ∙ i.7; values = laws.after-size i.0 s; trail = laws.after-long i.0 s ∙ sym p.1.0.long } in
+    lengths.saved
+
+pub shape_of-noted-in-Solved : goal.shape_of-noted-in-Solved
+shape_of-noted-in-Solved c =
+    let lengths : Lengths c = let i = c.turns.invariant in
+    let k = c.propagate-r.auto.1.1.1.1.1.1.1 in
+    let s = c.propagate-r.ensures.settles.0 in
+    let p = c.requires.1 in
+    record { counters = k.0 ∙ i.5; saved = i.6 ∙ sym p.0.1; noted = k.1.0 ∙ i.7; values = laws.after-size i.0 s; trail = laws.after-long i.0 s ∙ sym p.1.0.long } in
+    lengths.noted
+
+pub shape_of-values-in-Solved : goal.shape_of-values-in-Solved
+shape_of-values-in-Solved c =
+    let lengths : Lengths c = let i = c.turns.invariant in
+    let k = c.propagate-r.auto.1.1.1.1.1.1.1 in
+    let s = c.propagate-r.ensures.settles.0 in
+    let p = c.requires.1 in
+    record { counters = k.0 ∙ i.5; saved = i.6 ∙ sym p.0.1; noted = k.1.0 ∙ i.7; values = laws.after-size i.0 s; trail = laws.after-long i.0 s ∙ sym p.1.0.long } in
+    lengths.values
+
+pub shape_of-trail-in-Solved : goal.shape_of-trail-in-Solved
+shape_of-trail-in-Solved c =
+    let lengths : Lengths c = let i = c.turns.invariant in
+    let k = c.propagate-r.auto.1.1.1.1.1.1.1 in
+    let s = c.propagate-r.ensures.settles.0 in
+    let p = c.requires.1 in
+    record { counters = k.0 ∙ i.5; saved = i.6 ∙ sym p.0.1; noted = k.1.0 ∙ i.7; values = laws.after-size i.0 s; trail = laws.after-long i.0 s ∙ sym p.1.0.long } in
+    lengths.trail
+
+pub returns-in-Solved : goal.returns-in-Solved
+returns-in-Solved c =
+    laws.turn_solved c.turns.invariant.0 c.propagate-r.ensures.settles.0 c.if-r.false (rw c.in-Solved.is at c.due_at-due.ensures)
+
+pub walk_back-requires : goal.walk_back-requires
+walk_back-requires c =
+    let lengths : Lengths c = let i = c.turns.invariant in
+    let k = c.propagate-r.auto.1.1.1.1.1.1.1 in
+    let s = c.propagate-r.ensures.settles.0 in
+    let p = c.requires.1 in
+    record { counters = k.0 ∙ i.5; saved = i.6 ∙ sym p.0.1; noted = k.1.0 ∙ i.7; values = laws.after-size i.0 s; trail = laws.after-long i.0 s ∙ sym p.1.0.long } in
+    let i = c.turns.invariant.0 in
+    let s = c.propagate-r.ensures.settles in
+    record { list_value = (c.requires.prepared.all_there, rw lengths.values (laws.list-formed c.args.list.now c.args.n c.requires.rested.formed)); pair_table = (c.requires.pair_table.0, s.1); retraceable = laws.can_retrace i s.0 }
+
+pub shape_of-counters-in-Spent : goal.shape_of-counters-in-Spent
+shape_of-counters-in-Spent c =
+    let lengths : Lengths c = let i = c.turns.invariant in
+    let k = c.propagate-r.auto.1.1.1.1.1.1.1 in
+    let s = c.propagate-r.ensures.settles.0 in
+    let p = c.requires.1 in
+    record { counters = k.0 ∙ i.5; saved = i.6 ∙ sym p.0.1; noted = k.1.0 ∙ i.7; values = laws.after-size i.0 s; trail = laws.after-long i.0 s ∙ sym p.1.0.long } in
+    lengths.counters
+
+pub shape_of-saved-in-Spent : goal.shape_of-saved-in-Spent
+shape_of-saved-in-Spent c =
+    let lengths : Lengths c = let i = c.turns.invariant in
+    let k = c.propagate-r.auto.1.1.1.1.1.1.1 in
+    let s = c.propagate-r.ensures.settles.0 in
+    let p = c.requires.1 in
+    record { counters = k.0 ∙ i.5; saved = i.6 ∙ sym p.0.1; noted = k.1.0 ∙ i.7; values = laws.after-size i.0 s; trail = laws.after-long i.0 s ∙ sym p.1.0.long } in
+    lengths.saved
+
+pub shape_of-noted-in-Spent : goal.shape_of-noted-in-Spent
+shape_of-noted-in-Spent c =
+    let lengths : Lengths c = let i = c.turns.invariant in
+    let k = c.propagate-r.auto.1.1.1.1.1.1.1 in
+    let s = c.propagate-r.ensures.settles.0 in
+    let p = c.requires.1 in
+    record { counters = k.0 ∙ i.5; saved = i.6 ∙ sym p.0.1; noted = k.1.0 ∙ i.7; values = laws.after-size i.0 s; trail = laws.after-long i.0 s ∙ sym p.1.0.long } in
+    lengths.noted
+
+pub shape_of-values-in-Spent : goal.shape_of-values-in-Spent
+shape_of-values-in-Spent c =
+    let lengths : Lengths c = let i = c.turns.invariant in
+    let k = c.propagate-r.auto.1.1.1.1.1.1.1 in
+    let s = c.propagate-r.ensures.settles.0 in
+    let p = c.requires.1 in
+    record { counters = k.0 ∙ i.5; saved = i.6 ∙ sym p.0.1; noted = k.1.0 ∙ i.7; values = laws.after-size i.0 s; trail = laws.after-long i.0 s ∙ sym p.1.0.long } in
+    c.walk_back.auto.values ∙ lengths.values
+
+pub shape_of-trail-in-Spent : goal.shape_of-trail-in-Spent
+shape_of-trail-in-Spent c =
+    let lengths : Lengths c = let i = c.turns.invariant in
+    let k = c.propagate-r.auto.1.1.1.1.1.1.1 in
+    let s = c.propagate-r.ensures.settles.0 in
+    let p = c.requires.1 in
+    record { counters = k.0 ∙ i.5; saved = i.6 ∙ sym p.0.1; noted = k.1.0 ∙ i.7; values = laws.after-size i.0 s; trail = laws.after-long i.0 s ∙ sym p.1.0.long } in
+    lengths.trail
+
+pub returns-in-Spent : goal.returns-in-Spent
+returns-in-Spent c =
+    let DueThen : Due → Type 0 = λ r. DueAt c.propagate-r.new.values c.turns.low c.turns.made c.args.budget r in
+    let spent : DueThen due.Spent = rw c.in-Spent.is at c.due_at-due.ensures in
+    let p = c.requires.rested in
+    let f = spent in
+    laws.turn_spent c.turns.invariant.0 c.propagate-r.ensures.settles.0 c.if-r.false f.0.lowest (clauses_in c.args.list.now) (laws.short_trial c.args.list.now c.args.n p.formed) f.1 c.walk_back.ensures
+
+pub copy-requires : goal.copy-requires
+copy-requires c =
+    let lengths : Lengths c = let i = c.turns.invariant in
+    let k = c.propagate-r.auto.1.1.1.1.1.1.1 in
+    let s = c.propagate-r.ensures.settles.0 in
+    let p = c.requires.1 in
+    record { counters = k.0 ∙ i.5; saved = i.6 ∙ sym p.0.1; noted = k.1.0 ∙ i.7; values = laws.after-size i.0 s; trail = laws.after-long i.0 s ∙ sym p.1.0.long } in
+    let l = c.turns.invariant.6 in
+    (lengths.counters ∙ sym l, omega (arith, l, c.requires.prepared.room.few))
+
+pub overflow_cast-levels : goal.overflow_cast-levels
+overflow_cast-levels c =
+    let depths : (c.turns.depth ≤ c.propagate-r.result.count) × (c.propagate-r.result.count ≤ 780) = let i = c.turns.invariant.0 in
+    let s = c.propagate-r.ensures.settles.0 in
+    (laws.after_depth i s, omega (arith, laws.after-count i s, i.most)) in
+    let DueThen : Due → Type 0 = λ r. DueAt c.propagate-r.new.values c.turns.low c.turns.made c.args.budget r in
+    let guess : DueThen (due.Guess c.in-Guess.x) = rw c.in-Guess.is at c.due_at-due.ensures in
+    let room : (c.turns.depth < 780) × (c.propagate-r.result.count < 780) × (c.in-Guess.x < 780) = let i = c.turns.invariant.0 in
+    let l = laws.room-left i c.propagate-r.ensures.settles.0 c.if-r.false guess.0 in
+    (omega (arith, l, i.most, depths), omega (arith, l, i.most), omega (arith, guess.0.inside, laws.after-size i c.propagate-r.ensures.settles.0, i.most)) in
+    omega (arith, room)
+
+pub offset_bounds-levels-depth-in-Guess : goal.offset_bounds-levels-depth-in-Guess
+offset_bounds-levels-depth-in-Guess c =
+    let depths : (c.turns.depth ≤ c.propagate-r.result.count) × (c.propagate-r.result.count ≤ 780) = let i = c.turns.invariant.0 in
+    let s = c.propagate-r.ensures.settles.0 in
+    (laws.after_depth i s, omega (arith, laws.after-count i s, i.most)) in
+    let DueThen : Due → Type 0 = λ r. DueAt c.propagate-r.new.values c.turns.low c.turns.made c.args.budget r in
+    let guess : DueThen (due.Guess c.in-Guess.x) = rw c.in-Guess.is at c.due_at-due.ensures in
+    let room : (c.turns.depth < 780) × (c.propagate-r.result.count < 780) × (c.in-Guess.x < 780) = let i = c.turns.invariant.0 in
+    let l = laws.room-left i c.propagate-r.ensures.settles.0 c.if-r.false guess.0 in
+    (omega (arith, l, i.most, depths), omega (arith, l, i.most), omega (arith, guess.0.inside, laws.after-size i c.propagate-r.ensures.settles.0, i.most)) in
+    omega (arith, room)
+
+pub bounds-levels-depth-in-Guess : goal.bounds-levels-depth-in-Guess
+bounds-levels-depth-in-Guess c =
+    let depths : (c.turns.depth ≤ c.propagate-r.result.count) × (c.propagate-r.result.count ≤ 780) = let i = c.turns.invariant.0 in
+    let s = c.propagate-r.ensures.settles.0 in
+    (laws.after_depth i s, omega (arith, laws.after-count i s, i.most)) in
+    let DueThen : Due → Type 0 = λ r. DueAt c.propagate-r.new.values c.turns.low c.turns.made c.args.budget r in
+    let guess : DueThen (due.Guess c.in-Guess.x) = rw c.in-Guess.is at c.due_at-due.ensures in
+    let room : (c.turns.depth < 780) × (c.propagate-r.result.count < 780) × (c.in-Guess.x < 780) = let i = c.turns.invariant.0 in
+    let l = laws.room-left i c.propagate-r.ensures.settles.0 c.if-r.false guess.0 in
+    (omega (arith, l, i.most, depths), omega (arith, l, i.most), omega (arith, guess.0.inside, laws.after-size i c.propagate-r.ensures.settles.0, i.most)) in
+    omega (arith, room)
+
+pub overflow_add-depth : goal.overflow_add-depth
+overflow_add-depth c =
+    let depths : (c.turns.depth ≤ c.propagate-r.result.count) × (c.propagate-r.result.count ≤ 780) = let i = c.turns.invariant.0 in
+    let s = c.propagate-r.ensures.settles.0 in
+    (laws.after_depth i s, omega (arith, laws.after-count i s, i.most)) in
+    let DueThen : Due → Type 0 = λ r. DueAt c.propagate-r.new.values c.turns.low c.turns.made c.args.budget r in
+    let guess : DueThen (due.Guess c.in-Guess.x) = rw c.in-Guess.is at c.due_at-due.ensures in
+    let room : (c.turns.depth < 780) × (c.propagate-r.result.count < 780) × (c.in-Guess.x < 780) = let i = c.turns.invariant.0 in
+    let l = laws.room-left i c.propagate-r.ensures.settles.0 c.if-r.false guess.0 in
+    (omega (arith, l, i.most, depths), omega (arith, l, i.most), omega (arith, guess.0.inside, laws.after-size i c.propagate-r.ensures.settles.0, i.most)) in
+    omega (arith, room)
+
+pub overflow_mul-x : goal.overflow_mul-x
+overflow_mul-x c =
+    let depths : (c.turns.depth ≤ c.propagate-r.result.count) × (c.propagate-r.result.count ≤ 780) = let i = c.turns.invariant.0 in
+    let s = c.propagate-r.ensures.settles.0 in
+    (laws.after_depth i s, omega (arith, laws.after-count i s, i.most)) in
+    let DueThen : Due → Type 0 = λ r. DueAt c.propagate-r.new.values c.turns.low c.turns.made c.args.budget r in
+    let guess : DueThen (due.Guess c.in-Guess.x) = rw c.in-Guess.is at c.due_at-due.ensures in
+    let room : (c.turns.depth < 780) × (c.propagate-r.result.count < 780) × (c.in-Guess.x < 780) = let i = c.turns.invariant.0 in
+    let l = laws.room-left i c.propagate-r.ensures.settles.0 c.if-r.false guess.0 in
+    (omega (arith, l, i.most, depths), omega (arith, l, i.most), omega (arith, guess.0.inside, laws.after-size i c.propagate-r.ensures.settles.0, i.most)) in
+    omega (arith, room)
+
+pub overflow_cast-x : goal.overflow_cast-x
+overflow_cast-x c =
+    let depths : (c.turns.depth ≤ c.propagate-r.result.count) × (c.propagate-r.result.count ≤ 780) = let i = c.turns.invariant.0 in
+    let s = c.propagate-r.ensures.settles.0 in
+    (laws.after_depth i s, omega (arith, laws.after-count i s, i.most)) in
+    let DueThen : Due → Type 0 = λ r. DueAt c.propagate-r.new.values c.turns.low c.turns.made c.args.budget r in
+    let guess : DueThen (due.Guess c.in-Guess.x) = rw c.in-Guess.is at c.due_at-due.ensures in
+    let room : (c.turns.depth < 780) × (c.propagate-r.result.count < 780) × (c.in-Guess.x < 780) = let i = c.turns.invariant.0 in
+    let l = laws.room-left i c.propagate-r.ensures.settles.0 c.if-r.false guess.0 in
+    (omega (arith, l, i.most, depths), omega (arith, l, i.most), omega (arith, guess.0.inside, laws.after-size i c.propagate-r.ensures.settles.0, i.most)) in
+    omega (arith, room)
+
+pub force-count-requires : goal.force-count-requires
+force-count-requires c =
+    let DueThen : Due → Type 0 = λ r. DueAt c.propagate-r.new.values c.turns.low c.turns.made c.args.budget r in
+    let guess : DueThen (due.Guess c.in-Guess.x) = rw c.in-Guess.is at c.due_at-due.ensures in
+    let s = c.propagate-r.ensures.settles in
+    record { pair_table = c.requires.pair_table.0; settable = laws.can_guess c.turns.invariant.0 s.0 c.if-r.false guess.0 refl s.1 }
+
+pub overflow_add-low-in-Guess : goal.overflow_add-low-in-Guess
+overflow_add-low-in-Guess c =
+    let depths : (c.turns.depth ≤ c.propagate-r.result.count) × (c.propagate-r.result.count ≤ 780) = let i = c.turns.invariant.0 in
+    let s = c.propagate-r.ensures.settles.0 in
+    (laws.after_depth i s, omega (arith, laws.after-count i s, i.most)) in
+    let DueThen : Due → Type 0 = λ r. DueAt c.propagate-r.new.values c.turns.low c.turns.made c.args.budget r in
+    let guess : DueThen (due.Guess c.in-Guess.x) = rw c.in-Guess.is at c.due_at-due.ensures in
+    let room : (c.turns.depth < 780) × (c.propagate-r.result.count < 780) × (c.in-Guess.x < 780) = let i = c.turns.invariant.0 in
+    let l = laws.room-left i c.propagate-r.ensures.settles.0 c.if-r.false guess.0 in
+    (omega (arith, l, i.most, depths), omega (arith, l, i.most), omega (arith, guess.0.inside, laws.after-size i c.propagate-r.ensures.settles.0, i.most)) in
+    omega (arith, room)
+
+pub turns-smaller : goal.turns-smaller
+turns-smaller c =
+    let DueThen : Due → Type 0 = λ r. DueAt c.propagate-r.new.values c.turns.low c.turns.made c.args.budget r in
+    let guess : DueThen (due.Guess c.in-Guess.x) = rw c.in-Guess.is at c.due_at-due.ensures in
+    omega (arith, c.turns.invariant.0.few, guess.1)
+
+pub turns-preserved : goal.turns-preserved
+turns-preserved c =
+    let lengths : Lengths c = let i = c.turns.invariant in
+    let k = c.propagate-r.auto.1.1.1.1.1.1.1 in
+    let s = c.propagate-r.ensures.settles.0 in
+    let p = c.requires.1 in
+    record { counters = k.0 ∙ i.5; saved = i.6 ∙ sym p.0.1; noted = k.1.0 ∙ i.7; values = laws.after-size i.0 s; trail = laws.after-long i.0 s ∙ sym p.1.0.long } in
+    let DueThen : Due → Type 0 = λ r. DueAt c.propagate-r.new.values c.turns.low c.turns.made c.args.budget r in
+    let guess : DueThen (due.Guess c.in-Guess.x) = rw c.in-Guess.is at c.due_at-due.ensures in
+    let depths : (c.turns.depth ≤ c.propagate-r.result.count) × (c.propagate-r.result.count ≤ 780) = let i = c.turns.invariant.0 in
+    let s = c.propagate-r.ensures.settles.0 in
+    (laws.after_depth i s, omega (arith, laws.after-count i s, i.most)) in
+    let room : (c.turns.depth < 780) × (c.propagate-r.result.count < 780) × (c.in-Guess.x < 780) = let i = c.turns.invariant.0 in
+    let l = laws.room-left i c.propagate-r.ensures.settles.0 c.if-r.false guess.0 in
+    (omega (arith, l, i.most, depths), omega (arith, l, i.most), omega (arith, guess.0.inside, laws.after-size i c.propagate-r.ensures.settles.0, i.most)) in
+    let i = c.turns.invariant in
+    let s = c.propagate-r.ensures in
+    let e = c.if-r.false in
+    let f = c.force-count.ensures in
+    (laws.turn_guess i.0 s.0.0 e guess.0 guess.1 refl f, f.assigned.rows, wording.lags_guess c.args.list.now c.args.n i.0 s.0.0 c.args.clauses.now e guess.0 s.1 refl f, wording.marked_guess c.turns.levels (omega (arith, i.0.marks, room)), (λ _ _. c.copy.ensures), lengths.counters, c.copy.kept.1.0 ∙ i.6, lengths.noted)
