@@ -1,4 +1,5 @@
 -- `fit::fit_both` meets its contract: 37, 38, or the answer. Assumes nothing.
+use borrow.Author.Tests.{not-true, not-false}
 use mathlib.Core.Path.{sym, ◌∙◌}
 use mathlib.Core.Bool.{true≢false}
 use Rattle.fit.proofs.Answers.{symbols_differ, has_choice, says_yes, says_no}

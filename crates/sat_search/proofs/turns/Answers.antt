@@ -22,6 +22,12 @@ record Lengths (c : tie.After-propagate invariant-turns decreases-turns) : Type 
   values : length c.propagate.new.1.1.1.1.1.1.1.1.1.0 ≡ length (entry (head c)).args.values.now
   trail : length c.propagate.new.1.1.1.1.1.1.1.1.1.1.0 ≡ length (entry (head c)).args.trail.now
 
+pub turns-init : goal.turns-init
+turns-init c =
+    let p = c.requires.1 in
+    let r = p.1.0 in
+    (laws.turning _ _ r c.places-levels.ensures, p.1.1.1, wording.lags-first c.args.clauses.now p.0.0 r.counted (omega (arith, r.counted, r.size, r.most, r.long)), wording.marked-none, (λ _ h. absurd (omega (arith, h))), refl, p.0.1, refl)
+
 pub propagate-r-requires : goal.propagate-r-requires
 propagate-r-requires c =
     let i = c.turns.invariant in
@@ -310,6 +316,12 @@ overflow_add-depth c =
     let l = laws.room-left i c.propagate-r.ensures.settles.0 c.if-r.false guess.0 in
     (omega (arith, l, i.most, depths), omega (arith, l, i.most), omega (arith, guess.0.inside, laws.after-size i c.propagate-r.ensures.settles.0, i.most)) in
     omega (arith, room)
+
+pub overflow_add-made : goal.overflow_add-made
+overflow_add-made c =
+    let DueThen : Due → Type 0 = λ r. DueAt c.propagate-r.new.values c.turns.low c.turns.made c.args.budget r in
+    let guess : DueThen (due.Guess c.in-Guess.x) = rw c.in-Guess.is at c.due_at-due.ensures in
+    omega (arith, c.turns.invariant.0.few, guess.1, c.fits.budget)
 
 pub overflow_mul-x : goal.overflow_mul-x
 overflow_mul-x c =

@@ -8,7 +8,7 @@ use Rattle.clauses_emit.proofs.Stepping.{Over}
 use Rattle.clauses_records.proofs.internals.move_record.Given as goal
 
 abbrev pub invariant-states : goal.invariant-states
-invariant-states l = Over (λ l.q. move_clause (records 3 l.section) l.p l.a l.target l.q) l.count (concat_map (λ l.q. move_clause (records 3 l.section) l.p l.a l.target l.q) (upto l.count)) (state l.initial.at l.initial.list) l.q (state l.at l.list)
+invariant-states l = Over (λ q. move_clause (records 3 l.section) l.p l.a l.target q) l.count (concat_map (λ q. move_clause (records 3 l.section) l.p l.a l.target q) (upto l.count)) (state l.initial.at l.initial.list) l.q (state l.at l.list)
 
 abbrev pub decreases-states : goal.decreases-states
 decreases-states l = l.count - l.q

@@ -9,7 +9,7 @@ use Rattle.clauses_emit.proofs.Stepping.{Over}
 use Rattle.clauses_records.proofs.returns.return_record.Given as goal
 
 abbrev pub invariant-states : goal.invariant-states
-invariant-states l = Over (λ l.q. concat_map (λ u. return_of (records 4 l.section) l.x l.q u) (top_states l.tops l.count l.q)) l.count (concat_map (λ l.q. concat_map (λ u. return_of (records 4 l.section) l.x l.q u) (top_states l.tops l.count l.q)) (upto l.count)) (state l.initial.at l.initial.list) l.q (state l.at l.list)
+invariant-states l = Over (λ q. concat_map (λ u. return_of (records 4 l.section) l.x q u) (top_states l.tops l.count q)) l.count (concat_map (λ q. concat_map (λ u. return_of (records 4 l.section) l.x q u) (top_states l.tops l.count q)) (upto l.count)) (state l.initial.at l.initial.list) l.q (state l.at l.list)
 
 abbrev pub decreases-states : goal.decreases-states
 decreases-states l = l.count - l.q

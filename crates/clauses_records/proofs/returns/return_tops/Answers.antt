@@ -70,7 +70,7 @@ pub tops-preserved : goal.tops-preserved
 tops-preserved c =
     let lowest : LowestBit c.tops.rest c.next_state-top.result = low c.tops.invariant.0 c.tops-test.true c.next_state-top.ensures in
     let found : records 4 (take (c.reached-at.result * 4 - c.reached-from.result * 4) (drop (c.reached-from.result * 4) c.args.block.now)) ≡ filter (starts_with (c.args.q ∷ c.args.x.symbol ∷ c.next_state-top.result ∷ [])) (records 4 c.args.block.now) = walk-found c.tops.invariant.1 lowest c.reached-from.ensures c.reached-at.ensures c.requires.0 in (
-      toward_on c.tops.invariant.0 c.tops-test.taken c.next_state-top.ensures c.if-top-count.false
+      toward_on c.tops.invariant.0 c.tops-test.true c.next_state-top.ensures c.if-top-count.false
           (of_top c.args.block.now _ c.args.x c.args.q c.next_state-top.result found _ c.return_clause-so_far.ensures) c.later_states-rest.ensures,
       walk_on c.tops.invariant.1 lowest c.reached-from.ensures c.reached-at.ensures (c.later_states-rest.ensures ∙ ap (λ x. c.tops.rest - 2 ^ x) (sym c.next_state-top.ensures)),
     )
