@@ -27,8 +27,14 @@ fn of_repository() -> PathBuf {
     if !root.join("crates/capi").is_dir() {
         fail(&format!("{} is no repository of the library", root.display()));
     }
-    for source in ["crates", "crates.txt"] {
-        println!("cargo::rerun-if-changed={}", root.join(source).display());
+    // not the folders out/ beside these, which are large, and change with each proof
+    println!("cargo::rerun-if-changed={}", root.join("crates.txt").display());
+    for folder in std::fs::read_dir(root.join("crates")).into_iter().flatten().flatten() {
+        for part in ["src", "specs", "proofs"].map(|part| folder.path().join(part)) {
+            if part.is_dir() {
+                println!("cargo::rerun-if-changed={}", part.display());
+            }
+        }
     }
     match Command::new(root.join(".ci/archive")).output() {
         Err(e) => fail(&format!("the library's script does not run ({e})")),

@@ -37,7 +37,7 @@
 //! ```
 //!
 //! What each operation means, and what is proved of it, say docs/SCOPE.md and docs/PROMISES.md of the repository. This crate's build script takes the archive that the environment
-//! variable `BASILVAULT_LIBRARY` names by an absolute path, or the one that `rt staticlib capi` writes in the repository around this crate.
+//! variable `BASILVAULT_LIBRARY` names by an absolute path, or the one that `.ci/archive` writes in the repository around this crate.
 
 #![warn(missing_docs)]
 

@@ -2,18 +2,19 @@
 // table and where the records went; or the refusal. The text is made in a buffer and written at once.
 #![tactic(auto)]
 
-ghost use Rattle.std.specs.Prelude.{◌≡◌, ◌+◌, ◌≤◌, length, take};
+ghost use Rattle.std.specs.Prelude.{◌≡◌, ◌+◌, ◌≤◌, length, take, IfOk};
 ghost use Rattle.io.specs.Counts.{IsPrefixLen};
 ghost use Rattle.print_spec.specs.Program.{widest};
 ghost use Rattle.check_spec.specs.Check.{check_number};
 ghost use Rattle.print_spec.specs.Text.{going_text, printed};
 ghost use Rattle.print_spec.specs.Lines.{Put};
 
-use libc::{STDERR_FILENO, STDIN_FILENO, STDOUT_FILENO};
 use limits::Limits;
 use print_lines::{put, put_counts, put_map, put_number, put_records, put_table};
 use records_spec::Recorded;
 use reduce_spec::Reduction;
+use std::io;
+use std::io::{Read, Write};
 
 // "The program uses 40 and 64."
 fn widest() -> Limits
@@ -77,16 +78,30 @@ fn reduce_lent(table: &[u8], text: &mut [u8]) -> usize
     }
 }
 
+// Reads until the buffer is full or the input ends: how many bytes that is.
+fn read_full<R: Read>(input: &mut R, buffer: &mut [u8]) -> io::Result<usize>
+    ensures { IfOk result (λ n. IsPrefixLen n buffer.new) }
+{
+    let mut done: usize = 0;
+    'reads: while done < buffer.len() {
+        let n = input.read(&mut buffer[done..])?;
+        if n == 0 {
+            break;
+        }
+        done += n;
+    }
+    Ok(done)
+}
+
 // A file longer than any table is read one byte past the limit, and so refused by 1. Where the text cannot be written whole, the other output is told.
-fn main() {
+fn main(rt: HostRuntime) -> io::Result<()> {
     let mut space = [0u8; 22645];
-    let length = io::read_full(STDIN_FILENO, &mut space);
+    let length = read_full(&mut rt.stdin(), &mut space)?;
     let mut text = [0u8; 70000];
     let n = reduce_lent(&space[..length], &mut text);
-    if !io::write_all(STDOUT_FILENO, &text[..n]) {
-        io::write_all(
-            STDERR_FILENO,
-            b"basilvault: standard output was not written whole\n",
-        );
+    let written = rt.stdout().write_all(&text[..n]);
+    if written.is_err() {
+        let _ = eprintln!(rt; "basilvault: standard output was not written whole");
     }
+    written
 }

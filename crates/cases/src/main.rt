@@ -25,52 +25,56 @@
 // beforehand. Choose prints which map it is, 1 or 2, or 0 with a refusal, and after the bar the map that is handed back.
 #![tactic(auto)]
 
-ghost use Rattle.std.specs.Prelude.{◌≡◌, ◌<◌, length, take};
+ghost use Rattle.std.specs.Prelude.{◌≡◌, ◌<◌, ◌≤◌, length, take, IfOk};
+ghost use Rattle.io.specs.Counts.{IsPrefixLen};
 ghost use Rattle.lists.specs.Lists.{over};
 ghost use Rattle.cases.specs.Numbers.{word_at, double_at, long_at, words_in, longs_in};
 
 use bits::long;
 use choose_spec::Which;
 use combine_spec::How;
-use libc::{STDIN_FILENO, STDOUT_FILENO};
 use limits::Limits;
+use std::io;
+use std::io::Read;
 
 // Writes text to standard output.
-fn say(text: &[u8]) -> bool {
-    io::write_all(STDOUT_FILENO, text)
+fn say(to: &impl Print, text: &[u8]) -> io::Result<()> {
+    to.write_all(text)
 }
 
 // A space and a number.
-fn number(n: u64) -> bool {
-    say(b" ");
-    io::print_decimal(STDOUT_FILENO, n)
+fn number(to: &impl Print, n: u64) -> io::Result<()> {
+    print!(to; " {n}")
 }
 
 // Numbers, each after a space.
-fn say_values(values: &[u64]) {
+fn say_values(to: &impl Print, values: &[u64]) -> io::Result<()> {
     let mut i: usize = 0;
     'values: while i < values.len() {
-        number(values[i]);
+        number(to, values[i])?;
         i += 1;
     }
+    Ok(())
 }
 
 // The refusal's number; or 0, and the answer's values.
-fn say_answer(refused: u32, values: &[u64]) {
-    number(refused as u64);
+fn say_answer(to: &impl Print, refused: u32, values: &[u64]) -> io::Result<()> {
+    number(to, refused as u64)?;
     if refused == 0 {
-        say_values(values);
+        say_values(to, values)?;
     }
+    Ok(())
 }
 
 // A buffer of bytes, after a bar.
-fn say_bytes(bytes: &[u8]) {
-    say(b" |");
+fn say_bytes(to: &impl Print, bytes: &[u8]) -> io::Result<()> {
+    say(to, b" |")?;
     let mut i: usize = 0;
     'bytes: while i < bytes.len() {
-        number(long(bytes[i]));
+        number(to, long(bytes[i]))?;
         i += 1;
     }
+    Ok(())
 }
 
 // A word as a number that can be printed.
@@ -81,13 +85,14 @@ fn of_word(x: u16) -> u64
 }
 
 // A buffer of words, after a bar.
-fn say_words(words: &[u16]) {
-    say(b" |");
+fn say_words(to: &impl Print, words: &[u16]) -> io::Result<()> {
+    say(to, b" |")?;
     let mut i: usize = 0;
     'words: while i < words.len() {
-        number(of_word(words[i]));
+        number(to, of_word(words[i]))?;
         i += 1;
     }
+    Ok(())
 }
 
 // The 16-bit number at a place, 0 past the end.
@@ -142,23 +147,23 @@ fn words_of<'a>(space: &'a mut [u16], numbers: &[u8], at: usize) -> &'a mut [u16
 }
 
 // The five starts.
-fn say_read(limits: Limits, table: &[u8]) {
+fn say_read(to: &impl Print, limits: Limits, table: &[u8]) -> io::Result<()> {
     let mut values = [0u64; 5];
     let refused = capi_answers::say_reading(read::read_within(limits, table), &mut values);
-    say_answer(refused, &values);
+    say_answer(to, refused, &values)
 }
 
 // The number of tops found, and the word of each state.
-fn say_tops(limits: Limits, table: &[u8]) {
+fn say_tops(to: &impl Print, limits: Limits, table: &[u8]) -> io::Result<()> {
     let found = tops::tops_within(limits, table);
-    number(found.number as u64);
-    number(found.found as u64);
+    number(to, found.number as u64)?;
+    number(to, found.found as u64)?;
     let words = found.words;
-    say_values(&words);
+    say_values(to, &words)
 }
 
 // Clauses and words, and the list.
-fn say_clauses(limits: Limits, table: &[u8], case: &[u8]) {
+fn say_clauses(to: &impl Print, limits: Limits, table: &[u8], case: &[u8]) -> io::Result<()> {
     let mut space = [7u16; 4096];
     let list = words_of(&mut space, case, 6);
     let mut values = [0u64; 2];
@@ -166,8 +171,8 @@ fn say_clauses(limits: Limits, table: &[u8], case: &[u8]) {
         clauses::clauses_within(limits, table, list),
         &mut values,
     );
-    say_answer(refused, &values);
-    say_words(list);
+    say_answer(to, refused, &values)?;
+    say_words(to, list)
 }
 
 // Fills a list with words from their bytes.
@@ -185,7 +190,13 @@ fn fill(list: &mut [u16], bytes: &[u8])
 }
 
 // The guesses made, and the assignment.
-fn say_search(limits: Limits, numbers: &[u8], words: &[u8], case: &[u8]) {
+fn say_search(
+    to: &impl Print,
+    limits: Limits,
+    numbers: &[u8],
+    words: &[u8],
+    case: &[u8],
+) -> io::Result<()> {
     let variables = word_at(numbers, 0);
     let budget = word_at(numbers, 2) as u64;
     let mut held = [0u16; 4096];
@@ -196,33 +207,45 @@ fn say_search(limits: Limits, numbers: &[u8], words: &[u8], case: &[u8]) {
     let mut values = [0u64; 1];
     let solution = search::search_within(limits, list, variables, budget, out);
     let refused = capi_answers::say_solution(solution, &mut values);
-    say_answer(refused, &values);
-    say_bytes(out);
+    say_answer(to, refused, &values)?;
+    say_bytes(to, out)
 }
 
 // The class count.
-fn say_check(limits: Limits, map: &[u8], table: &[u8]) {
+fn say_check(to: &impl Print, limits: Limits, map: &[u8], table: &[u8]) -> io::Result<()> {
     let mut values = [0u64; 1];
     let refused = capi_answers::say_checked(
         check_map::check_within(limits, table, map),
         &mut values,
     );
-    say_answer(refused, &values);
+    say_answer(to, refused, &values)
 }
 
 // The length of the quotient, and the output.
-fn say_quotient(limits: Limits, map: &[u8], table: &[u8], case: &[u8]) {
+fn say_quotient(
+    to: &impl Print,
+    limits: Limits,
+    map: &[u8],
+    table: &[u8],
+    case: &[u8],
+) -> io::Result<()> {
     let mut space = [7u8; 4096];
     let out = bytes_of(&mut space, case, 10);
     let mut values = [0u64; 1];
     let written = quotient::quotient_within(limits, table, map, out);
     let refused = capi_answers::say_written(written, &mut values);
-    say_answer(refused, &values);
-    say_bytes(out);
+    say_answer(to, refused, &values)?;
+    say_bytes(to, out)
 }
 
 // The seven values of a reduction, and the list, the map buffer and the output.
-fn say_reduce(limits: Limits, numbers: &[u8], table: &[u8], case: &[u8]) {
+fn say_reduce(
+    to: &impl Print,
+    limits: Limits,
+    numbers: &[u8],
+    table: &[u8],
+    case: &[u8],
+) -> io::Result<()> {
     let budget = word_at(numbers, 0) as u64;
     let mut words = [7u16; 4096];
     let mut states = [7u8; 4096];
@@ -233,37 +256,49 @@ fn say_reduce(limits: Limits, numbers: &[u8], table: &[u8], case: &[u8]) {
     let mut values = [0u64; 7];
     let reduction = reduce::reduce_within(limits, table, budget, list, map, out);
     let refused = capi_answers::say_reduction(reduction, &mut values);
-    say_answer(refused, &values);
-    say_words(list);
-    say_bytes(map);
-    say_bytes(out);
+    say_answer(to, refused, &values)?;
+    say_words(to, list)?;
+    say_bytes(to, map)?;
+    say_bytes(to, out)
 }
 
 // 1 yes, 0 no.
-fn say_script(limits: Limits, script: &[u8], table: &[u8]) {
+fn say_script(to: &impl Print, limits: Limits, script: &[u8], table: &[u8]) -> io::Result<()> {
     let mut values = [0u64; 1];
     let refused = capi_answers::say_read(script::script_within(limits, table, script), &mut values);
-    say_answer(refused, &values);
+    say_answer(to, refused, &values)
 }
 
 // Records, and those of them that are kept, folded and dead; and the output.
-fn say_records(limits: Limits, map: &[u8], table: &[u8], case: &[u8]) {
+fn say_records(
+    to: &impl Print,
+    limits: Limits,
+    map: &[u8],
+    table: &[u8],
+    case: &[u8],
+) -> io::Result<()> {
     let mut space = [7u8; 4096];
     let out = bytes_of(&mut space, case, 10);
     let mut values = [0u64; 4];
     let recorded = records::records_within(limits, table, map, out);
     let refused = capi_answers::say_recorded(recorded, &mut values);
-    say_answer(refused, &values);
-    say_bytes(out);
+    say_answer(to, refused, &values)?;
+    say_bytes(to, out)
 }
 
 // The sums by class, and the total.
-fn say_uses(limits: Limits, map: &[u8], lines: &[u8], table: &[u8]) {
+fn say_uses(
+    to: &impl Print,
+    limits: Limits,
+    map: &[u8],
+    lines: &[u8],
+    table: &[u8],
+) -> io::Result<()> {
     let counted = uses::uses_within(limits, table, map, lines);
-    number(counted.number as u64);
+    number(to, counted.number as u64)?;
     let sums = counted.sums;
-    say_values(&sums);
-    number(counted.total);
+    say_values(to, &sums)?;
+    number(to, counted.total)
 }
 
 // The lengths of 16 tables, from their bytes.
@@ -280,7 +315,14 @@ fn lengths_from(bytes: &[u8]) -> [u64; 16]
 }
 
 // The rows of a season's tables, and the list, the maps and the output.
-fn say_season(limits: Limits, numbers: &[u8], sizes: &[u8], tables: &[u8], case: &[u8]) {
+fn say_season(
+    to: &impl Print,
+    limits: Limits,
+    numbers: &[u8],
+    sizes: &[u8],
+    tables: &[u8],
+    case: &[u8],
+) -> io::Result<()> {
     let guesses = word_at(numbers, 0) as u64;
     let lengths = lengths_from(sizes);
     let k = sizes.len() / 8 % 17;
@@ -293,14 +335,14 @@ fn say_season(limits: Limits, numbers: &[u8], sizes: &[u8], tables: &[u8], case:
     let mut values = [0u64; 64];
     let season = season::season_within(limits, tables, &lengths[..k], guesses, list, maps, out);
     let refused = capi_answers::say_season(season, &mut values);
-    say_answer(refused, &values);
-    say_words(list);
-    say_bytes(maps);
-    say_bytes(out);
+    say_answer(to, refused, &values)?;
+    say_words(to, list)?;
+    say_bytes(to, maps)?;
+    say_bytes(to, out)
 }
 
 // The length of a random table, and the output.
-fn say_generate(limits: Limits, numbers: &[u8], case: &[u8]) {
+fn say_generate(to: &impl Print, limits: Limits, numbers: &[u8], case: &[u8]) -> io::Result<()> {
     let mut space = [7u8; 4096];
     let out = bytes_of(&mut space, case, 10);
     let mut values = [0u64; 1];
@@ -315,31 +357,47 @@ fn say_generate(limits: Limits, numbers: &[u8], case: &[u8]) {
         out,
     );
     let refused = capi_answers::say_written(written, &mut values);
-    say_answer(refused, &values);
-    say_bytes(out);
+    say_answer(to, refused, &values)?;
+    say_bytes(to, out)
 }
 
 // 1 yes, 0 no.
-fn say_fit(first: &[u8], second: &[u8]) {
+fn say_fit(to: &impl Print, first: &[u8], second: &[u8]) -> io::Result<()> {
     let mut values = [0u64; 1];
     let refused = capi_answers::say_fitting(fit::fit(first, second), &mut values);
-    say_answer(refused, &values);
+    say_answer(to, refused, &values)
 }
 
 // The length of two tables combined, and the output.
-fn say_combine(limits: Limits, first: &[u8], second: &[u8], how: How, case: &[u8]) {
+fn say_combine(
+    to: &impl Print,
+    limits: Limits,
+    first: &[u8],
+    second: &[u8],
+    how: How,
+    case: &[u8],
+) -> io::Result<()> {
     let mut space = [7u8; 4096];
     let out = bytes_of(&mut space, case, 10);
     let mut values = [0u64; 1];
     let written = combine::combine_within(limits, first, second, how, out);
     let refused = capi_answers::say_written(written, &mut values);
-    say_answer(refused, &values);
-    say_bytes(out);
+    say_answer(to, refused, &values)?;
+    say_bytes(to, out)
 }
 
 // Which map it is, 1 or 2, or 0 with a refusal, and the map that is handed back.
-fn say_choose<'a>(limits: Limits, first: &'a [u8], second: &'a [u8], table: &[u8]) {
-    number(choose::choose_number_within(limits, table, first, second) as u64);
+fn say_choose<'a>(
+    to: &impl Print,
+    limits: Limits,
+    first: &'a [u8],
+    second: &'a [u8],
+    table: &[u8],
+) -> io::Result<()> {
+    number(
+        to,
+        choose::choose_number_within(limits, table, first, second) as u64,
+    )?;
     let choice = choose::decide_within(limits, table, first, second);
     let which = choice.which;
     let chosen = match which {
@@ -347,75 +405,99 @@ fn say_choose<'a>(limits: Limits, first: &'a [u8], second: &'a [u8], table: &[u8
         Which::First => 1,
         Which::Second => 2,
     };
-    number(chosen);
-    say_bytes(choose::choose_within(limits, table, first, second));
+    number(to, chosen)?;
+    say_bytes(to, choose::choose_within(limits, table, first, second))
 }
 
 // The answer and the buffers of a case, by its operation.
-fn say_operation<'a>(case: &'a [u8], first: &'a [u8], second: &'a [u8], third: &'a [u8]) {
+fn say_operation<'a>(
+    to: &impl Print,
+    case: &'a [u8],
+    first: &'a [u8],
+    second: &'a [u8],
+    third: &'a [u8],
+) -> io::Result<()> {
     let limits = Limits {
         states: word_at(case, 2),
         symbols: word_at(case, 4),
     };
     match word_at(case, 0) {
-        1 => say_read(limits, third),
-        2 => say_tops(limits, third),
-        3 => say_clauses(limits, third, case),
-        4 => say_search(limits, first, third, case),
-        5 => say_check(limits, first, third),
-        6 => say_quotient(limits, first, third, case),
-        7 => say_reduce(limits, first, third, case),
-        8 => say_script(limits, first, third),
-        9 => say_records(limits, first, third, case),
-        10 => say_uses(limits, first, second, third),
-        11 => say_season(limits, first, second, third, case),
-        12 => say_generate(limits, first, case),
-        13 => say_fit(first, third),
-        14 => say_choose(limits, first, second, third),
-        15 => say_combine(limits, first, third, How::Intersection, case),
-        16 => say_combine(limits, first, third, How::Union, case),
-        _ => {}
+        1 => say_read(to, limits, third),
+        2 => say_tops(to, limits, third),
+        3 => say_clauses(to, limits, third, case),
+        4 => say_search(to, limits, first, third, case),
+        5 => say_check(to, limits, first, third),
+        6 => say_quotient(to, limits, first, third, case),
+        7 => say_reduce(to, limits, first, third, case),
+        8 => say_script(to, limits, first, third),
+        9 => say_records(to, limits, first, third, case),
+        10 => say_uses(to, limits, first, second, third),
+        11 => say_season(to, limits, first, second, third, case),
+        12 => say_generate(to, limits, first, case),
+        13 => say_fit(to, first, third),
+        14 => say_choose(to, limits, first, second, third),
+        15 => say_combine(to, limits, first, third, How::Intersection, case),
+        16 => say_combine(to, limits, first, third, How::Union, case),
+        _ => Ok(()),
     }
 }
 
 // The line of a case.
-fn say_case(case: &[u8]) {
+fn say_case(to: &impl Print, case: &[u8]) -> io::Result<()> {
     let first = 18 + word_at(case, 12);
     let second = first + word_at(case, 14);
     let third = second + word_at(case, 16);
     if case.len() < third {
-        return;
+        return Ok(());
     }
-    say(&case[18..first]);
+    say(to, &case[18..first])?;
     say_operation(
+        to,
         case,
         &case[first..second],
         &case[second..third],
         &case[third..],
-    );
-    say(b"\n");
+    )?;
+    say(to, b"\n")
+}
+
+// Reads until the buffer is full or the input ends: how many bytes that is.
+fn read_full<R: Read>(input: &mut R, buffer: &mut [u8]) -> io::Result<usize>
+    ensures { IfOk result (λ n. IsPrefixLen n buffer.new) }
+{
+    let mut done: usize = 0;
+    'reads: while done < buffer.len() {
+        let n = input.read(&mut buffer[done..])?;
+        if n == 0 {
+            break;
+        }
+        done += n;
+    }
+    Ok(done)
 }
 
 // One case; false at the end of the input.
-fn next_case() -> bool {
+fn next_case<R: Read>(input: &mut R, to: &impl Print) -> io::Result<bool> {
     let mut length = [0u8; 2];
-    if io::read_full(STDIN_FILENO, &mut length) < 2 {
-        return false;
+    if read_full(input, &mut length)? < 2 {
+        return Ok(false);
     }
-    let mut space = io::large_buffer();
+    let mut space = [0u8; 65536];
     let case = bytes_of(&mut space, &length, 0);
-    io::read_full(STDIN_FILENO, case);
-    say_case(case);
-    true
+    read_full(input, case)?;
+    say_case(to, case)?;
+    Ok(true)
 }
 
 // Every case of the input, one after the other.
-fn main() {
+fn main(rt: HostRuntime) -> io::Result<()> {
+    let mut input = rt.stdin();
     let mut turns: usize = 1000000;
     'cases: while 0 < turns {
-        if !next_case() {
-            return;
+        if !next_case(&mut input, &rt)? {
+            return Ok(());
         }
         turns -= 1;
     }
+    Ok(())
 }

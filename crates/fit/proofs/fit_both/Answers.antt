@@ -15,8 +15,8 @@ returns-then-not-no_choice c =
 
 pub returns-then-fits : goal.returns-then-fits
 returns-then-fits c =
-    says_yes c.requires c.part-symbols.ensures c.part.ensures (c.same.ensures.0 c.if-not-same.false) (sym c.no_choice.ensures ∙ c.if-not-no_choice.false) (sym c.fits2.ensures ∙ c.if-fits.true)
+    says_yes c.requires c.part-symbols.ensures c.part.ensures (c.same.ensures.0 c.if-not-same.false) (sym c.no_choice.ensures ∙ c.if-not-no_choice.false) (sym c.fits.ensures ∙ c.if-fits.true)
 
 pub returns : goal.returns
 returns c =
-    says_no c.requires c.part-symbols.ensures c.part.ensures (c.same.ensures.0 c.if-not-same.false) (sym c.no_choice.ensures ∙ c.if-not-no_choice.false) (sym c.fits2.ensures ∙ c.if-fits.false)
+    says_no c.requires c.part-symbols.ensures c.part.ensures (c.same.ensures.0 c.if-not-same.false) (sym c.no_choice.ensures ∙ c.if-not-no_choice.false) (sym c.fits.ensures ∙ c.if-fits.false)
