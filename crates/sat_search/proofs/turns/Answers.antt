@@ -1,7 +1,8 @@
 -- `sat_search::turns` meets its contract. The loop's invariant: whatever end the turns lead to from here, with the trial held, they lead to from the start; the counters are
 -- those of the values before the last closing began, and are saved where a guess stands. The measure is twice the guesses left and the guesses that stand. Assumes nothing.
-use Prim.Native.Nat.{suc, ◌-◌, ◌≤◌, ◌<◌}
+use Prim.Native.Nat.{ℕ, suc, ◌-◌, ◌≤◌, ◌<◌}
 use native.Mathlib.Omega.{arith}
+use mathlib.Core.List.{List}
 use mathlib.Core.Path.{◌≡◌, refl, sym, ◌∙◌}
 use lib.ListN.{length}
 use Rattle.cnf.specs.Clauses.{clauses_in}
@@ -15,18 +16,17 @@ use Rattle.sat_search.proofs.turns.Goals as goal
 -- ---- what holds there
 
 -- what is lent keeps its length while the values are closed
-record Lengths (c : tie.After-propagate invariant-turns decreases-turns) : Type 0 where
-  counters : length c.propagate.new.1.1.1.1.1.1.1.0 ≡ length (entry (head c)).args.counters.now
-  saved : length (head c).turns.saved ≡ length (entry (head c)).args.saved.now
-  noted : length c.propagate.new.1.1.1.1.1.1.1.1.0 ≡ length (entry (head c)).args.noted.now
-  values : length c.propagate.new.1.1.1.1.1.1.1.1.1.0 ≡ length (entry (head c)).args.values.now
-  trail : length c.propagate.new.1.1.1.1.1.1.1.1.1.1.0 ≡ length (entry (head c)).args.trail.now
+record Lengths (counters counters₀ saved saved₀ noted noted₀ values values₀ trail trail₀ : List ℕ) : Type 0 where
+  counters-long : length counters ≡ length counters₀
+  saved-long : length saved ≡ length saved₀
+  noted-long : length noted ≡ length noted₀
+  values-long : length values ≡ length values₀
+  trail-long : length trail ≡ length trail₀
 
 pub turns-init : goal.turns-init
 turns-init c =
-    let p = c.requires.1 in
-    let r = p.1.0 in
-    (laws.turning _ _ r c.places-levels.ensures, p.1.1.1, wording.lags-first c.args.clauses.now p.0.0 r.counted (omega (arith, r.counted, r.size, r.most, r.long)), wording.marked-none, (λ _ h. absurd (omega (arith, h))), refl, p.0.1, refl)
+    let r = c.requires.rested in
+    (laws.turning _ _ r c.places-levels.ensures, c.requires.pair_table.1, wording.lags-first c.args.clauses.now c.requires.counters_of_if.0 r.counted (omega (arith, r.counted, r.size, r.most, r.long)), wording.marked-none, (λ _ h. absurd (omega (arith, h))), refl, c.requires.counters_of_if.1, refl)
 
 pub propagate-r-requires : goal.propagate-r-requires
 propagate-r-requires c =
@@ -35,48 +35,38 @@ propagate-r-requires c =
 
 pub shape_of-counters-then-depth-eq0 : goal.shape_of-counters-then-depth-eq0
 shape_of-counters-then-depth-eq0 c =
-    let lengths : Lengths c = let i = c.turns.invariant in
-    let k = c.propagate-r.auto.1.1.1.1.1.1.1 in
+    let lengths : Lengths c.propagate-r.new.counters c.args.counters.now c.turns.saved c.args.saved.now c.propagate-r.new.noted c.args.noted.now c.propagate-r.new.values c.args.values.now c.propagate-r.new.trail c.args.trail.now = let i = c.turns.invariant in
     let s = c.propagate-r.ensures.settles.0 in
-    let p = c.requires.1 in
-    record { counters = k.0 ∙ i.5; saved = i.6 ∙ sym p.0.1; noted = k.1.0 ∙ i.7; values = laws.after-size i.0 s; trail = laws.after-long i.0 s ∙ sym p.1.0.long } in
-    lengths.counters
+    record { counters-long = c.propagate-r.auto.counters ∙ i.5; saved-long = i.6 ∙ sym c.requires.counters_of_if.1; noted-long = c.propagate-r.auto.noted ∙ i.7; values-long = laws.after-size i.0 s; trail-long = laws.after-long i.0 s ∙ sym c.requires.rested.long } in
+    lengths.counters-long
 
 pub shape_of-saved-then-depth-eq0 : goal.shape_of-saved-then-depth-eq0
 shape_of-saved-then-depth-eq0 c =
-    let lengths : Lengths c = let i = c.turns.invariant in
-    let k = c.propagate-r.auto.1.1.1.1.1.1.1 in
+    let lengths : Lengths c.propagate-r.new.counters c.args.counters.now c.turns.saved c.args.saved.now c.propagate-r.new.noted c.args.noted.now c.propagate-r.new.values c.args.values.now c.propagate-r.new.trail c.args.trail.now = let i = c.turns.invariant in
     let s = c.propagate-r.ensures.settles.0 in
-    let p = c.requires.1 in
-    record { counters = k.0 ∙ i.5; saved = i.6 ∙ sym p.0.1; noted = k.1.0 ∙ i.7; values = laws.after-size i.0 s; trail = laws.after-long i.0 s ∙ sym p.1.0.long } in
-    lengths.saved
+    record { counters-long = c.propagate-r.auto.counters ∙ i.5; saved-long = i.6 ∙ sym c.requires.counters_of_if.1; noted-long = c.propagate-r.auto.noted ∙ i.7; values-long = laws.after-size i.0 s; trail-long = laws.after-long i.0 s ∙ sym c.requires.rested.long } in
+    lengths.saved-long
 
 pub shape_of-noted-then-depth-eq0 : goal.shape_of-noted-then-depth-eq0
 shape_of-noted-then-depth-eq0 c =
-    let lengths : Lengths c = let i = c.turns.invariant in
-    let k = c.propagate-r.auto.1.1.1.1.1.1.1 in
+    let lengths : Lengths c.propagate-r.new.counters c.args.counters.now c.turns.saved c.args.saved.now c.propagate-r.new.noted c.args.noted.now c.propagate-r.new.values c.args.values.now c.propagate-r.new.trail c.args.trail.now = let i = c.turns.invariant in
     let s = c.propagate-r.ensures.settles.0 in
-    let p = c.requires.1 in
-    record { counters = k.0 ∙ i.5; saved = i.6 ∙ sym p.0.1; noted = k.1.0 ∙ i.7; values = laws.after-size i.0 s; trail = laws.after-long i.0 s ∙ sym p.1.0.long } in
-    lengths.noted
+    record { counters-long = c.propagate-r.auto.counters ∙ i.5; saved-long = i.6 ∙ sym c.requires.counters_of_if.1; noted-long = c.propagate-r.auto.noted ∙ i.7; values-long = laws.after-size i.0 s; trail-long = laws.after-long i.0 s ∙ sym c.requires.rested.long } in
+    lengths.noted-long
 
 pub shape_of-values-then-depth-eq0 : goal.shape_of-values-then-depth-eq0
 shape_of-values-then-depth-eq0 c =
-    let lengths : Lengths c = let i = c.turns.invariant in
-    let k = c.propagate-r.auto.1.1.1.1.1.1.1 in
+    let lengths : Lengths c.propagate-r.new.counters c.args.counters.now c.turns.saved c.args.saved.now c.propagate-r.new.noted c.args.noted.now c.propagate-r.new.values c.args.values.now c.propagate-r.new.trail c.args.trail.now = let i = c.turns.invariant in
     let s = c.propagate-r.ensures.settles.0 in
-    let p = c.requires.1 in
-    record { counters = k.0 ∙ i.5; saved = i.6 ∙ sym p.0.1; noted = k.1.0 ∙ i.7; values = laws.after-size i.0 s; trail = laws.after-long i.0 s ∙ sym p.1.0.long } in
-    lengths.values
+    record { counters-long = c.propagate-r.auto.counters ∙ i.5; saved-long = i.6 ∙ sym c.requires.counters_of_if.1; noted-long = c.propagate-r.auto.noted ∙ i.7; values-long = laws.after-size i.0 s; trail-long = laws.after-long i.0 s ∙ sym c.requires.rested.long } in
+    lengths.values-long
 
 pub shape_of-trail-then-depth-eq0 : goal.shape_of-trail-then-depth-eq0
 shape_of-trail-then-depth-eq0 c =
-    let lengths : Lengths c = let i = c.turns.invariant in
-    let k = c.propagate-r.auto.1.1.1.1.1.1.1 in
+    let lengths : Lengths c.propagate-r.new.counters c.args.counters.now c.turns.saved c.args.saved.now c.propagate-r.new.noted c.args.noted.now c.propagate-r.new.values c.args.values.now c.propagate-r.new.trail c.args.trail.now = let i = c.turns.invariant in
     let s = c.propagate-r.ensures.settles.0 in
-    let p = c.requires.1 in
-    record { counters = k.0 ∙ i.5; saved = i.6 ∙ sym p.0.1; noted = k.1.0 ∙ i.7; values = laws.after-size i.0 s; trail = laws.after-long i.0 s ∙ sym p.1.0.long } in
-    lengths.trail
+    record { counters-long = c.propagate-r.auto.counters ∙ i.5; saved-long = i.6 ∙ sym c.requires.counters_of_if.1; noted-long = c.propagate-r.auto.noted ∙ i.7; values-long = laws.after-size i.0 s; trail-long = laws.after-long i.0 s ∙ sym c.requires.rested.long } in
+    lengths.trail-long
 
 pub returns-then-depth-eq0 : goal.returns-then-depth-eq0
 returns-then-depth-eq0 c =
@@ -98,11 +88,9 @@ bounds-levels-depth c =
 
 pub backtrack-undone-requires : goal.backtrack-undone-requires
 backtrack-undone-requires c =
-    let lengths : Lengths c = let i = c.turns.invariant in
-    let k = c.propagate-r.auto.1.1.1.1.1.1.1 in
+    let lengths : Lengths c.propagate-r.new.counters c.args.counters.now c.turns.saved c.args.saved.now c.propagate-r.new.noted c.args.noted.now c.propagate-r.new.values c.args.values.now c.propagate-r.new.trail c.args.trail.now = let i = c.turns.invariant in
     let s = c.propagate-r.ensures.settles.0 in
-    let p = c.requires.1 in
-    record { counters = k.0 ∙ i.5; saved = i.6 ∙ sym p.0.1; noted = k.1.0 ∙ i.7; values = laws.after-size i.0 s; trail = laws.after-long i.0 s ∙ sym p.1.0.long } in
+    record { counters-long = c.propagate-r.auto.counters ∙ i.5; saved-long = i.6 ∙ sym c.requires.counters_of_if.1; noted-long = c.propagate-r.auto.noted ∙ i.7; values-long = laws.after-size i.0 s; trail-long = laws.after-long i.0 s ∙ sym c.requires.rested.long } in
     let stands : let d = c.turns.depth in d ≡ suc (d - 1) = omega (arith, c.if-depth-eq0.false) in
     let i = c.turns.invariant in
     let s = c.propagate-r.ensures.settles in
@@ -110,7 +98,7 @@ backtrack-undone-requires c =
     let d = c.turns.depth - 1 in
     let z = stands in
     let m = c.wide-mark.ensures in
-    let l = lengths.counters in
+    let l = lengths.counters-long in
     let passed = wording.passed c.args.list.now c.args.n i.0 s.0 t d z m i.3 in
     let saved = wording.saved_on c.args.list.now c.args.n i.0 s.0 c.args.clauses.now (λ k. i.4 k (omega (arith, z))) i.2 in
     record { indexed_if = (c.requires.prepared.indexed, wording.prepared_sized l c.requires.prepared, i.6 ∙ sym l); trail_mark = (passed, saved); pair_table = (c.requires.pair_table.0, laws.can_undo i.0 s.0 t d z m, s.1) }
@@ -123,11 +111,9 @@ overflow_add-low c =
 
 pub turns-preserved-then-r : goal.turns-preserved-then-r
 turns-preserved-then-r c =
-    let lengths : Lengths c = let i = c.turns.invariant in
-    let k = c.propagate-r.auto.1.1.1.1.1.1.1 in
+    let lengths : Lengths c.propagate-r.new.counters c.args.counters.now c.turns.saved c.args.saved.now c.propagate-r.new.noted c.args.noted.now c.propagate-r.new.values c.args.values.now c.propagate-r.new.trail c.args.trail.now = let i = c.turns.invariant in
     let s = c.propagate-r.ensures.settles.0 in
-    let p = c.requires.1 in
-    record { counters = k.0 ∙ i.5; saved = i.6 ∙ sym p.0.1; noted = k.1.0 ∙ i.7; values = laws.after-size i.0 s; trail = laws.after-long i.0 s ∙ sym p.1.0.long } in
+    record { counters-long = c.propagate-r.auto.counters ∙ i.5; saved-long = i.6 ∙ sym c.requires.counters_of_if.1; noted-long = c.propagate-r.auto.noted ∙ i.7; values-long = laws.after-size i.0 s; trail-long = laws.after-long i.0 s ∙ sym c.requires.rested.long } in
     let stands : let d = c.turns.depth in d ≡ suc (d - 1) = omega (arith, c.if-depth-eq0.false) in
     let i = c.turns.invariant in
     let s = c.propagate-r.ensures.settles.0 in
@@ -135,61 +121,49 @@ turns-preserved-then-r c =
     let d = c.turns.depth - 1 in
     let z = stands in
     let m = c.wide-mark.ensures in
-    rw c.backtrack-undone.ensures.forced (laws.turn_undo i.0 s t d z m c.backtrack-undone.ensures.undone.0, c.backtrack-undone.ensures.undone.1, c.backtrack-undone.ensures.back.lags, record { before = laws.earlier-mark i.0 s t d z m }, (λ k _. c.backtrack-undone.ensures.back.kept k), c.backtrack-undone.kept.1.1.1.1.1.0 ∙ c.propagate-r.kept.1.1.1.1.1.1.1.0 ∙ i.5, c.backtrack-undone.kept.1.1.1.1.1.1.0 ∙ i.6, lengths.noted)
+    rw c.backtrack-undone.ensures.forced (laws.turn_undo i.0 s t d z m c.backtrack-undone.ensures.undone.0, c.backtrack-undone.ensures.undone.1, c.backtrack-undone.ensures.back.lags, record { before = laws.earlier-mark i.0 s t d z m }, (λ k _. c.backtrack-undone.ensures.back.kept k), c.backtrack-undone.auto.counters ∙ c.propagate-r.auto.counters ∙ i.5, c.backtrack-undone.auto.saved ∙ i.6, lengths.noted-long)
 
 pub due_at-due-requires : goal.due_at-due-requires
 due_at-due-requires c =
-    let lengths : Lengths c = let i = c.turns.invariant in
-    let k = c.propagate-r.auto.1.1.1.1.1.1.1 in
+    let lengths : Lengths c.propagate-r.new.counters c.args.counters.now c.turns.saved c.args.saved.now c.propagate-r.new.noted c.args.noted.now c.propagate-r.new.values c.args.values.now c.propagate-r.new.trail c.args.trail.now = let i = c.turns.invariant in
     let s = c.propagate-r.ensures.settles.0 in
-    let p = c.requires.1 in
-    record { counters = k.0 ∙ i.5; saved = i.6 ∙ sym p.0.1; noted = k.1.0 ∙ i.7; values = laws.after-size i.0 s; trail = laws.after-long i.0 s ∙ sym p.1.0.long } in
-    omega (arith, c.turns.invariant.0.low_in, lengths.values)
+    record { counters-long = c.propagate-r.auto.counters ∙ i.5; saved-long = i.6 ∙ sym c.requires.counters_of_if.1; noted-long = c.propagate-r.auto.noted ∙ i.7; values-long = laws.after-size i.0 s; trail-long = laws.after-long i.0 s ∙ sym c.requires.rested.long } in
+    omega (arith, c.turns.invariant.0.low_in, lengths.values-long)
 
 pub shape_of-counters-in-Solved : goal.shape_of-counters-in-Solved
 shape_of-counters-in-Solved c =
-    let lengths : Lengths c = let i = c.turns.invariant in
-    let k = c.propagate-r.auto.1.1.1.1.1.1.1 in
+    let lengths : Lengths c.propagate-r.new.counters c.args.counters.now c.turns.saved c.args.saved.now c.propagate-r.new.noted c.args.noted.now c.propagate-r.new.values c.args.values.now c.propagate-r.new.trail c.args.trail.now = let i = c.turns.invariant in
     let s = c.propagate-r.ensures.settles.0 in
-    let p = c.requires.1 in
-    record { counters = k.0 ∙ i.5; saved = i.6 ∙ sym p.0.1; noted = k.1.0 ∙ i.7; values = laws.after-size i.0 s; trail = laws.after-long i.0 s ∙ sym p.1.0.long } in
-    lengths.counters
+    record { counters-long = c.propagate-r.auto.counters ∙ i.5; saved-long = i.6 ∙ sym c.requires.counters_of_if.1; noted-long = c.propagate-r.auto.noted ∙ i.7; values-long = laws.after-size i.0 s; trail-long = laws.after-long i.0 s ∙ sym c.requires.rested.long } in
+    lengths.counters-long
 
 pub shape_of-saved-in-Solved : goal.shape_of-saved-in-Solved
 shape_of-saved-in-Solved c =
-    let lengths : Lengths c = let i = c.turns.invariant in
-    let k = c.propagate-r.auto.1.1.1.1.1.1.1 in
+    let lengths : Lengths c.propagate-r.new.counters c.args.counters.now c.turns.saved c.args.saved.now c.propagate-r.new.noted c.args.noted.now c.propagate-r.new.values c.args.values.now c.propagate-r.new.trail c.args.trail.now = let i = c.turns.invariant in
     let s = c.propagate-r.ensures.settles.0 in
-    let p = c.requires.1 in
-    record { counters = k.0 ∙ i.5; saved = i.6 ∙ sym p.0.1; noted = k.1.0 ∙ i.7; values = laws.after-size i.0 s; trail = laws.after-long i.0 s ∙ sym p.1.0.long } in
-    lengths.saved
+    record { counters-long = c.propagate-r.auto.counters ∙ i.5; saved-long = i.6 ∙ sym c.requires.counters_of_if.1; noted-long = c.propagate-r.auto.noted ∙ i.7; values-long = laws.after-size i.0 s; trail-long = laws.after-long i.0 s ∙ sym c.requires.rested.long } in
+    lengths.saved-long
 
 pub shape_of-noted-in-Solved : goal.shape_of-noted-in-Solved
 shape_of-noted-in-Solved c =
-    let lengths : Lengths c = let i = c.turns.invariant in
-    let k = c.propagate-r.auto.1.1.1.1.1.1.1 in
+    let lengths : Lengths c.propagate-r.new.counters c.args.counters.now c.turns.saved c.args.saved.now c.propagate-r.new.noted c.args.noted.now c.propagate-r.new.values c.args.values.now c.propagate-r.new.trail c.args.trail.now = let i = c.turns.invariant in
     let s = c.propagate-r.ensures.settles.0 in
-    let p = c.requires.1 in
-    record { counters = k.0 ∙ i.5; saved = i.6 ∙ sym p.0.1; noted = k.1.0 ∙ i.7; values = laws.after-size i.0 s; trail = laws.after-long i.0 s ∙ sym p.1.0.long } in
-    lengths.noted
+    record { counters-long = c.propagate-r.auto.counters ∙ i.5; saved-long = i.6 ∙ sym c.requires.counters_of_if.1; noted-long = c.propagate-r.auto.noted ∙ i.7; values-long = laws.after-size i.0 s; trail-long = laws.after-long i.0 s ∙ sym c.requires.rested.long } in
+    lengths.noted-long
 
 pub shape_of-values-in-Solved : goal.shape_of-values-in-Solved
 shape_of-values-in-Solved c =
-    let lengths : Lengths c = let i = c.turns.invariant in
-    let k = c.propagate-r.auto.1.1.1.1.1.1.1 in
+    let lengths : Lengths c.propagate-r.new.counters c.args.counters.now c.turns.saved c.args.saved.now c.propagate-r.new.noted c.args.noted.now c.propagate-r.new.values c.args.values.now c.propagate-r.new.trail c.args.trail.now = let i = c.turns.invariant in
     let s = c.propagate-r.ensures.settles.0 in
-    let p = c.requires.1 in
-    record { counters = k.0 ∙ i.5; saved = i.6 ∙ sym p.0.1; noted = k.1.0 ∙ i.7; values = laws.after-size i.0 s; trail = laws.after-long i.0 s ∙ sym p.1.0.long } in
-    lengths.values
+    record { counters-long = c.propagate-r.auto.counters ∙ i.5; saved-long = i.6 ∙ sym c.requires.counters_of_if.1; noted-long = c.propagate-r.auto.noted ∙ i.7; values-long = laws.after-size i.0 s; trail-long = laws.after-long i.0 s ∙ sym c.requires.rested.long } in
+    lengths.values-long
 
 pub shape_of-trail-in-Solved : goal.shape_of-trail-in-Solved
 shape_of-trail-in-Solved c =
-    let lengths : Lengths c = let i = c.turns.invariant in
-    let k = c.propagate-r.auto.1.1.1.1.1.1.1 in
+    let lengths : Lengths c.propagate-r.new.counters c.args.counters.now c.turns.saved c.args.saved.now c.propagate-r.new.noted c.args.noted.now c.propagate-r.new.values c.args.values.now c.propagate-r.new.trail c.args.trail.now = let i = c.turns.invariant in
     let s = c.propagate-r.ensures.settles.0 in
-    let p = c.requires.1 in
-    record { counters = k.0 ∙ i.5; saved = i.6 ∙ sym p.0.1; noted = k.1.0 ∙ i.7; values = laws.after-size i.0 s; trail = laws.after-long i.0 s ∙ sym p.1.0.long } in
-    lengths.trail
+    record { counters-long = c.propagate-r.auto.counters ∙ i.5; saved-long = i.6 ∙ sym c.requires.counters_of_if.1; noted-long = c.propagate-r.auto.noted ∙ i.7; values-long = laws.after-size i.0 s; trail-long = laws.after-long i.0 s ∙ sym c.requires.rested.long } in
+    lengths.trail-long
 
 pub returns-in-Solved : goal.returns-in-Solved
 returns-in-Solved c =
@@ -197,59 +171,47 @@ returns-in-Solved c =
 
 pub walk_back-requires : goal.walk_back-requires
 walk_back-requires c =
-    let lengths : Lengths c = let i = c.turns.invariant in
-    let k = c.propagate-r.auto.1.1.1.1.1.1.1 in
+    let lengths : Lengths c.propagate-r.new.counters c.args.counters.now c.turns.saved c.args.saved.now c.propagate-r.new.noted c.args.noted.now c.propagate-r.new.values c.args.values.now c.propagate-r.new.trail c.args.trail.now = let i = c.turns.invariant in
     let s = c.propagate-r.ensures.settles.0 in
-    let p = c.requires.1 in
-    record { counters = k.0 ∙ i.5; saved = i.6 ∙ sym p.0.1; noted = k.1.0 ∙ i.7; values = laws.after-size i.0 s; trail = laws.after-long i.0 s ∙ sym p.1.0.long } in
+    record { counters-long = c.propagate-r.auto.counters ∙ i.5; saved-long = i.6 ∙ sym c.requires.counters_of_if.1; noted-long = c.propagate-r.auto.noted ∙ i.7; values-long = laws.after-size i.0 s; trail-long = laws.after-long i.0 s ∙ sym c.requires.rested.long } in
     let i = c.turns.invariant.0 in
     let s = c.propagate-r.ensures.settles in
-    record { list_value = (c.requires.prepared.all_there, rw lengths.values (laws.list-formed c.args.list.now c.args.n c.requires.rested.formed)); pair_table = (c.requires.pair_table.0, s.1); retraceable = laws.can_retrace i s.0 }
+    record { list_value = (c.requires.prepared.all_there, rw lengths.values-long (laws.list-formed c.args.list.now c.args.n c.requires.rested.formed)); pair_table = (c.requires.pair_table.0, s.1); retraceable = laws.can_retrace i s.0 }
 
 pub shape_of-counters-in-Spent : goal.shape_of-counters-in-Spent
 shape_of-counters-in-Spent c =
-    let lengths : Lengths c = let i = c.turns.invariant in
-    let k = c.propagate-r.auto.1.1.1.1.1.1.1 in
+    let lengths : Lengths c.propagate-r.new.counters c.args.counters.now c.turns.saved c.args.saved.now c.propagate-r.new.noted c.args.noted.now c.propagate-r.new.values c.args.values.now c.propagate-r.new.trail c.args.trail.now = let i = c.turns.invariant in
     let s = c.propagate-r.ensures.settles.0 in
-    let p = c.requires.1 in
-    record { counters = k.0 ∙ i.5; saved = i.6 ∙ sym p.0.1; noted = k.1.0 ∙ i.7; values = laws.after-size i.0 s; trail = laws.after-long i.0 s ∙ sym p.1.0.long } in
-    lengths.counters
+    record { counters-long = c.propagate-r.auto.counters ∙ i.5; saved-long = i.6 ∙ sym c.requires.counters_of_if.1; noted-long = c.propagate-r.auto.noted ∙ i.7; values-long = laws.after-size i.0 s; trail-long = laws.after-long i.0 s ∙ sym c.requires.rested.long } in
+    lengths.counters-long
 
 pub shape_of-saved-in-Spent : goal.shape_of-saved-in-Spent
 shape_of-saved-in-Spent c =
-    let lengths : Lengths c = let i = c.turns.invariant in
-    let k = c.propagate-r.auto.1.1.1.1.1.1.1 in
+    let lengths : Lengths c.propagate-r.new.counters c.args.counters.now c.turns.saved c.args.saved.now c.propagate-r.new.noted c.args.noted.now c.propagate-r.new.values c.args.values.now c.propagate-r.new.trail c.args.trail.now = let i = c.turns.invariant in
     let s = c.propagate-r.ensures.settles.0 in
-    let p = c.requires.1 in
-    record { counters = k.0 ∙ i.5; saved = i.6 ∙ sym p.0.1; noted = k.1.0 ∙ i.7; values = laws.after-size i.0 s; trail = laws.after-long i.0 s ∙ sym p.1.0.long } in
-    lengths.saved
+    record { counters-long = c.propagate-r.auto.counters ∙ i.5; saved-long = i.6 ∙ sym c.requires.counters_of_if.1; noted-long = c.propagate-r.auto.noted ∙ i.7; values-long = laws.after-size i.0 s; trail-long = laws.after-long i.0 s ∙ sym c.requires.rested.long } in
+    lengths.saved-long
 
 pub shape_of-noted-in-Spent : goal.shape_of-noted-in-Spent
 shape_of-noted-in-Spent c =
-    let lengths : Lengths c = let i = c.turns.invariant in
-    let k = c.propagate-r.auto.1.1.1.1.1.1.1 in
+    let lengths : Lengths c.propagate-r.new.counters c.args.counters.now c.turns.saved c.args.saved.now c.propagate-r.new.noted c.args.noted.now c.propagate-r.new.values c.args.values.now c.propagate-r.new.trail c.args.trail.now = let i = c.turns.invariant in
     let s = c.propagate-r.ensures.settles.0 in
-    let p = c.requires.1 in
-    record { counters = k.0 ∙ i.5; saved = i.6 ∙ sym p.0.1; noted = k.1.0 ∙ i.7; values = laws.after-size i.0 s; trail = laws.after-long i.0 s ∙ sym p.1.0.long } in
-    lengths.noted
+    record { counters-long = c.propagate-r.auto.counters ∙ i.5; saved-long = i.6 ∙ sym c.requires.counters_of_if.1; noted-long = c.propagate-r.auto.noted ∙ i.7; values-long = laws.after-size i.0 s; trail-long = laws.after-long i.0 s ∙ sym c.requires.rested.long } in
+    lengths.noted-long
 
 pub shape_of-values-in-Spent : goal.shape_of-values-in-Spent
 shape_of-values-in-Spent c =
-    let lengths : Lengths c = let i = c.turns.invariant in
-    let k = c.propagate-r.auto.1.1.1.1.1.1.1 in
+    let lengths : Lengths c.propagate-r.new.counters c.args.counters.now c.turns.saved c.args.saved.now c.propagate-r.new.noted c.args.noted.now c.propagate-r.new.values c.args.values.now c.propagate-r.new.trail c.args.trail.now = let i = c.turns.invariant in
     let s = c.propagate-r.ensures.settles.0 in
-    let p = c.requires.1 in
-    record { counters = k.0 ∙ i.5; saved = i.6 ∙ sym p.0.1; noted = k.1.0 ∙ i.7; values = laws.after-size i.0 s; trail = laws.after-long i.0 s ∙ sym p.1.0.long } in
-    c.walk_back.auto.values ∙ lengths.values
+    record { counters-long = c.propagate-r.auto.counters ∙ i.5; saved-long = i.6 ∙ sym c.requires.counters_of_if.1; noted-long = c.propagate-r.auto.noted ∙ i.7; values-long = laws.after-size i.0 s; trail-long = laws.after-long i.0 s ∙ sym c.requires.rested.long } in
+    c.walk_back.auto.values ∙ lengths.values-long
 
 pub shape_of-trail-in-Spent : goal.shape_of-trail-in-Spent
 shape_of-trail-in-Spent c =
-    let lengths : Lengths c = let i = c.turns.invariant in
-    let k = c.propagate-r.auto.1.1.1.1.1.1.1 in
+    let lengths : Lengths c.propagate-r.new.counters c.args.counters.now c.turns.saved c.args.saved.now c.propagate-r.new.noted c.args.noted.now c.propagate-r.new.values c.args.values.now c.propagate-r.new.trail c.args.trail.now = let i = c.turns.invariant in
     let s = c.propagate-r.ensures.settles.0 in
-    let p = c.requires.1 in
-    record { counters = k.0 ∙ i.5; saved = i.6 ∙ sym p.0.1; noted = k.1.0 ∙ i.7; values = laws.after-size i.0 s; trail = laws.after-long i.0 s ∙ sym p.1.0.long } in
-    lengths.trail
+    record { counters-long = c.propagate-r.auto.counters ∙ i.5; saved-long = i.6 ∙ sym c.requires.counters_of_if.1; noted-long = c.propagate-r.auto.noted ∙ i.7; values-long = laws.after-size i.0 s; trail-long = laws.after-long i.0 s ∙ sym c.requires.rested.long } in
+    lengths.trail-long
 
 pub returns-in-Spent : goal.returns-in-Spent
 returns-in-Spent c =
@@ -261,13 +223,11 @@ returns-in-Spent c =
 
 pub copy-requires : goal.copy-requires
 copy-requires c =
-    let lengths : Lengths c = let i = c.turns.invariant in
-    let k = c.propagate-r.auto.1.1.1.1.1.1.1 in
+    let lengths : Lengths c.propagate-r.new.counters c.args.counters.now c.turns.saved c.args.saved.now c.propagate-r.new.noted c.args.noted.now c.propagate-r.new.values c.args.values.now c.propagate-r.new.trail c.args.trail.now = let i = c.turns.invariant in
     let s = c.propagate-r.ensures.settles.0 in
-    let p = c.requires.1 in
-    record { counters = k.0 ∙ i.5; saved = i.6 ∙ sym p.0.1; noted = k.1.0 ∙ i.7; values = laws.after-size i.0 s; trail = laws.after-long i.0 s ∙ sym p.1.0.long } in
+    record { counters-long = c.propagate-r.auto.counters ∙ i.5; saved-long = i.6 ∙ sym c.requires.counters_of_if.1; noted-long = c.propagate-r.auto.noted ∙ i.7; values-long = laws.after-size i.0 s; trail-long = laws.after-long i.0 s ∙ sym c.requires.rested.long } in
     let l = c.turns.invariant.6 in
-    (lengths.counters ∙ sym l, omega (arith, l, c.requires.prepared.room.few))
+    (lengths.counters-long ∙ sym l, omega (arith, l, c.requires.prepared.room.few))
 
 pub overflow_cast-levels : goal.overflow_cast-levels
 overflow_cast-levels c =
@@ -321,7 +281,7 @@ pub overflow_add-made : goal.overflow_add-made
 overflow_add-made c =
     let DueThen : Due → Type 0 = λ r. DueAt c.propagate-r.new.values c.turns.low c.turns.made c.args.budget r in
     let guess : DueThen (due.Guess c.in-Guess.x) = rw c.in-Guess.is at c.due_at-due.ensures in
-    omega (arith, c.turns.invariant.0.few, guess.1, c.fits.budget)
+    omega (arith, c.turns.invariant.0.few, guess.1, c.ranges.budget.fits)
 
 pub overflow_mul-x : goal.overflow_mul-x
 overflow_mul-x c =
@@ -374,11 +334,9 @@ turns-smaller c =
 
 pub turns-preserved : goal.turns-preserved
 turns-preserved c =
-    let lengths : Lengths c = let i = c.turns.invariant in
-    let k = c.propagate-r.auto.1.1.1.1.1.1.1 in
+    let lengths : Lengths c.propagate-r.new.counters c.args.counters.now c.turns.saved c.args.saved.now c.propagate-r.new.noted c.args.noted.now c.propagate-r.new.values c.args.values.now c.propagate-r.new.trail c.args.trail.now = let i = c.turns.invariant in
     let s = c.propagate-r.ensures.settles.0 in
-    let p = c.requires.1 in
-    record { counters = k.0 ∙ i.5; saved = i.6 ∙ sym p.0.1; noted = k.1.0 ∙ i.7; values = laws.after-size i.0 s; trail = laws.after-long i.0 s ∙ sym p.1.0.long } in
+    record { counters-long = c.propagate-r.auto.counters ∙ i.5; saved-long = i.6 ∙ sym c.requires.counters_of_if.1; noted-long = c.propagate-r.auto.noted ∙ i.7; values-long = laws.after-size i.0 s; trail-long = laws.after-long i.0 s ∙ sym c.requires.rested.long } in
     let DueThen : Due → Type 0 = λ r. DueAt c.propagate-r.new.values c.turns.low c.turns.made c.args.budget r in
     let guess : DueThen (due.Guess c.in-Guess.x) = rw c.in-Guess.is at c.due_at-due.ensures in
     let depths : (c.turns.depth ≤ c.propagate-r.result.count) × (c.propagate-r.result.count ≤ 780) = let i = c.turns.invariant.0 in
@@ -391,4 +349,4 @@ turns-preserved c =
     let s = c.propagate-r.ensures in
     let e = c.if-r.false in
     let f = c.force-count.ensures in
-    (laws.turn_guess i.0 s.0.0 e guess.0 guess.1 refl f, f.assigned.rows, wording.lags_guess c.args.list.now c.args.n i.0 s.0.0 c.args.clauses.now e guess.0 s.1 refl f, wording.marked_guess c.turns.levels (omega (arith, i.0.marks, room)), (λ _ _. c.copy.ensures), lengths.counters, c.copy.kept.1.0 ∙ i.6, lengths.noted)
+    (laws.turn_guess i.0 s.settles.0 e guess.0 guess.1 refl f, f.assigned.rows, wording.lags_guess c.args.list.now c.args.n i.0 s.settles.0 c.args.clauses.now e guess.0 s.caught refl f, wording.marked_guess c.turns.levels (omega (arith, i.0.marks, room)), (λ _ _. c.copy.ensures), lengths.counters-long, c.copy.auto.to ∙ i.6, lengths.noted-long)
