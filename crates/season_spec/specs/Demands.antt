@@ -51,21 +51,21 @@ module _ (L : Limits) (tables lengths : List ℕ) (guesses : ℕ) (list maps out
   abbrev pub allowed_at : ℕ → ℕ
   allowed_at i = allowed_to (share_of guesses lengths) answers_of i
 
-  abbrev pub mapAt : ℕ → ℕ
-  mapAt i = maps_before tables lengths answers_of i
+  abbrev pub map_at : ℕ → ℕ
+  map_at i = maps_before tables lengths answers_of i
 
   abbrev pub out_at : ℕ → ℕ
   out_at i = out_before answers_of i
 
   -- the lone reduction of table i
   abbrev pub lone_at : ℕ → Reduced
-  lone_at i = reduce_of L (bytes_at i) (allowed_at i) list (drop (mapAt i) maps) (drop (out_at i) out)
+  lone_at i = reduce_of L (bytes_at i) (allowed_at i) list (drop (map_at i) maps) (drop (out_at i) out)
 
   -- the numbers answered are the rows of the answers, zeros past the count, and each answer is a lone reduction's
   pub record EachAlone (r : Season) (maps' out' : List ℕ) : Type 0 where
     pub count : length answers_of ≡ length lengths
     pub rows : r.values ≡ over (concat_map row answers_of) (replicate 64 0)
-    pub each : (i : ℕ) → i < length lengths → IsLone L (bytes_at i) (allowed_at i) list (drop (mapAt i) maps) (drop (out_at i) out) (answer_at answers_of i) (drop (mapAt i) maps') (drop (out_at i) out')
+    pub each : (i : ℕ) → i < length lengths → IsLone L (bytes_at i) (allowed_at i) list (drop (map_at i) maps) (drop (out_at i) out) (answer_at answers_of i) (drop (map_at i) maps') (drop (out_at i) out')
 
   abbrev pub Alone : Season → List ℕ → List ℕ → Type 0
   Alone r maps' out' = r.number ≡ 0 → EachAlone r maps' out'
@@ -82,7 +82,7 @@ module _ (L : Limits) (tables lengths : List ℕ) (guesses : ℕ) (list maps out
 
   -- for every table all that reduce promises, of its own bytes of the maps and of the reduced tables
   abbrev pub EachPromised : Season → List ℕ → List ℕ → Type 0
-  EachPromised r maps' out' = r.number ≡ 0 → (i : ℕ) → i < length lengths → Promises L (bytes_at i) (allowed_at i) (lone_at i).answer (drop (mapAt i) maps') (drop (out_at i) out')
+  EachPromised r maps' out' = r.number ≡ 0 → (i : ℕ) → i < length lengths → Promises L (bytes_at i) (allowed_at i) (lone_at i).answer (drop (map_at i) maps') (drop (out_at i) out')
 
 -- the guesses reported of all tables together
 unfoldable pub guesses_reported : Season → ℕ

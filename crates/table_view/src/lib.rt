@@ -1,5 +1,5 @@
-// A read table as it is passed on: the lent bytes together with the five section starts. A function that takes or makes the view is proved by hand,
-// so there are few, and each hands the bytes and the starts to a function that is not. `part` has plain parameters and serves every caller.
+// A read table as it is passed on: the lent bytes together with the five section starts. Few functions take or make the view, and each hands the bytes
+// and the starts to a function that does not. `part` has plain parameters and serves every caller.
 // Nothing is asked of the starts: bytes that are not there are left out of a section.
 #![tactic(auto)]
 
