@@ -11,8 +11,6 @@ ghost use Rattle.print_spec.specs.Lines.{Put};
 
 use limits::Limits;
 use print_lines::{put, put_counts, put_map, put_number, put_records, put_table};
-use records_spec::Recorded;
-use reduce_spec::Reduction;
 use std::io;
 use std::io::{Read, Write};
 
@@ -34,13 +32,15 @@ fn put_going(table: &[u8], map: &[u8], text: &mut [u8], at: usize) -> usize
     let mut marks = [0u8; 6144];
     let recorded = records::records_accepted(widest(), table, map, &mut marks);
     match recorded {
-        Recorded::Counts {
-            all,
-            kept,
-            folded,
-            dead,
-        } => put_records(all, kept, folded, dead, text, at),
-        Recorded::Refused(_) => at,
+        Ok(counts) => put_records(
+            counts.all,
+            counts.kept,
+            counts.folded,
+            counts.dead,
+            text,
+            at,
+        ),
+        Err(_) => at,
     }
 }
 
@@ -56,23 +56,25 @@ fn reduce_lent(table: &[u8], text: &mut [u8]) -> usize
     let mut out = [0u8; 22644];
     let answer = reduce::reduce_within(limits, table, 100000, &mut list, &mut map, &mut out);
     match answer {
-        Reduction::Delivered {
-            classes,
-            guesses,
-            words,
-            length,
-            joined,
-            ceiling,
-            spent,
-        } => {
+        Ok(reduction) => {
             let n = reduce::state_count(limits, table);
-            let mut at = put_counts(n, classes, guesses, words, joined, ceiling, spent, text);
+            let mut at = put_counts(
+                n,
+                reduction.classes,
+                reduction.guesses,
+                reduction.words,
+                reduction.joined,
+                reduction.ceiling,
+                reduction.spent,
+                text,
+            );
             at = put_map(&map[..n], text, at);
+            let length = reduction.length;
             at = put_table(&out[..length], text, at);
             put_going(table, &map[..n], text, at)
         }
-        Reduction::Refused(number) => {
-            let at = put_number(b"refused ", number as u64, text, 0);
+        Err(refusal) => {
+            let at = put_number(b"refused ", u64::from(refusal), text, 0);
             put(b"\n", text, at)
         }
     }

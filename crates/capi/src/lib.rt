@@ -23,10 +23,8 @@ ghost use Rattle.combine_spec.specs.Combine.{combine_of};
 ghost use Rattle.combine_spec.specs.declared.How.TheVariants.{Intersection, Union};
 ghost use Rattle.capi.specs.Answers.{read_out, tops_out, clauses_out, search_out, check_out, quotient_out, reduce_out, uses_out, choose_out, script_out, records_out, fit_out, season_out};
 
-use choose_spec::Which;
 use combine_spec::How;
 use limits::Limits;
-use table_spec::Reading;
 
 // Reads a table. Five values: the starts of symbols, states, internals, calls and returns.
 #[unsafe(no_mangle)]
@@ -41,7 +39,7 @@ pub extern "C" fn basilvault_read_within(
 {
     let limits = Limits { states, symbols };
     let reading = read::read_within(limits, table);
-    capi_answers::say_reading(reading, values)
+    capi_answers::say(reading, values)
 }
 
 // The same at the limits of a caller that gives none.
@@ -67,7 +65,7 @@ pub extern "C" fn basilvault_tops_within(
     let limits = Limits { states, symbols };
     let reading = read::read_within(limits, table);
     match reading {
-        Reading::Sections(starts) => {
+        Ok(starts) => {
             if values.len() < 41 {
                 return 0;
             }
@@ -75,7 +73,7 @@ pub extern "C" fn basilvault_tops_within(
             values[40] = found as u64;
             0
         }
-        Reading::Refused(number) => number as u32,
+        Err(refusal) => u32::from(refusal),
     }
 }
 
@@ -102,7 +100,7 @@ pub extern "C" fn basilvault_clauses_within(
 {
     let limits = Limits { states, symbols };
     let listed = clauses::clauses_within(limits, table, list);
-    capi_answers::say_listed(listed, values)
+    capi_answers::say(listed, values)
 }
 
 // The same at the limits of a caller that gives none.
@@ -130,7 +128,7 @@ pub extern "C" fn basilvault_search_within(
 {
     let limits = Limits { states, symbols };
     let solution = search::search_within(limits, list, variables, budget, answer);
-    capi_answers::say_solution(solution, values)
+    capi_answers::say(solution, values)
 }
 
 // The same at the limits of a caller that gives none.
@@ -170,7 +168,7 @@ pub extern "C" fn basilvault_check_within(
 {
     let limits = Limits { states, symbols };
     let checked = check_map::check_within(limits, table, map);
-    capi_answers::say_checked(checked, values)
+    capi_answers::say(checked, values)
 }
 
 // The same at the limits of a caller that gives none.
@@ -197,7 +195,7 @@ pub extern "C" fn basilvault_quotient_within(
 {
     let limits = Limits { states, symbols };
     let written = quotient::quotient_within(limits, table, map, out);
-    capi_answers::say_written(written, values)
+    capi_answers::say(written, values)
 }
 
 // The same at the limits of a caller that gives none.
@@ -232,7 +230,7 @@ pub extern "C" fn basilvault_reduce_within(
 {
     let limits = Limits { states, symbols };
     let reduction = reduce::reduce_within(limits, table, budget, list, map, out);
-    capi_answers::say_reduction(reduction, values)
+    capi_answers::say(reduction, values)
 }
 
 // The same at the limits of a caller that gives none.
@@ -276,13 +274,7 @@ pub extern "C" fn basilvault_uses_within(
 {
     let limits = Limits { states, symbols };
     let counted = uses::uses_within(limits, table, map, lines);
-    let number = counted.number;
-    if number != 0 {
-        return number as u32;
-    }
-    let sums = counted.sums;
-    capi_values::store_words(&sums, counted.total, values);
-    0
+    capi_answers::say(counted, values)
 }
 
 // The same at the limits of a caller that gives none.
@@ -309,18 +301,7 @@ pub extern "C" fn basilvault_choose_within(
 {
     let limits = Limits { states, symbols };
     let choice = choose::decide_within(limits, table, first, second);
-    let which = choice.which;
-    match which {
-        Which::Neither => choice.number as u32,
-        Which::First => {
-            capi_values::store(&[1u64], values);
-            0
-        }
-        Which::Second => {
-            capi_values::store(&[2u64], values);
-            0
-        }
-    }
+    capi_answers::say(choice, values)
 }
 
 // The same at the limits of a caller that gives none.
@@ -368,7 +349,7 @@ pub extern "C" fn basilvault_generate_within(
     let written = generate::generate_within(
         limits, seed, states, internals, calls, returns, density, out,
     );
-    capi_answers::say_written(written, values)
+    capi_answers::say(written, values)
 }
 
 // The same at the limits of a caller that gives none.
@@ -414,7 +395,7 @@ pub extern "C" fn basilvault_script_within(
 {
     let limits = Limits { states, symbols };
     let read = script::script_within(limits, table, script);
-    capi_answers::say_read(read, values)
+    capi_answers::say(read, values)
 }
 
 // The same at the limits of a caller that gives none.
@@ -441,7 +422,7 @@ pub extern "C" fn basilvault_records_within(
 {
     let limits = Limits { states, symbols };
     let recorded = records::records_within(limits, table, map, out);
-    capi_answers::say_recorded(recorded, values)
+    capi_answers::say(recorded, values)
 }
 
 // The same at the limits of a caller that gives none.
@@ -465,7 +446,7 @@ pub extern "C" fn basilvault_fit(first: &[u8], second: &[u8], values: &mut [u64]
         ≡ fit_out values.old (fit_of first.now second.now) }
 {
     let fitting = fit::fit(first, second);
-    capi_answers::say_fitting(fitting, values)
+    capi_answers::say(fitting, values)
 }
 
 // Writes the table of the words that both tables accept. One value: its length.
@@ -483,7 +464,7 @@ pub extern "C" fn basilvault_intersection_within(
 {
     let limits = Limits { states, symbols };
     let written = combine::combine_within(limits, first, second, How::Intersection, out);
-    capi_answers::say_written(written, values)
+    capi_answers::say(written, values)
 }
 
 // The same at the limits of a caller that gives none.
@@ -515,7 +496,7 @@ pub extern "C" fn basilvault_union_within(
 {
     let limits = Limits { states, symbols };
     let written = combine::combine_within(limits, first, second, How::Union, out);
-    capi_answers::say_written(written, values)
+    capi_answers::say(written, values)
 }
 
 // The same at the limits of a caller that gives none.
@@ -552,7 +533,7 @@ pub extern "C" fn basilvault_season_within(
 {
     let limits = Limits { states, symbols };
     let answer = season::season_within(limits, tables, lengths, guesses, list, maps, out);
-    capi_answers::say_season(answer, values)
+    capi_answers::say(answer, values)
 }
 
 // The same at the limits of a caller that gives none.

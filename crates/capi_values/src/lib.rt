@@ -12,11 +12,7 @@ pub fn store(answer: &[u64], values: &mut [u64])
     if values.len() < answer.len() {
         return;
     }
-    let mut i: usize = 0;
-    'values: while i < answer.len() {
-        values[i] = answer[i];
-        i += 1;
-    }
+    values[..answer.len()].copy_from_slice(answer);
 }
 
 // Stores words and one number after them, where there is room for all.
@@ -35,5 +31,5 @@ pub fn store_words(words: &[u64; 40], last: u64, values: &mut [u64])
 pub fn yes_value(yes: bool) -> u64
     ensures { result ≡ yes_value yes }
 {
-    if yes { 1 } else { 0 }
+    u64::from(yes)
 }

@@ -30,7 +30,6 @@ ghost use Rattle.io.specs.Counts.{IsPrefixLen};
 ghost use Rattle.lists.specs.Lists.{over};
 ghost use Rattle.cases.specs.Numbers.{word_at, double_at, long_at, words_in, longs_in};
 
-use bits::long;
 use choose_spec::Which;
 use combine_spec::How;
 use limits::Limits;
@@ -49,10 +48,8 @@ fn number(to: &impl Print, n: u64) -> io::Result<()> {
 
 // Numbers, each after a space.
 fn say_values(to: &impl Print, values: &[u64]) -> io::Result<()> {
-    let mut i: usize = 0;
-    'values: while i < values.len() {
-        number(to, values[i])?;
-        i += 1;
+    'values: for value in values {
+        number(to, *value)?;
     }
     Ok(())
 }
@@ -69,28 +66,17 @@ fn say_answer(to: &impl Print, refused: u32, values: &[u64]) -> io::Result<()> {
 // A buffer of bytes, after a bar.
 fn say_bytes(to: &impl Print, bytes: &[u8]) -> io::Result<()> {
     say(to, b" |")?;
-    let mut i: usize = 0;
-    'bytes: while i < bytes.len() {
-        number(to, long(bytes[i]))?;
-        i += 1;
+    'bytes: for byte in bytes {
+        number(to, u64::from(*byte))?;
     }
     Ok(())
-}
-
-// A word as a number that can be printed.
-fn of_word(x: u16) -> u64
-    ensures { result ≡ x }
-{
-    x as u64
 }
 
 // A buffer of words, after a bar.
 fn say_words(to: &impl Print, words: &[u16]) -> io::Result<()> {
     say(to, b" |")?;
-    let mut i: usize = 0;
-    'words: while i < words.len() {
-        number(to, of_word(words[i]))?;
-        i += 1;
+    'words: for word in words {
+        number(to, u64::from(*word))?;
     }
     Ok(())
 }
@@ -105,7 +91,7 @@ fn word_at(bytes: &[u8], at: usize) -> usize
     if bytes.len() - 2 < at {
         return 0;
     }
-    (long(bytes[at]) + 256 * long(bytes[at + 1])) as usize
+    (u64::from(bytes[at]) + 256 * u64::from(bytes[at + 1])) as usize
 }
 
 // The 32-bit number at a place.
@@ -124,19 +110,8 @@ fn long_at(bytes: &[u8], at: usize) -> u64
     double_at(bytes, at) as u64 + 4294967296 * double_at(bytes, at + 4) as u64
 }
 
-// As many bytes of a space as the number at a place says, or all.
-fn bytes_of<'a>(space: &'a mut [u8], numbers: &[u8], at: usize) -> &'a mut [u8]
-    ensures { result.now ≡ take (word_at numbers.now at) space.old }
-{
-    let n = word_at(numbers, at);
-    if space.len() < n {
-        return space;
-    }
-    &mut space[..n]
-}
-
-// As many words of a space as the number at a place says, or all.
-fn words_of<'a>(space: &'a mut [u16], numbers: &[u8], at: usize) -> &'a mut [u16]
+// As much of a space as the number at a place says, or all.
+fn part_of<'a, T>(space: &'a mut [T], numbers: &[u8], at: usize) -> &'a mut [T]
     ensures { result.now ≡ take (word_at numbers.now at) space.old }
 {
     let n = word_at(numbers, at);
@@ -149,28 +124,32 @@ fn words_of<'a>(space: &'a mut [u16], numbers: &[u8], at: usize) -> &'a mut [u16
 // The five starts.
 fn say_read(to: &impl Print, limits: Limits, table: &[u8]) -> io::Result<()> {
     let mut values = [0u64; 5];
-    let refused = capi_answers::say_reading(read::read_within(limits, table), &mut values);
+    let refused = capi_answers::say(read::read_within(limits, table), &mut values);
     say_answer(to, refused, &values)
 }
 
 // The number of tops found, and the word of each state.
 fn say_tops(to: &impl Print, limits: Limits, table: &[u8]) -> io::Result<()> {
-    let found = tops::tops_within(limits, table);
-    number(to, found.number as u64)?;
-    number(to, found.found as u64)?;
-    let words = found.words;
+    let mut words = [0u64; 40];
+    let mut found = 0;
+    match tops::tops_within(limits, table) {
+        Ok(tops) => {
+            number(to, 0)?;
+            found = tops.found;
+            words = tops.words;
+        }
+        Err(refusal) => number(to, u64::from(refusal))?,
+    }
+    number(to, u64::from(found))?;
     say_values(to, &words)
 }
 
 // Clauses and words, and the list.
 fn say_clauses(to: &impl Print, limits: Limits, table: &[u8], case: &[u8]) -> io::Result<()> {
     let mut space = [7u16; 4096];
-    let list = words_of(&mut space, case, 6);
+    let list = part_of(&mut space, case, 6);
     let mut values = [0u64; 2];
-    let refused = capi_answers::say_listed(
-        clauses::clauses_within(limits, table, list),
-        &mut values,
-    );
+    let refused = capi_answers::say(clauses::clauses_within(limits, table, list), &mut values);
     say_answer(to, refused, &values)?;
     say_words(to, list)
 }
@@ -179,13 +158,11 @@ fn say_clauses(to: &impl Print, limits: Limits, table: &[u8], case: &[u8]) -> io
 fn fill(list: &mut [u16], bytes: &[u8])
     ensures { list.new ≡ over (take (length list.old) (words_in bytes.now)) list.old }
 {
-    let mut i: usize = 0;
-    'words: while i < list.len() {
+    'words: for i in 0..list.len() {
         if bytes.len() / 2 <= i {
             return;
         }
         list[i] = word_at(bytes, 2 * i) as u16;
-        i += 1;
     }
 }
 
@@ -200,13 +177,13 @@ fn say_search(
     let variables = word_at(numbers, 0);
     let budget = word_at(numbers, 2) as u64;
     let mut held = [0u16; 4096];
-    let list = words_of(&mut held, case, 6);
+    let list = part_of(&mut held, case, 6);
     fill(list, words);
     let mut space = [7u8; 4096];
-    let out = bytes_of(&mut space, case, 10);
+    let out = part_of(&mut space, case, 10);
     let mut values = [0u64; 1];
     let solution = search::search_within(limits, list, variables, budget, out);
-    let refused = capi_answers::say_solution(solution, &mut values);
+    let refused = capi_answers::say(solution, &mut values);
     say_answer(to, refused, &values)?;
     say_bytes(to, out)
 }
@@ -214,10 +191,7 @@ fn say_search(
 // The class count.
 fn say_check(to: &impl Print, limits: Limits, map: &[u8], table: &[u8]) -> io::Result<()> {
     let mut values = [0u64; 1];
-    let refused = capi_answers::say_checked(
-        check_map::check_within(limits, table, map),
-        &mut values,
-    );
+    let refused = capi_answers::say(check_map::check_within(limits, table, map), &mut values);
     say_answer(to, refused, &values)
 }
 
@@ -230,10 +204,10 @@ fn say_quotient(
     case: &[u8],
 ) -> io::Result<()> {
     let mut space = [7u8; 4096];
-    let out = bytes_of(&mut space, case, 10);
+    let out = part_of(&mut space, case, 10);
     let mut values = [0u64; 1];
     let written = quotient::quotient_within(limits, table, map, out);
-    let refused = capi_answers::say_written(written, &mut values);
+    let refused = capi_answers::say(written, &mut values);
     say_answer(to, refused, &values)?;
     say_bytes(to, out)
 }
@@ -250,12 +224,12 @@ fn say_reduce(
     let mut words = [7u16; 4096];
     let mut states = [7u8; 4096];
     let mut space = [7u8; 4096];
-    let list = words_of(&mut words, case, 6);
-    let map = bytes_of(&mut states, case, 8);
-    let out = bytes_of(&mut space, case, 10);
+    let list = part_of(&mut words, case, 6);
+    let map = part_of(&mut states, case, 8);
+    let out = part_of(&mut space, case, 10);
     let mut values = [0u64; 7];
     let reduction = reduce::reduce_within(limits, table, budget, list, map, out);
-    let refused = capi_answers::say_reduction(reduction, &mut values);
+    let refused = capi_answers::say(reduction, &mut values);
     say_answer(to, refused, &values)?;
     say_words(to, list)?;
     say_bytes(to, map)?;
@@ -265,7 +239,7 @@ fn say_reduce(
 // 1 yes, 0 no.
 fn say_script(to: &impl Print, limits: Limits, script: &[u8], table: &[u8]) -> io::Result<()> {
     let mut values = [0u64; 1];
-    let refused = capi_answers::say_read(script::script_within(limits, table, script), &mut values);
+    let refused = capi_answers::say(script::script_within(limits, table, script), &mut values);
     say_answer(to, refused, &values)
 }
 
@@ -278,10 +252,10 @@ fn say_records(
     case: &[u8],
 ) -> io::Result<()> {
     let mut space = [7u8; 4096];
-    let out = bytes_of(&mut space, case, 10);
+    let out = part_of(&mut space, case, 10);
     let mut values = [0u64; 4];
     let recorded = records::records_within(limits, table, map, out);
-    let refused = capi_answers::say_recorded(recorded, &mut values);
+    let refused = capi_answers::say(recorded, &mut values);
     say_answer(to, refused, &values)?;
     say_bytes(to, out)
 }
@@ -294,11 +268,18 @@ fn say_uses(
     lines: &[u8],
     table: &[u8],
 ) -> io::Result<()> {
-    let counted = uses::uses_within(limits, table, map, lines);
-    number(to, counted.number as u64)?;
-    let sums = counted.sums;
+    let mut sums = [0u64; 40];
+    let mut total = 0;
+    match uses::uses_within(limits, table, map, lines) {
+        Ok(counted) => {
+            number(to, 0)?;
+            total = counted.total;
+            sums = counted.sums;
+        }
+        Err(refusal) => number(to, u64::from(refusal))?,
+    }
     say_values(to, &sums)?;
-    number(to, counted.total)
+    number(to, total)
 }
 
 // The lengths of 16 tables, from their bytes.
@@ -306,10 +287,8 @@ fn lengths_from(bytes: &[u8]) -> [u64; 16]
     ensures { result ≡ longs_in 16 bytes.now }
 {
     let mut lengths = [0u64; 16];
-    let mut i: usize = 0;
-    'lengths: while i < 16 {
+    'lengths: for i in 0..16 {
         lengths[i] = long_at(bytes, 8 * i);
-        i += 1;
     }
     lengths
 }
@@ -329,12 +308,12 @@ fn say_season(
     let mut words = [7u16; 4096];
     let mut states = [7u8; 4096];
     let mut space = [7u8; 4096];
-    let list = words_of(&mut words, case, 6);
-    let maps = bytes_of(&mut states, case, 8);
-    let out = bytes_of(&mut space, case, 10);
+    let list = part_of(&mut words, case, 6);
+    let maps = part_of(&mut states, case, 8);
+    let out = part_of(&mut space, case, 10);
     let mut values = [0u64; 64];
     let season = season::season_within(limits, tables, &lengths[..k], guesses, list, maps, out);
-    let refused = capi_answers::say_season(season, &mut values);
+    let refused = capi_answers::say(season, &mut values);
     say_answer(to, refused, &values)?;
     say_words(to, list)?;
     say_bytes(to, maps)?;
@@ -344,7 +323,7 @@ fn say_season(
 // The length of a random table, and the output.
 fn say_generate(to: &impl Print, limits: Limits, numbers: &[u8], case: &[u8]) -> io::Result<()> {
     let mut space = [7u8; 4096];
-    let out = bytes_of(&mut space, case, 10);
+    let out = part_of(&mut space, case, 10);
     let mut values = [0u64; 1];
     let written = generate::generate_within(
         limits,
@@ -356,7 +335,7 @@ fn say_generate(to: &impl Print, limits: Limits, numbers: &[u8], case: &[u8]) ->
         double_at(numbers, 12),
         out,
     );
-    let refused = capi_answers::say_written(written, &mut values);
+    let refused = capi_answers::say(written, &mut values);
     say_answer(to, refused, &values)?;
     say_bytes(to, out)
 }
@@ -364,7 +343,7 @@ fn say_generate(to: &impl Print, limits: Limits, numbers: &[u8], case: &[u8]) ->
 // 1 yes, 0 no.
 fn say_fit(to: &impl Print, first: &[u8], second: &[u8]) -> io::Result<()> {
     let mut values = [0u64; 1];
-    let refused = capi_answers::say_fitting(fit::fit(first, second), &mut values);
+    let refused = capi_answers::say(fit::fit(first, second), &mut values);
     say_answer(to, refused, &values)
 }
 
@@ -378,10 +357,10 @@ fn say_combine(
     case: &[u8],
 ) -> io::Result<()> {
     let mut space = [7u8; 4096];
-    let out = bytes_of(&mut space, case, 10);
+    let out = part_of(&mut space, case, 10);
     let mut values = [0u64; 1];
     let written = combine::combine_within(limits, first, second, how, out);
-    let refused = capi_answers::say_written(written, &mut values);
+    let refused = capi_answers::say(written, &mut values);
     say_answer(to, refused, &values)?;
     say_bytes(to, out)
 }
@@ -398,12 +377,10 @@ fn say_choose<'a>(
         to,
         choose::choose_number_within(limits, table, first, second) as u64,
     )?;
-    let choice = choose::decide_within(limits, table, first, second);
-    let which = choice.which;
-    let chosen = match which {
-        Which::Neither => 0,
-        Which::First => 1,
-        Which::Second => 2,
+    let chosen = match choose::decide_within(limits, table, first, second) {
+        Ok(Which::First) => 1,
+        Ok(Which::Second) => 2,
+        Err(_) => 0,
     };
     number(to, chosen)?;
     say_bytes(to, choose::choose_within(limits, table, first, second))
@@ -483,7 +460,7 @@ fn next_case<R: Read>(input: &mut R, to: &impl Print) -> io::Result<bool> {
         return Ok(false);
     }
     let mut space = [0u8; 65536];
-    let case = bytes_of(&mut space, &length, 0);
+    let case = part_of(&mut space, &length, 0);
     read_full(input, case)?;
     say_case(to, case)?;
     Ok(true)
@@ -492,12 +469,10 @@ fn next_case<R: Read>(input: &mut R, to: &impl Print) -> io::Result<bool> {
 // Every case of the input, one after the other.
 fn main(rt: HostRuntime) -> io::Result<()> {
     let mut input = rt.stdin();
-    let mut turns: usize = 1000000;
-    'cases: while 0 < turns {
+    'cases: for _ in 0..1000000 {
         if !next_case(&mut input, &rt)? {
             return Ok(());
         }
-        turns -= 1;
     }
     Ok(())
 }

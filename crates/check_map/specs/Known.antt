@@ -6,6 +6,7 @@ use Rattle.table_spec.specs.Reading.{Readable}
 use Rattle.table_spec.specs.Maps.{numbered}
 use Rattle.table_spec.specs.declared.Starts.{Starts}
 use Rattle.table_view.specs.Sections.{ReadAs}
+use Rattle.table_view.specs.declared.Sections.{Sections}
 use Rattle.tops_spec.specs.Tops.{top_words}
 use Rattle.check_matching.specs.Matching.{records_matched, Lent}
 use Rattle.check_spec.specs.Check.{labels_agree}
@@ -36,3 +37,10 @@ part_tests states internals calls returns f m =
     ∷ (19, records_matched 3 f (records 3 calls) (length states) m)
     ∷ (20, records_matched 4 f (records 4 returns) (length states) m)
     ∷ []
+
+-- the same of the sections of a table
+abbrev pub PartedSections : Sections → Type 0
+PartedSections s = Parted s.states.now s.internals.now s.calls.now s.returns.now
+
+abbrev pub section_tests : Sections → List ℕ → List ℕ → List (ℕ × Bool)
+section_tests s = part_tests s.states.now s.internals.now s.calls.now s.returns.now

@@ -12,7 +12,6 @@ ghost use Rattle.table_find.specs.Keys.{ByKey};
 ghost use Rattle.check_spec.specs.Check.{labels_agree, return_matched};
 ghost use Rattle.check_matching.specs.Matching.{kept, return_met, record_matched, record_met, records_matched, Lent};
 
-use bits::wide;
 use check_numbering::class_of;
 
 // Top x is in word q.
@@ -22,11 +21,10 @@ fn has_top(words: &[u64], q: usize, x: usize) -> bool
     if words.len() <= q {
         return false;
     }
-    let word = words[q];
     if 63 < x {
         return false;
     }
-    (word >> x) % 2 == 1
+    bits::has_bit(words[q], x)
 }
 
 // A move, or a return that is live.
@@ -36,41 +34,34 @@ pub fn keeps(words: &[u64], fields: &[u8]) -> bool
     if fields.len() < 4 {
         return true;
     }
-    has_top(words, wide(fields[0]), wide(fields[2]))
+    has_top(words, usize::from(fields[0]), usize::from(fields[2]))
 }
 
-// "The map joins two states where their class numbers are equal."
-fn joined(map: &[u8], p: usize, q: usize) -> bool
-    ensures { result ≡ joins map.now p q }
-{
-    class_of(map, p) == class_of(map, q)
-}
-
-// The same of a class and a state.
+// "The map joins two states where their class numbers are equal": a state is in the class of another.
 fn is_in(map: &[u8], class: u8, q: usize) -> bool
     ensures { result ≡ eqb class (class_of map.now q) }
 {
     class == class_of(map, q)
 }
 
-// (i) "joined states agree on mark and accepting": what the first state of each class has, plus one, is kept by its class.
+// (i) "joined states agree on mark and accepting": what the first state of each class has is kept by its class.
 pub fn labels_agree(states: &[u8], map: &[u8]) -> bool
     ensures { result ≡ labels_agree (of_states states.now) map.now }
 {
-    let mut looks = [0u8; 256];
-    let mut q: usize = 0;
-    'states: while q < states.len() {
-        let class = wide(class_of(map, q));
-        let look = states[q] / 2 + 1;
-        let held = looks[class];
-        if held == 0 {
-            looks[class] = look;
-        } else {
-            if held != look {
-                return false;
+    let mut looks: [Option<u8>; 256] = [None; 256];
+    'states: for (q, byte) in states.iter().enumerate() {
+        let class = usize::from(class_of(map, q));
+        let look = *byte / 2;
+        match looks[class] {
+            None => {
+                looks[class] = Some(look);
+            }
+            Some(held) => {
+                if held != look {
+                    return false;
+                }
             }
         }
-        q += 1;
     }
     true
 }
@@ -81,13 +72,11 @@ fn reaches(section: &[u8], width: usize, wanted: u32, map: &[u8], target: usize)
     ensures { ByKey width wanted result (λ k. any (joins map.now target) (targets (records width section.now) k)) }
 {
     let found = table_find::equal_range(section, width, wanted);
-    let mut at: usize = 0;
-    'records: while width <= found.len() - at {
-        let next = at + width;
-        if joined(map, target, wide(found[next - 1])) {
+    let class = class_of(map, target);
+    'records: for fields in found.chunks_exact(width) {
+        if is_in(map, class, usize::from(fields[width - 1])) {
             return true;
         }
-        at = next;
     }
     false
 }
@@ -115,7 +104,7 @@ fn return_matched(
         return true;
     }
     let wanted = table_find::return_key(q as u8, fields[1], u as u8);
-    reaches(section, 4, wanted, map, wide(fields[3]))
+    reaches(section, 4, wanted, map, usize::from(fields[3]))
 }
 
 // .. and every stack state.
@@ -124,13 +113,11 @@ fn return_met(section: &[u8], words: &[u64], map: &[u8], fields: &[u8], q: usize
     requires fields_value { (has words.now (get_or fields.now 0 0) (get_or fields.now 2 0) ≡ true) × (joins map.now (get_or fields.now 0 0) q ≡ true) }
     ensures { result ≡ return_met words.now (records 4 section.now) (length map.now) map.now fields.now q }
 {
-    let under = class_of(map, wide(fields[2]));
-    let mut u: usize = 0;
-    'states: while u < map.len() {
+    let under = class_of(map, usize::from(fields[2]));
+    'states: for u in 0..map.len() {
         if !return_matched(section, words, map, fields, under, q, u) {
             return false;
         }
-        u += 1;
     }
     true
 }
@@ -150,7 +137,7 @@ fn record_matched(
 {
     if width == 3 {
         let wanted = table_find::move_key(q as u8, fields[1]);
-        return reaches(section, width, wanted, map, wide(fields[2]));
+        return reaches(section, width, wanted, map, usize::from(fields[2]));
     }
     return_met(section, words, map, fields, q)
 }
@@ -163,15 +150,13 @@ fn record_met(section: &[u8], width: usize, words: &[u64], map: &[u8], fields: &
     if !keeps(words, fields) {
         return true;
     }
-    let class = class_of(map, wide(fields[0]));
-    let mut q = 0;
-    'states: while q < map.len() {
+    let class = class_of(map, usize::from(fields[0]));
+    'states: for q in 0..map.len() {
         if is_in(map, class, q) {
             if !record_matched(section, width, words, map, fields, q) {
                 return false;
             }
         }
-        q += 1;
     }
     true
 }
@@ -181,13 +166,10 @@ pub fn records_matched(section: &[u8], width: usize, words: &[u64], map: &[u8]) 
     requires { Lent width section.now (length map.now) }
     ensures { result ≡ records_matched width words.now (records width section.now) (length map.now) map.now }
 {
-    let mut at: usize = 0;
-    'records: while width <= section.len() - at {
-        let next = at + width;
-        if !record_met(section, width, words, map, &section[at..next]) {
+    'records: for fields in section.chunks_exact(width) {
+        if !record_met(section, width, words, map, fields) {
             return false;
         }
-        at = next;
     }
     true
 }

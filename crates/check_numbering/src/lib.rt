@@ -4,16 +4,18 @@
 ghost use Rattle.std.specs.Prelude.{◌≡◌};
 ghost use Rattle.table_spec.specs.Maps.{class_of, classes, numbered};
 
-use bits::wide;
-
 // A state's class, 0 past the map's end.
 pub fn class_of(map: &[u8], q: usize) -> u8
     ensures { result ≡ class_of map.now q }
 {
-    if map.len() <= q {
-        return 0;
-    }
-    map[q]
+    map.get(q).copied().unwrap_or(0)
+}
+
+// The class of a state that a record names.
+pub fn class_at(map: &[u8], state: u8) -> u8
+    ensures { result ≡ class_of map.now state }
+{
+    class_of(map, usize::from(state))
 }
 
 // "each at most one above the largest before it, the first 0"
@@ -21,16 +23,12 @@ pub fn numbered(map: &[u8]) -> bool
     ensures { result ≡ numbered map.now }
 {
     let mut next: usize = 0;
-    let mut q: usize = 0;
-    'states: while q < map.len() {
-        let class = wide(map[q]);
+    'states: for class in map {
+        let class = usize::from(*class);
         if next < class {
             return false;
         }
-        if next == class {
-            next += 1;
-        }
-        q += 1;
+        next = next.max(class + 1);
     }
     true
 }
@@ -40,13 +38,8 @@ pub fn class_count(map: &[u8]) -> usize
     ensures { result ≡ classes map.now }
 {
     let mut n: usize = 0;
-    let mut q: usize = 0;
-    'states: while q < map.len() {
-        let class = wide(map[q]);
-        if n <= class {
-            n = class + 1;
-        }
-        q += 1;
+    'states: for class in map {
+        n = n.max(usize::from(*class) + 1);
     }
     n
 }

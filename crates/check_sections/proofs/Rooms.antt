@@ -3,11 +3,11 @@ use mathlib.Core.Path.{◌≡◌, refl, sym, ap, ◌∙◌, subst}
 use mathlib.Core.Logic.{◌≢◌, ◌⊎◌, inl, inr}
 use mathlib.Core.Bool.{Bool, true, false, ◌&&◌, ◌||◌, not, true≢false}
 use mathlib.Core.List.Memᴰ
-use mathlib.Core.List.{List, Memᴰ}
+use mathlib.Core.List.{List, [], ◌∷◌, ◌++◌, Memᴰ}
 use Prim.Native.Nat.{ℕ, ◌+◌, ◌-◌, ◌^◌, ◌≤◌, ◌<◌}
 use native.Mathlib.Omega.{arith}
 use native.Mathlib.Decide.{ℕ_discrete}
-use lib.ListN.{length, get_or, set, take, drop, replicate, length-set, length-replicate}
+use lib.ListN.{length, get_or, set, replicate, length-set, length-replicate}
 use lib.Seq.{get_or-set_same, get_or-set_other}
 use lib.Bits.{bit_and, bit_or}
 use lib.Dec.{eqb}
@@ -18,7 +18,7 @@ use Rattle.lists.proofs.Bits.{or-bit, bit-left, bit-right, no_bit, bit-own, bit-
 use Rattle.lists.proofs.Words.{has_no, bits_equal}
 use Rattle.lists.proofs.Members.{and-true, and_of, or-true, or_left, or_right, any-true, zeros}
 use Rattle.table_spec.specs.File.{records}
-use Rattle.table_find.proofs.Walks.{record_on, records_end}
+use Rattle.table_spec.proofs.Chunks.{chunk_on, chunk_end}
 use Rattle.check_matching.specs.Matching.{kept}
 use Rattle.check_matching.proofs.Matched.{same_test}
 use Rattle.check_sections.specs.Rooms.{place_of, bit_of, Placed, Lies, gained, cleared, Empty, noted, Room, covering, met_by}
@@ -135,114 +135,112 @@ be_noted ws own k x r h d b = and_of h (and_of (eq-eqb _ _ d) (eq-eqb _ _ b))
 
 -- ---- a walk over the records of a section
 
--- the records still to come are records of the section
-pub record Ahead (w : ℕ) (s : List ℕ) (at : ℕ) : Type 0 where
-  pub inside : at ≤ length s
-  pub among : (r : List ℕ) → Memᴰ r (records w (drop at s)) → Memᴰ r (records w s)
+-- the records that are left are records of the section
+pub record Ahead (w : ℕ) (s : List ℕ) (n : ℕ) (rest : List ℕ) : Type 0 where
+  pub can_next : 0 < n
+  pub width : n ≡ w
+  pub among : (r : List ℕ) → Memᴰ r (records w rest) → Memᴰ r (records w s)
 
-pub all_ahead : (w : ℕ) (s : List ℕ) → Ahead w s 0
-all_ahead w s = record { inside = omega arith; among = λ r d. d }
+pub all_ahead : {w n : ℕ} {s rest : List ℕ} → 0 < w → n ≡ w → rest ≡ s → Ahead w s n rest
+all_ahead {w} p e d = record { can_next = omega arith; width = e; among = λ r h. subst (λ (y : List ℕ). Memᴰ r (records w y)) d h }
 
-module _ {w : ℕ} {s : List ℕ} {at : ℕ} (a : Ahead w s at) (p : 0 < w) (h : w ≤ length s - at) where
-  one-here : Memᴰ (take (at + w - at) (drop at s)) (records w s)
-  one-here = a.among _ (subst (Memᴰ (take (at + w - at) (drop at s))) (sym (record_on w s at p h)) (Memᴰ.head refl))
+module _ {w : ℕ} {s : List ℕ} {n : ℕ} {rest : List ℕ} (a : Ahead w s n rest) (x t : List ℕ) (e : (rest ≡ x ++ t) × (length x ≡ n)) where
+  -- a record is taken
+  pub one_on : records w rest ≡ x ∷ records w t
+  one_on = chunk_on rest x t (omega (arith, a)) e.0 (e.1 ∙ a.width)
 
-  pub ahead_on : Ahead w s (at + w)
-  ahead_on = record { inside = omega arith; among = λ r d. a.among r (subst (Memᴰ r) (sym (record_on w s at p h)) (Memᴰ.tail d)) }
+  one-here : Memᴰ x (records w s)
+  one-here = a.among x (subst (Memᴰ x) (sym one_on) (Memᴰ.head refl))
 
--- a record that comes has its place
-pub placed-here : {w : ℕ} {s ws : List ℕ} {at : ℕ} → Lies w s ws → Ahead w s at → w ≤ length s - at → Placed ws (take (at + w - at) (drop at s))
-placed-here l a h = l.placed _ (one-here a (omega (arith, l.wide)) h)
+  pub ahead_on : {m : ℕ} → m ≡ n → Ahead w s m t
+  ahead_on d = record { can_next = omega (arith, a); width = d ∙ a.width; among = λ r h. a.among r (subst (Memᴰ r) (sym one_on) (Memᴰ.tail h)) }
 
--- ---- the room has the bits of the records before this one
+  -- it has its place
+  pub placed-here : {ws : List ℕ} → Lies w s ws → Placed ws x
+  placed-here l = l.placed x one-here
 
-pub record Noting (w : ℕ) (s ws : List ℕ) (own : ℕ) (room : List ℕ) (at : ℕ) : Type 0 where
-  pub ahead : Ahead w s at
+pub none_ahead : {w n : ℕ} {s rest : List ℕ} → Ahead w s n rest → length rest < n → records w rest ≡ []
+none_ahead {rest = rest} a h = chunk_end rest (omega (arith, a))
+
+-- ---- the room has the bits of the records taken
+
+pub record Noting (w : ℕ) (s ws : List ℕ) (own : ℕ) (room : List ℕ) (n : ℕ) (rest : List ℕ) : Type 0 where
+  pub ahead : Ahead w s n rest
   pub long : length room ≡ 2560
-  pub bits : (k x : ℕ) → any (noted ws own k x) (records w s) ≡ (has room k x || any (noted ws own k x) (records w (drop at s)))
+  pub bits : (k x : ℕ) → any (noted ws own k x) (records w s) ≡ (has room k x || any (noted ws own k x) (records w rest))
 
-pub noting : (w : ℕ) (s ws : List ℕ) (own : ℕ) {room : List ℕ} → Empty room → Noting w s ws own room 0
-noting w s ws own {room} t = record {
-  ahead = all_ahead w s;
+pub noting : (w : ℕ) (s ws : List ℕ) (own : ℕ) {room : List ℕ} {n : ℕ} {rest : List ℕ} → Lies w s ws → Empty room → n ≡ w → rest ≡ s → Noting w s ws own room n rest
+noting w s ws own {room} l t e d = record {
+  ahead = all_ahead (omega (arith, l.wide)) e d;
   long = t.long;
-  bits = λ k x. sym (ap (λ (b : Bool). b || any (noted ws own k x) (records w s)) (has_no room k x (λ b. no_bit x (subst (λ (y : ℕ). Bit y x) (t.zero k) b))));
+  bits = λ k x. sym (ap (λ (y : List ℕ). has room k x || any (noted ws own k x) (records w y)) d ∙ ap (λ (b : Bool). b || any (noted ws own k x) (records w s)) (has_no room k x (λ b. no_bit x (subst (λ (y : ℕ). Bit y x) (t.zero k) b))));
 }
 
-module _ {w : ℕ} {s ws : List ℕ} {own : ℕ} {room : List ℕ} {at : ℕ} (g : Noting w s ws own room at) where
-  pub note_on : {new : List ℕ} → Lies w s ws → w ≤ length s - at → new ≡ gained ws own (take (at + w - at) (drop at s)) room → Noting w s ws own new (at + w)
-  unfolding any
-  note_on {new} l h e =
-      let p : 0 < w = omega (arith, l.wide) in
-      let r = take (at + w - at) (drop at s) in
-      let q = placed-here l g.ahead h in
+module _ {w : ℕ} {s ws : List ℕ} {own : ℕ} {room : List ℕ} {n : ℕ} {rest : List ℕ} (g : Noting w s ws own room n rest) where
+  pub note_on : {new : List ℕ} {m : ℕ} (r t : List ℕ) → (rest ≡ r ++ t) × (length r ≡ n) → m ≡ n → Lies w s ws → new ≡ gained ws own r room → Noting w s ws own new m t
+  note_on {new} r t d f l e =
+      let q = placed-here g.ahead r t d l in
       let small : place_of ws r < length room = omega (arith, g.long, q.symbol, q.target) in
       record {
-        ahead = ahead_on g.ahead p h;
+        ahead = ahead_on g.ahead r t d f;
         long = ap length e ∙ gained-long ws own r room ∙ g.long;
-        bits = λ k x. g.bits k x ∙ ap (λ (rs : List (List ℕ)). has room k x || any (noted ws own k x) rs) (record_on w s at p h)
-            ∙ sym (or_assoc (has room k x) (noted ws own k x r) (any (noted ws own k x) (records w (drop (at + w) s))))
-            ∙ ap (λ (b : Bool). b || any (noted ws own k x) (records w (drop (at + w) s))) (sym (ap (λ (y : List ℕ). has y k x) e ∙ gained-bits ws own r room small k x));
+        bits = λ k x. g.bits k x ∙ ap (λ (rs : List (List ℕ)). has room k x || any (noted ws own k x) rs) (one_on g.ahead r t d)
+            ∙ sym (or_assoc (has room k x) (noted ws own k x r) (any (noted ws own k x) (records w t)))
+            ∙ ap (λ (b : Bool). b || any (noted ws own k x) (records w t)) (sym (ap (λ (y : List ℕ). has y k x) e ∙ gained-bits ws own r room small k x));
       }
 
-  pub all_noted : length s - at < w → Room (records w s) ws own room
-  unfolding any
-  all_noted h = record { long = g.long; bits = λ k x. sym (g.bits k x ∙ ap (λ (rs : List (List ℕ)). has room k x || any (noted ws own k x) rs) (records_end w s at h) ∙ or-none (has room k x)) }
+  pub all_noted : length rest < n → Room (records w s) ws own room
+  all_noted h = record { long = g.long; bits = λ k x. sym (g.bits k x ∙ ap (λ (rs : List (List ℕ)). has room k x || any (noted ws own k x) rs) (none_ahead g.ahead h) ∙ or-none (has room k x)) }
 
--- ---- the words of the records before this one are cleared
+-- ---- the words of the records taken are cleared
 
 -- a record of these states whose word is k
 abbrev Touches : List ℕ → ℕ → ℕ → List ℕ → Type 0
 Touches ws own k r = (has_bit own (get_or r 0 0) ≡ true) × (k ≡ place_of ws r)
 
-pub record Wiping (w : ℕ) (s ws : List ℕ) (own : ℕ) (room : List ℕ) (at : ℕ) : Type 0 where
-  pub ahead : Ahead w s at
+pub record Wiping (w : ℕ) (s ws : List ℕ) (own : ℕ) (room : List ℕ) (n : ℕ) (rest : List ℕ) : Type 0 where
+  pub ahead : Ahead w s n rest
   pub long : length room ≡ 2560
-  pub zero : (k : ℕ) → ((r : List ℕ) → Memᴰ r (records w (drop at s)) → Touches ws own k r → ⊥) → get_or room k 0 ≡ 0
+  pub zero : (k : ℕ) → ((r : List ℕ) → Memᴰ r (records w rest) → Touches ws own k r → ⊥) → get_or room k 0 ≡ 0
 
-pub wiping : (w : ℕ) (s ws : List ℕ) (own : ℕ) {room : List ℕ} → Room (records w s) ws own room → Wiping w s ws own room 0
-wiping w s ws own {room} g = record { ahead = all_ahead w s; long = g.long; zero = λ k n. bits_equal _ _ (λ x b. absurd (found k x n (any-true _ (records w s) (sym (g.bits k x) ∙ has_of room k x b)))) (λ x b. absurd (no_bit x b)) }
+pub wiping : (w : ℕ) (s ws : List ℕ) (own : ℕ) {room : List ℕ} {n : ℕ} {rest : List ℕ} → Lies w s ws → Room (records w s) ws own room → n ≡ w → rest ≡ s → Wiping w s ws own room n rest
+wiping w s ws own {room} {n} {rest} l g e d = record { ahead = all_ahead (omega (arith, l.wide)) e d; long = g.long; zero = λ k f. bits_equal _ _ (λ x b. absurd (found k x f (any-true _ (records w s) (sym (g.bits k x) ∙ has_of room k x b)))) (λ x b. absurd (no_bit x b)) }
   where
-    found : (k x : ℕ) → ((r : List ℕ) → Memᴰ r (records w s) → Touches ws own k r → ⊥) → (r : List ℕ) × Memᴰ r (records w s) × (noted ws own k x r ≡ true) → ⊥
-    found k x n (r, d, e) = let t = of_noted ws own k x r e in n r d (t.0, t.1)
+    found : (k x : ℕ) → ((r : List ℕ) → Memᴰ r (records w rest) → Touches ws own k r → ⊥) → (r : List ℕ) × Memᴰ r (records w s) × (noted ws own k x r ≡ true) → ⊥
+    found k x f (r, h, e) = let t = of_noted ws own k x r e in f r (subst (λ (y : List ℕ). Memᴰ r (records w y)) (sym d) h) (t.0, t.1)
 
-module _ {w : ℕ} {s ws : List ℕ} {own : ℕ} {room : List ℕ} {at : ℕ} (g : Wiping w s ws own room at) where
-  pub wipe_on : {new : List ℕ} → Lies w s ws → w ≤ length s - at → new ≡ cleared ws own (take (at + w - at) (drop at s)) room → Wiping w s ws own new (at + w)
+module _ {w : ℕ} {s ws : List ℕ} {own : ℕ} {room : List ℕ} {n : ℕ} {rest : List ℕ} (g : Wiping w s ws own room n rest) where
+  pub wipe_on : {new : List ℕ} {m : ℕ} (r t : List ℕ) → (rest ≡ r ++ t) × (length r ≡ n) → m ≡ n → Lies w s ws → new ≡ cleared ws own r room → Wiping w s ws own new m t
   unfolding cleared
-  wipe_on {new} l h e = go (has_bit own (get_or (take (at + w - at) (drop at s)) 0 0)) refl e
+  wipe_on {new} {m} r t d f l e = go (has_bit own (get_or r 0 0)) refl e
     where
-      split :
-          (k : ℕ) → ((y : List ℕ) → Memᴰ y (records w (drop (at + w) s)) → Touches ws own k y → ⊥)
-          → (Touches ws own k (take (at + w - at) (drop at s)) → ⊥) → (y : List ℕ) → Memᴰ y (records w (drop at s)) → Touches ws own k y → ⊥
-      split k n m y d t = cases (Memᴰ.cases_cons (subst (Memᴰ y) (record_on w s at (omega (arith, l.wide)) h) d))
+      split : (k : ℕ) → ((y : List ℕ) → Memᴰ y (records w t) → Touches ws own k y → ⊥) → (Touches ws own k r → ⊥) → (y : List ℕ) → Memᴰ y (records w rest) → Touches ws own k y → ⊥
+      split k n m y h u = cases (Memᴰ.cases_cons (subst (Memᴰ y) (one_on g.ahead r t d) h))
         where
-          cases : (y ≡ take (at + w - at) (drop at s)) ⊎ Memᴰ y (records w (drop (at + w) s)) → ⊥
-          cases (inl z) = m (subst (Touches ws own k) z t)
-          cases (inr z) = n y z t
+          cases : (y ≡ r) ⊎ Memᴰ y (records w t) → ⊥
+          cases (inl z) = m (subst (Touches ws own k) z u)
+          cases (inr z) = n y z u
 
-      go :
-          (t : Bool) → has_bit own (get_or (take (at + w - at) (drop at s)) 0 0) ≡ t
-          → new ≡ (elim t as (λ _. List ℕ) [ true ↦ set room (place_of ws (take (at + w - at) (drop at s))) 0 | false ↦ room ]) → Wiping w s ws own new (at + w)
+      go : (b : Bool) → has_bit own (get_or r 0 0) ≡ b → new ≡ (elim b as (λ _. List ℕ) [ true ↦ set room (place_of ws r) 0 | false ↦ room ]) → Wiping w s ws own new m t
       go false b e = record {
-        ahead = ahead_on g.ahead (omega (arith, l.wide)) h;
+        ahead = ahead_on g.ahead r t d f;
         long = ap length e ∙ g.long;
-        zero = λ k n. ap (λ (y : List ℕ). get_or y k 0) e ∙ g.zero k (split k n (λ t. let z : ◌≡◌ {A = Bool} true false = sym t.0 ∙ b in absurd (true≢false z)));
+        zero = λ k n. ap (λ (y : List ℕ). get_or y k 0) e ∙ g.zero k (split k n (λ u. let z : ◌≡◌ {A = Bool} true false = sym u.0 ∙ b in absurd (true≢false z)));
       }
       go true b e = record {
-        ahead = ahead_on g.ahead (omega (arith, l.wide)) h;
-        long = ap length e ∙ length-set room (place_of ws (take (at + w - at) (drop at s))) 0 ∙ g.long;
-        zero = λ k n. ap (λ (y : List ℕ). get_or y k 0) e ∙ word k n (ℕ_discrete k (place_of ws (take (at + w - at) (drop at s))));
+        ahead = ahead_on g.ahead r t d f;
+        long = ap length e ∙ length-set room (place_of ws r) 0 ∙ g.long;
+        zero = λ k n. ap (λ (y : List ℕ). get_or y k 0) e ∙ word k n (ℕ_discrete k (place_of ws r));
       }
         where
-          word :
-              (k : ℕ) → ((y : List ℕ) → Memᴰ y (records w (drop (at + w) s)) → Touches ws own k y → ⊥)
-              → Dec (k ≡ place_of ws (take (at + w - at) (drop at s))) → get_or (set room (place_of ws (take (at + w - at) (drop at s))) 0) k 0 ≡ 0
-          word k n (yes d) =
-              let q = placed-here l g.ahead h in
-              ap (λ (j : ℕ). get_or (set room (place_of ws (take (at + w - at) (drop at s))) 0) j 0) d ∙ get_or-set_same room (place_of ws (take (at + w - at) (drop at s))) 0 0 (omega (arith, g.long, q.symbol, q.target))
-          word k n (no d) = get_or-set_other room (place_of ws (take (at + w - at) (drop at s))) k 0 0 d ∙ g.zero k (split k n (λ t. d t.1))
+          word : (k : ℕ) → ((y : List ℕ) → Memᴰ y (records w t) → Touches ws own k y → ⊥) → Dec (k ≡ place_of ws r) → get_or (set room (place_of ws r) 0) k 0 ≡ 0
+          word k n (yes z) =
+              let q = placed-here g.ahead r t d l in
+              ap (λ (j : ℕ). get_or (set room (place_of ws r) 0) j 0) z ∙ get_or-set_same room (place_of ws r) 0 0 (omega (arith, g.long, q.symbol, q.target))
+          word k n (no z) = get_or-set_other room (place_of ws r) k 0 0 z ∙ g.zero k (split k n (λ u. z u.1))
 
-  pub all_wiped : length s - at < w → Empty room
-  all_wiped h = record { long = g.long; zero = λ k. g.zero k (λ r d t. Memᴰ.not-nil (subst (Memᴰ r) (records_end w s at h) d)) }
+  pub all_wiped : length rest < n → Empty room
+  all_wiped h = record { long = g.long; zero = λ k. g.zero k (λ r d t. Memᴰ.not-nil (subst (Memᴰ r) (none_ahead g.ahead h) d)) }
 
 -- ---- a new room
 

@@ -96,7 +96,7 @@ abbrev pub every_state : ℕ
 every_state = 1099511627775
 
 every : (x : ℕ) → x < state_most → Bit every_state x
-unfolding all upto has_bit
+unfolding upto has_bit
 every x l = eqb-true _ _ (all_true (has_bit every_state) (upto state_most) refl x (upto_of state_most x l))
 
 module _ {s m ws room : List ℕ} (l : Lent 3 s (length m)) (j : Joined m ws) (g : Room (records 3 s) ws every_state room) where

@@ -13,9 +13,8 @@ ghost use Rattle.table_spec.specs.File.{records};
 ghost use Rattle.check_matching.specs.Matching.{kept, records_matched, Lent};
 ghost use Rattle.check_sections.specs.Rooms.{Classed, Joined, place_of, bit_of, met_by, gained, cleared, Placed, Lies, Room, Empty};
 
-use bits::{next_state, wide};
+use bits::{bit, has_bit, next_state};
 use check_matching::keeps;
-use tops::bit;
 
 // The word of all possible states.
 const EVERY: u64 = 1099511627775;
@@ -26,11 +25,8 @@ fn class_words(map: &[u8]) -> [u64; 256]
     ensures { Classed map.now result }
 {
     let mut words = [0u64; 256];
-    let mut q: usize = 0;
-    'states: while q < map.len() {
-        let class = wide(map[q]);
-        words[class] = words[class] | bit(q);
-        q += 1;
+    'states: for (q, class) in map.iter().enumerate() {
+        words[usize::from(*class)] |= bit(q);
     }
     words
 }
@@ -42,10 +38,8 @@ fn joined_words(map: &[u8]) -> [u64; 40]
 {
     let words = class_words(map);
     let mut joined = [0u64; 40];
-    let mut q: usize = 0;
-    'states: while q < map.len() {
-        joined[q] = words[wide(map[q])];
-        q += 1;
+    'states: for (q, class) in map.iter().enumerate() {
+        joined[q] = words[usize::from(*class)];
     }
     joined
 }
@@ -55,8 +49,8 @@ fn place_of(fields: &[u8], joined: &[u64; 40]) -> usize
     requires { Placed joined.now fields.now }
     ensures { (result ≡ place_of joined.now fields.now) × (result < 2560) }
 {
-    let target = wide(fields[fields.len() - 1]);
-    wide(fields[1]) * 40 + next_state(joined[target]) as usize
+    let target = usize::from(fields[fields.len() - 1]);
+    usize::from(fields[1]) * 40 + next_state(joined[target]) as usize
 }
 
 // The state of a move, the stack state of a return: its bit there, and what it asks for is joined to it.
@@ -65,27 +59,16 @@ fn bit_of(fields: &[u8]) -> usize
     ensures { result ≡ bit_of fields.now }
 {
     if fields.len() < 4 {
-        return wide(fields[0]);
+        return usize::from(fields[0]);
     }
-    wide(fields[2])
-}
-
-// A state is in a word.
-fn holds(word: u64, q: usize) -> bool
-    requires { q < 64 }
-    ensures { result ≡ has_bit word q }
-{
-    (word >> q) % 2 == 1
+    usize::from(fields[2])
 }
 
 // Word q, 0 past the end.
 fn word_at(words: &[u64], q: usize) -> u64
     ensures { result ≡ get_or words.now q 0 }
 {
-    if words.len() <= q {
-        return 0;
-    }
-    words[q]
+    words.get(q).copied().unwrap_or(0)
 }
 
 // A record of these states has its bit in the room.
@@ -93,9 +76,9 @@ fn put(fields: &[u8], joined: &[u64; 40], own: u64, room: &mut [u64; 2560])
     requires { Placed joined.now fields.now }
     ensures { room.new ≡ gained joined.now own fields.now room.old }
 {
-    if holds(own, wide(fields[0])) {
+    if has_bit(own, usize::from(fields[0])) {
         let place = place_of(fields, joined);
-        room[place] = room[place] | bit(bit_of(fields));
+        room[place] |= bit(bit_of(fields));
     }
 }
 
@@ -104,7 +87,7 @@ fn clear(fields: &[u8], joined: &[u64; 40], own: u64, room: &mut [u64; 2560])
     requires { Placed joined.now fields.now }
     ensures { room.new ≡ cleared joined.now own fields.now room.old }
 {
-    if holds(own, wide(fields[0])) {
+    if has_bit(own, usize::from(fields[0])) {
         let place = place_of(fields, joined);
         room[place] = 0;
     }
@@ -115,11 +98,8 @@ fn note(section: &[u8], width: usize, joined: &[u64; 40], own: u64, room: &mut [
     requires { Lies width section.now joined.now × Empty room.old }
     ensures { Room (records width section.now) joined.now own room.new }
 {
-    let mut at: usize = 0;
-    'records: while width <= section.len() - at {
-        let next = at + width;
-        put(&section[at..next], joined, own, room);
-        at = next;
+    'records: for fields in section.chunks_exact(width) {
+        put(fields, joined, own, room);
     }
 }
 
@@ -128,11 +108,8 @@ fn wipe(section: &[u8], width: usize, joined: &[u64; 40], own: u64, room: &mut [
     requires { Lies width section.now joined.now × Room (records width section.now) joined.now own room.old }
     ensures { Empty room.new }
 {
-    let mut at: usize = 0;
-    'records: while width <= section.len() - at {
-        let next = at + width;
-        clear(&section[at..next], joined, own, room);
-        at = next;
+    'records: for fields in section.chunks_exact(width) {
+        clear(fields, joined, own, room);
     }
 }
 
@@ -155,7 +132,7 @@ fn record_met(
     requires { Placed joined.now fields.now }
     ensures { result ≡ met_by words.now joined.now askers tops room.now fields.now }
 {
-    if !holds(askers, wide(fields[0])) {
+    if !has_bit(askers, usize::from(fields[0])) {
         return true;
     }
     if !keeps(words, fields) {
@@ -179,13 +156,10 @@ fn met(
     requires { Lies width section.now joined.now }
     ensures { result ≡ all (met_by words.now joined.now askers tops room.now) (records width section.now) }
 {
-    let mut at: usize = 0;
-    'records: while width <= section.len() - at {
-        let next = at + width;
-        if !record_met(&section[at..next], words, joined, askers, tops, room) {
+    'records: for fields in section.chunks_exact(width) {
+        if !record_met(fields, words, joined, askers, tops, room) {
             return false;
         }
-        at = next;
     }
     true
 }
@@ -201,8 +175,7 @@ fn returns_matched(
     requires { Lent 4 section.now (length map.now) × Joined map.now joined.now × Empty room.old }
     ensures { result ≡ records_matched 4 words.now (records 4 section.now) (length map.now) map.now }
 {
-    let mut q: usize = 0;
-    'states: while q < map.len() {
+    'states: for q in 0..map.len() {
         let own = bit(q);
         let askers = joined[q];
         let tops = word_at(words, q);
@@ -211,7 +184,6 @@ fn returns_matched(
             return false;
         }
         wipe(section, 4, joined, own, room);
-        q += 1;
     }
     true
 }
@@ -240,17 +212,11 @@ fn filter_live(section: &[u8], words: &[u64], live: &mut [u8; 16384]) -> usize
     ensures { (result ≤ length live.new) × (records 4 (take result live.new) ≡ filter (kept words.now) (records 4 section.now)) }
 {
     let mut n: usize = 0;
-    let mut at: usize = 0;
-    'records: while 4 <= section.len() - at {
-        let next = at + 4;
-        if keeps(words, &section[at..next]) {
-            live[n] = section[at];
-            live[n + 1] = section[at + 1];
-            live[n + 2] = section[at + 2];
-            live[n + 3] = section[at + 3];
+    'records: for fields in section.chunks_exact(4) {
+        if keeps(words, fields) {
+            live[n..n + 4].copy_from_slice(fields);
             n += 4;
         }
-        at = next;
     }
     n
 }

@@ -1,37 +1,53 @@
 -- The check's number and its answer, by cases, and what the answer promises (demand 2). Assumes nothing.
-use mathlib.Core.Path.{◌≡◌, refl, sym, ap, ◌∙◌, subst}
+use mathlib.Core.Path.{◌≡◌, sym, ap, ◌∙◌, subst}
 use mathlib.Core.List.{List, [], ◌∷◌}
 use Prim.Native.Nat.{ℕ}
-use native.Mathlib.Omega.{arith}
+use Rattle.std.specs.Prelude.{Result, Ok, Err}
 use Rattle.lists.specs.Lists.{first_failed, Says}
-use Rattle.lists.proofs.Refusals.{stage-passes, refuses, not_refused, by_number, says}
+use Rattle.lists.proofs.Refusals.{stage-passes}
 use Rattle.limits.specs.declared.Limits.{Limits}
+use Rattle.refusals.specs.declared.Refusal.{Refusal}
+use Rattle.refusals.specs.declared.Refusal.TheVariants.{MapLength, Numbering, Disagreement, InternalUnmatched, CallUnmatched, ReturnUnmatched}
+use Rattle.refusals.specs.Refusals.{number_of, Known, tested, number_in, one_value, values_in}
+use Rattle.refusals.proofs.Numbers.{known_of, failed_known, none_known, refused_by, ok_by, was_ok, was_refused, answered_says}
 use Rattle.table_spec.specs.File.{table_of}
 use Rattle.table_spec.specs.Reading.{Readable}
+use Rattle.table_spec.proofs.Passed.{read-known}
 use Rattle.table_spec.specs.Maps.{classes}
-use Rattle.check_spec.specs.declared.Checked.{Checked}
-use Rattle.check_spec.specs.declared.Checked.TheVariants.{Accepted, Refused}
-use Rattle.check_spec.specs.Check.{map_tests, check_number, check_of, checked_number, checked_values, CheckSays}
+use Rattle.check_spec.specs.Check.{map_tests, check_number, check_of, CheckSays}
 use Rattle.check_spec.specs.Demands.{IsAccepted, AcceptedWith, AcceptsExactly}
 use Rattle.check_spec.proofs.Accepted.{accepted, accepts}
 
 module _ (L : Limits) (b m : List ℕ) where
-  -- of a readable table
-  pub tested : {k : ℕ} → Readable L b → k ≡ first_failed (map_tests (table_of b) m) → check_number L b m ≡ k
+  pub check_refused : {r : Refusal} → check_number L b m ≡ number_of r → Err r ≡ check_of L b m
+  unfolding check_of
+  check_refused e = refused_by (classes m) e
+
+  pub check_accepted : {n : ℕ} → check_number L b m ≡ 0 → n ≡ classes m → Ok n ≡ check_of L b m
+  unfolding check_of
+  check_accepted e l = ap {B = Result ℕ Refusal} (λ n. Ok n) l ∙ ok_by (classes m) e
+
+  -- the check refuses by numbers that are known
+  pub check-known : Known (check_number L b m)
+  unfolding check_number map_tests
+  check-known =
+      failed_known _ _ (read-known L b) (failed_known _ _ (known_of MapLength) (failed_known _ _ (known_of Numbering) (failed_known _ _ (known_of Disagreement)
+      (failed_known _ _ (known_of InternalUnmatched) (failed_known _ _ (known_of CallUnmatched) (failed_known _ _ (known_of ReturnUnmatched) none_known))))))
+
+  -- of a readable table, by what its map's tests give
+  pub by_tests : Readable L b → check_number L b m ≡ first_failed (map_tests (table_of b) m)
   unfolding check_number
-  tested r f = stage-passes _ _ r ∙ sym f
+  by_tests r = stage-passes _ _ r
 
-  pub check_refused : {k : ℕ} → check_number L b m ≡ k → (k ≡ 0 → ⊥) → Refused k ≡ check_of L b m
-  unfolding check_of
-  check_refused e n = refuses _ _ Refused e n
+  pub tests_refused : {r : Refusal} → Readable L b → Err r ≡ tested (first_failed (map_tests (table_of b) m)) → check_number L b m ≡ number_of r
+  tests_refused p e = by_tests p ∙ was_refused tt (subst Known (by_tests p) check-known) (sym e)
 
-  pub check_accepted : {k n : ℕ} → check_number L b m ≡ k → k ≡ 0 → n ≡ classes m → Accepted n ≡ check_of L b m
-  unfolding check_of
-  check_accepted e z l = ap Accepted l ∙ not_refused _ _ _ (e ∙ z)
+  pub tests_passed : {u : Unit {0}} → Readable L b → Ok u ≡ tested (first_failed (map_tests (table_of b) m)) → check_number L b m ≡ 0
+  tests_passed p e = by_tests p ∙ (was_ok tt (sym e)).0
 
   numbered : CheckSays L b m (check_of L b m)
-  unfolding check_of checked_number checked_values
-  numbered = says _ (Accepted (classes m)) (Refused (check_number L b m)) checked_number checked_values refl refl refl refl
+  unfolding check_of
+  numbered = answered_says (classes m) one_value check-known
 
   -- accepted, by the answer's number and by the definition's
   pub passes-number : IsAccepted (check_of L b m) → check_number L b m ≡ 0
@@ -41,7 +57,7 @@ module _ (L : Limits) (b m : List ℕ) where
   number-passes e = numbered.numbered ∙ e
 
   pub accepted_with : check_number L b m ≡ 0 → AcceptedWith (check_of L b m) (classes m)
-  accepted_with e = subst (λ k. Says (checked_number (check_of L b m)) (checked_values (check_of L b m)) k (classes m ∷ [])) e numbered
+  accepted_with e = subst (λ k. Says (number_in (check_of L b m)) (values_in one_value (check_of L b m)) k (classes m ∷ [])) e numbered
 
   -- demand 2
   exactly : AcceptsExactly L b m (check_of L b m)
@@ -50,28 +66,13 @@ module _ (L : Limits) (b m : List ℕ) where
     λ z. number-passes (accepts L b m (record { readable = readable; proper = z.0; raq = z.1 })),
   )
 
-  pub checked : {r : Checked} → r ≡ check_of L b m → (r ≡ check_of L b m) × (CheckSays L b m r × AcceptsExactly L b m r)
-  checked {r} e = (e, subst (λ (y : Checked). CheckSays L b m y × AcceptsExactly L b m y) (sym e) (numbered, exactly))
+  pub checked : {r : Result ℕ Refusal} → r ≡ check_of L b m → (r ≡ check_of L b m) × (CheckSays L b m r × AcceptsExactly L b m r)
+  checked {r} e = (e, subst (λ (y : Result ℕ Refusal). CheckSays L b m y × AcceptsExactly L b m y) (sym e) (numbered, exactly))
 
-  -- by cases: the class count where the number is 0, else the number
-  pub data Answers : Checked → Type 0 where
-    passes_by : check_number L b m ≡ 0 → Answers (Accepted (classes m))
-    refuses_by : (check_number L b m ≡ 0 → ⊥) → Answers (Refused (check_number L b m))
-
-  pub answers : Answers (check_of L b m)
+  pub accepted-number : {n : ℕ} → check_of L b m ≡ Ok n → check_number L b m ≡ 0
   unfolding check_of
-  answers = by_number _ _ _ Answers passes_by refuses_by
+  accepted-number f = (was_ok (classes m) f).0
 
-  pub accepted-number : {n : ℕ} → check_of L b m ≡ Accepted n → check_number L b m ≡ 0
-  accepted-number {n} f = go answers f
-    where
-      go : {x : Checked} → Answers x → x ≡ Accepted n → check_number L b m ≡ 0
-      go (passes_by z) e = z
-      go (refuses_by h) e = let z : ◌≡◌ {A = ℕ} 0 1 = cc in absurd (omega arith)
-
-  pub refused_number : {k : ℕ} → check_of L b m ≡ Refused k → (check_number L b m ≡ k) × (k ≡ 0 → ⊥)
-  refused_number {k} f = go answers f
-    where
-      go : {x : Checked} → Answers x → x ≡ Refused k → (check_number L b m ≡ k) × (k ≡ 0 → ⊥)
-      go (passes_by z) e = let w : ◌≡◌ {A = ℕ} 0 1 = cc in absurd (omega arith)
-      go (refuses_by h) e = let w : check_number L b m ≡ k = cc in (w, λ z. h (w ∙ z))
+  pub refused_number : {r : Refusal} → check_of L b m ≡ Err r → check_number L b m ≡ number_of r
+  unfolding check_of
+  refused_number f = was_refused (classes m) check-known f

@@ -53,23 +53,14 @@ module _ {m : List ℕ} {next q c : ℕ} (w : Numbering m next q) (h : q < lengt
   pub number_past : next < c → false ≡ numbered m
   number_past l = sym (turn ∙ rw (lt-leb _ _ l))
 
-  pub number-new : next ≡ c → Numbering m (next + 1) (q + 1)
-  number-new l = record { few = omega (arith, w.few); meets = turn ∙ λ i. one i && numbered_from (new i) (drop (q + 1) m) }
+  pub number_on : {more : ℕ} → c ≤ next → more ≡ max next (c + 1) → Numbering m more (q + 1)
+  number_on {more} l n = record { few = omega (arith, w.few); meets = turn ∙ λ i. one i && numbered_from (new i) (drop (q + 1) m) }
     where
       one : leb c next ≡ true
-      one = le-leb c next (omega arith)
+      one = le-leb c next l
 
-      new : max next (suc c) ≡ next + 1
+      new : max next (suc c) ≡ more
       new = omega arith
-
-  pub number_old : c ≤ next → (next ≡ c → ⊥) → Numbering m next (q + 1)
-  number_old l n = record { few = omega (arith, w.few); meets = turn ∙ λ i. one i && numbered_from (old i) (drop (q + 1) m) }
-    where
-      one : leb c next ≡ true
-      one = le-leb _ _ l
-
-      old : max next (suc c) ≡ next
-      old = omega arith
 
 pub numbered-all : {m : List ℕ} {next q : ℕ} → Numbering m next q → length m ≤ q → true ≡ numbered m
 unfolding numbered_from
@@ -89,11 +80,8 @@ module _ {m : List ℕ} {n q c : ℕ} (w : Classing m n q) (h : q < length m) (e
   unfolding classes
   each = w.meets ∙ ap (λ k. max n (classes k)) (one_on m q h) ∙ λ i. max n (max (suc (sym e i)) (classes (drop (q + 1) m)))
 
-  pub class-more : c < 256 → n ≤ c → Classing m (c + 1) (q + 1)
-  class-more b l = record { few = omega arith; meets = omega (arith, each) }
-
-  pub class-within : c < n → Classing m n (q + 1)
-  class-within l = record { few = w.few; meets = omega (arith, each) }
+  pub class_on : {more : ℕ} → c < 256 → more ≡ max n (c + 1) → Classing m more (q + 1)
+  class_on b l = record { few = omega (arith, w.few); meets = omega (arith, each) }
 
 pub classed_all : {m : List ℕ} {n q : ℕ} → Classing m n q → length m ≤ q → n ≡ classes m
 unfolding classes

@@ -1,15 +1,15 @@
 -- Checking a map (document 01, "Check and quotient" and "Refused calls"). Assumes nothing.
-use Rattle.std.specs.Prelude.{Bool, true, false, ◌&&◌, ◌||◌, not, List, [], ◌∷◌, ℕ, length, get_or, eqb}
+use Rattle.std.specs.Prelude.{Bool, ◌&&◌, ◌||◌, not, Result, List, [], ◌∷◌, ℕ, length, get_or, eqb}
 use Rattle.lists.specs.Lists.{any, all, upto, first_failed, stage, Says}
 use Rattle.lists.specs.Bits.{has}
 use Rattle.limits.specs.declared.Limits.{Limits}
+use Rattle.refusals.specs.declared.Refusal.{Refusal}
+use Rattle.refusals.specs.Refusals.{answered, number_in, one_value, values_in}
 use Rattle.table_spec.specs.File.{Table, table_of}
 use Rattle.table_spec.specs.Reading.{read_number}
 use Rattle.table_spec.specs.Language.{count, byte_of, agreed_on, targets}
 use Rattle.table_spec.specs.Maps.{joins, classes, numbered}
 use Rattle.tops_spec.specs.Tops.{top_words}
-use Rattle.check_spec.specs.declared.Checked.{Checked}
-use Rattle.check_spec.specs.declared.Checked.TheVariants.{Accepted, Refused}
 
 -- (i) "joined states agree on accepting"; request (v): "on mark and accepting"
 unfoldable pub labels_agree : Table → List ℕ → Bool
@@ -47,18 +47,9 @@ unfoldable pub check_number : Limits → List ℕ → List ℕ → ℕ
 check_number L b m = first_failed (stage (read_number L b) ∷ map_tests (table_of b) m)
 
 -- the operation: "Accepted, the answer is the class count."
-unfoldable pub check_of : Limits → List ℕ → List ℕ → Checked
-check_of L b m = elim (eqb (check_number L b m) 0) [ true ↦ Accepted (classes m) | false ↦ Refused (check_number L b m) ]
-
--- an answer's number, 0 where it is none, and its values
-unfoldable pub checked_number : Checked → ℕ
-checked_number (Accepted c) = 0
-checked_number (Refused k) = k
-
-unfoldable pub checked_values : Checked → List ℕ
-checked_values (Accepted c) = c ∷ []
-checked_values (Refused k) = []
+unfoldable pub check_of : Limits → List ℕ → List ℕ → Result ℕ Refusal
+check_of L b m = answered (check_number L b m) (classes m)
 
 -- the answer by its number and its values
-abbrev pub CheckSays : Limits → List ℕ → List ℕ → Checked → Type 0
-CheckSays L b m r = Says (checked_number r) (checked_values r) (check_number L b m) (classes m ∷ [])
+abbrev pub CheckSays : Limits → List ℕ → List ℕ → Result ℕ Refusal → Type 0
+CheckSays L b m r = Says (number_in r) (values_in one_value r) (check_number L b m) (classes m ∷ [])

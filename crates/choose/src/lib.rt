@@ -1,66 +1,64 @@
 // Two maps on the desk: that one of them which the check accepts.
 #![tactic(auto)]
 
-ghost use Rattle.std.specs.Prelude.{◌≡◌};
+ghost use Rattle.std.specs.Prelude.{◌≡◌, true, false, leb};
+ghost use Rattle.choose_spec.specs.declared.Which.TheVariants.{First, Second};
+ghost use Rattle.table_spec.specs.Maps.{classes};
 ghost use Rattle.limits.specs.Limits.{standard};
-ghost use Rattle.check_map.specs.Known.{Known, WhereReadable};
+ghost use Rattle.refusals.specs.Refusals.{number_in};
+ghost use Rattle.check_map.specs.Known.{WhereReadable};
 ghost use Rattle.choose_spec.specs.Choose.{which_of, choose_number, choice_of, slice_of, choose_of};
 ghost use Rattle.choose_spec.specs.Demands.{NumberTells, NeitherPasses, ZeroTells, HandedBack};
 
-use choose_spec::{Choice, Which};
+use choose_spec::Which;
 use limits::Limits;
-use table_spec::Starts;
+use refusals::Refusal;
+use tops::Examined;
 
 // Which of two maps of a table that was read and whose tops are known, at any limits at which it is readable.
-fn which_known(table: &[u8], starts: Starts, words: &[u64], first: &[u8], second: &[u8]) -> Which
-    requires { Known table.now starts words.now }
-    ensures { WhereReadable table.now (λ L. result ≡ which_of L table.now first.now second.now) }
+fn which_known(examined: &Examined<'_>, first: &[u8], second: &[u8]) -> Option<Which>
+    ensures { WhereReadable examined.now.bytes.now (λ L. result ≡ which_of L examined.now.bytes.now first.now second.now) }
 {
-    let one = check_map::map_number(table, starts, words, first);
-    let two = check_map::map_number(table, starts, words, second);
-    if one != 0 {
-        if two != 0 {
-            return Which::Neither;
-        }
-        return Which::Second;
+    let one = check_map::test_map(examined, first);
+    let two = check_map::test_map(examined, second);
+    match one {
+        Err(_) => match two {
+            Err(_) => None,
+            Ok(_) => Some(Which::Second),
+        },
+        Ok(_) => match two {
+            Err(_) => Some(Which::First),
+            Ok(_) => Some(fewer(first, second)),
+        },
     }
-    if two != 0 {
-        return Which::First;
-    }
+}
+
+// The map with fewer classes, the first when equal.
+fn fewer(first: &[u8], second: &[u8]) -> Which
+    ensures { result ≡ (elim (leb (classes first.now) (classes second.now)) [ true ↦ First | false ↦ Second ]) }
+{
     if check_numbering::class_count(second) < check_numbering::class_count(first) {
         return Which::Second;
     }
     Which::First
 }
 
-// The number and which map, of a table that is read at limits: it is read and its tops are worked out once for both maps.
-pub fn decide_within(limits: Limits, table: &[u8], first: &[u8], second: &[u8]) -> Choice
+// Which map, of a table that is read at limits: it is read and its tops are worked out once for both maps.
+pub fn decide_within(
+    limits: Limits,
+    table: &[u8],
+    first: &[u8],
+    second: &[u8],
+) -> Result<Which, Refusal>
     ensures answers { result ≡ choice_of limits table.now first.now second.now }
     ensures tells { NumberTells result }
+    ensures number { number_in result ≡ choose_number limits table.now first.now second.now }
 {
-    let examined = tops::examine(limits, table);
-    if examined.number != 0 {
-        return Choice {
-            number: examined.number,
-            which: Which::Neither,
-        };
-    }
-    let starts = examined.starts;
-    let words = examined.words;
-    let which = which_known(table, starts, &words, first, second);
+    let examined = tops::examine(limits, table)?;
+    let which = which_known(&examined, first, second);
     match which {
-        Which::Neither => Choice {
-            number: 40,
-            which: Which::Neither,
-        },
-        Which::First => Choice {
-            number: 0,
-            which: Which::First,
-        },
-        Which::Second => Choice {
-            number: 0,
-            which: Which::Second,
-        },
+        Some(which) => Ok(which),
+        None => Err(Refusal::NeitherMap),
     }
 }
 
@@ -76,11 +74,12 @@ pub fn choose_within<'a>(
     ensures chosen { HandedBack limits table.now first.entry second.entry result }
 {
     let choice = decide_within(limits, table, first, second);
-    let which = choice.which;
-    match which {
-        Which::Neither => &first[..0],
-        Which::First => first,
-        Which::Second => second,
+    match choice {
+        Err(_) => &first[..0],
+        Ok(which) => match which {
+            Which::First => first,
+            Which::Second => second,
+        },
     }
 }
 
@@ -91,13 +90,17 @@ pub fn choose_number_within(limits: Limits, table: &[u8], first: &[u8], second: 
     ensures tells { ZeroTells limits table.now (slice_of first.entry) (slice_of second.entry) result }
 {
     let choice = decide_within(limits, table, first, second);
-    choice.number
+    match choice {
+        Ok(_) => 0,
+        Err(refusal) => refusal.number(),
+    }
 }
 
-// The number and which map, at the limits of a caller that gives none.
-pub fn decide(table: &[u8], first: &[u8], second: &[u8]) -> Choice
+// Which map, at the limits of a caller that gives none.
+pub fn decide(table: &[u8], first: &[u8], second: &[u8]) -> Result<Which, Refusal>
     ensures answers { result ≡ choice_of standard table.now first.now second.now }
     ensures tells { NumberTells result }
+    ensures number { number_in result ≡ choose_number standard table.now first.now second.now }
 {
     decide_within(limits::standard(), table, first, second)
 }

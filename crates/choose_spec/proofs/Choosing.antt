@@ -10,22 +10,24 @@ use lib.ListN.{length}
 use lib.Dec.{leb}
 use borrow.Author.Tests.{leb-true, leb-false, le-leb, lt-leb}
 use denote.Ref.{Bor}
+use Rattle.std.specs.Prelude.{Option, Some, None, Result, Ok, Err}
 use Rattle.lists.specs.Lists.{first_failed}
 use Rattle.lists.proofs.Refusals.{passes, fails, no_test, stage-passes, stage_fails, stage-passed}
 use Rattle.limits.specs.declared.Limits.{Limits}
+use Rattle.refusals.specs.declared.Refusal.{Refusal}
+use Rattle.refusals.specs.declared.Refusal.TheVariants.{NeitherMap}
+use Rattle.refusals.specs.Refusals.{number_of, refusal, Known, number_in}
+use Rattle.refusals.proofs.Numbers.{some_number, own_number, known_of, failed_known, none_known, was_ok, was_refused}
 use Rattle.table_spec.specs.Reading.{read_number, Readable}
 use Rattle.table_spec.specs.Maps.{classes}
 use Rattle.table_spec.proofs.Bytes.{read_well_formed}
-use Rattle.table_spec.proofs.Passed.{read-within, formed_tested}
-use Rattle.check_spec.specs.declared.Checked.{Checked}
-use Rattle.check_spec.specs.declared.Checked.TheVariants.{Accepted, Refused}
+use Rattle.table_spec.proofs.Passed.{read-within, formed_tested, read-known}
 use Rattle.check_spec.specs.Check.{check_of}
 use Rattle.check_spec.proofs.Accepted.{accepted, Accepted as Accepted'}
-use Rattle.check_spec.proofs.Answers.{passes-number, number-passes, Answers, passes_by, refuses_by, answers}
+use Rattle.check_spec.proofs.Answers.{passes-number, number-passes, check-known}
 use Rattle.choose_spec.specs.declared.Which.{Which}
-use Rattle.choose_spec.specs.declared.Which.TheVariants.{Neither, First, Second}
-use Rattle.choose_spec.specs.declared.Choice.{Choice}
-use Rattle.choose_spec.specs.Choose.{pick, which_of, some, choose_number, choice_of, choice_values, Slice, slice_of, handed, choose_of}
+use Rattle.choose_spec.specs.declared.Which.TheVariants.{First, Second}
+use Rattle.choose_spec.specs.Choose.{pick, which_of, some, choose_number, choice_of, Slice, slice_of, handed, choose_of}
 use Rattle.choose_spec.specs.Demands.{Passes, Chosen, NumberTells, NeitherPasses, ZeroTells, HandedBack}
 
 -- of a map that passes the table is readable and has a state, and the map a byte for it
@@ -39,50 +41,61 @@ module _ (L : Limits) (b m : List ℕ) (p : Passes L b m) where
 module _ (L : Limits) (b m n : List ℕ) where
   -- ---- which map, from the check's answers
 
-  by_checks : {x y : Checked} → x ≡ check_of L b m → y ≡ check_of L b n → pick x y ≡ which_of L b m n
+  by_checks : {x y : Result ℕ Refusal} → x ≡ check_of L b m → y ≡ check_of L b n → pick x y ≡ which_of L b m n
   unfolding which_of
   by_checks e f = λ i. pick (e i) (f i)
 
-  pub pick_neither : {k l : ℕ} → Refused k ≡ check_of L b m → Refused l ≡ check_of L b n → Neither ≡ which_of L b m n
+  pub pick_neither : {k l : Refusal} → Err k ≡ check_of L b m → Err l ≡ check_of L b n → None ≡ which_of L b m n
   unfolding pick
   pick_neither e f = by_checks e f
 
-  pub pick_second : {k d : ℕ} → Refused k ≡ check_of L b m → Accepted d ≡ check_of L b n → Second ≡ which_of L b m n
+  pub pick_second : {k : Refusal} {d : ℕ} → Err k ≡ check_of L b m → Ok d ≡ check_of L b n → Some Second ≡ which_of L b m n
   unfolding pick
   pick_second e f = by_checks e f
 
-  pub pick_first : {c l : ℕ} → Accepted c ≡ check_of L b m → Refused l ≡ check_of L b n → First ≡ which_of L b m n
+  pub pick_first : {c : ℕ} {l : Refusal} → Ok c ≡ check_of L b m → Err l ≡ check_of L b n → Some First ≡ which_of L b m n
   unfolding pick
   pick_first e f = by_checks e f
 
-  module _ {c d : ℕ} (e : Accepted c ≡ check_of L b m) (f : Accepted d ≡ check_of L b n) where
-    pub pick_fewer : d < c → Second ≡ which_of L b m n
+  module _ {c d : ℕ} (e : Ok c ≡ check_of L b m) (f : Ok d ≡ check_of L b n) where
+    pub pick_fewer : d < c → Some Second ≡ which_of L b m n
     unfolding pick
     pick_fewer h = sym (rw (lt-leb c d h, pick)) ∙ by_checks e f
 
-    pub pick-few : c ≤ d → First ≡ which_of L b m n
+    pub pick-few : c ≤ d → Some First ≡ which_of L b m n
     unfolding pick
     pick-few h = sym (rw (le-leb c d h, pick)) ∙ by_checks e f
 
+  pub pick_both : {c d : ℕ} → Ok c ≡ check_of L b m → Ok d ≡ check_of L b n → Some (elim (leb c d) [ true ↦ First | false ↦ Second ]) ≡ which_of L b m n
+  unfolding pick
+  pick_both e f = by_checks e f
+
   -- ---- what it says of the two maps
 
-  data Picked : Which → Type 0 where
-    neither : (Passes L b m → ⊥) → (Passes L b n → ⊥) → Picked Neither
-    first : Passes L b m → (Passes L b n → classes m ≤ classes n) → Picked First
-    second : Passes L b n → (Passes L b m → classes n < classes m) → Picked Second
+  data Picked : Option Which → Type 0 where
+    neither : (Passes L b m → ⊥) → (Passes L b n → ⊥) → Picked None
+    first : Passes L b m → (Passes L b n → classes m ≤ classes n) → Picked (Some First)
+    second : Passes L b n → (Passes L b m → classes n < classes m) → Picked (Some Second)
 
   picked : Picked (which_of L b m n)
-  picked = go (answers L b m) (answers L b n) refl refl
+  unfolding check_of
+  picked = go (check_of L b m) (check_of L b n) refl refl
     where
-      counts : (t : Bool) → leb (classes m) (classes n) ≡ t → Accepted (classes m) ≡ check_of L b m → Accepted (classes n) ≡ check_of L b n → Passes L b m → Passes L b n → Picked (which_of L b m n)
-      counts true h e f p q = subst Picked (pick-few e f (leb-true _ _ h)) (first p (λ q. leb-true _ _ h))
-      counts false h e f p q = subst Picked (pick_fewer e f (leb-false _ _ h)) (second q (λ p. leb-false _ _ h))
+      passes-by : (k : List ℕ) {c : ℕ} → Ok c ≡ check_of L b k → Passes L b k × (c ≡ classes k)
+      passes-by k e = let w = was_ok (classes k) (sym e) in (number-passes L b k w.0, w.1)
 
-      go : {x y : Checked} → Answers L b m x → Answers L b n y → x ≡ check_of L b m → y ≡ check_of L b n → Picked (which_of L b m n)
-      go (passes_by z) (passes_by w) e f = counts (leb (classes m) (classes n)) refl e f (number-passes L b m z) (number-passes L b n w)
-      go (passes_by z) (refuses_by w) e f = subst Picked (pick_first e f) (first (number-passes L b m z) (λ p. absurd (w (passes-number L b n p))))
-      go (refuses_by z) (passes_by w) e f = subst Picked (pick_second e f) (second (number-passes L b n w) (λ p. absurd (z (passes-number L b m p))))
-      go (refuses_by z) (refuses_by w) e f = subst Picked (pick_neither e f) (neither (λ p. z (passes-number L b m p)) (λ p. w (passes-number L b n p)))
+      fails-by : (k : List ℕ) {r : Refusal} → Err r ≡ check_of L b k → Passes L b k → ⊥
+      fails-by k {r} e p = some_number r (sym (was_refused (classes k) (check-known L b k) (sym e)) ∙ passes-number L b k p)
+
+      counts : (t : Bool) {c d : ℕ} → leb c d ≡ t → Ok c ≡ check_of L b m → Ok d ≡ check_of L b n → c ≡ classes m → d ≡ classes n → Passes L b m → Passes L b n → Picked (which_of L b m n)
+      counts true {c} {d} h e f v w p q = subst Picked (pick-few e f (leb-true c d h)) (first p (λ q. omega (arith, leb-true c d h)))
+      counts false {c} {d} h e f v w p q = subst Picked (pick_fewer e f (leb-false c d h)) (second q (λ p. omega (arith, leb-false c d h)))
+
+      go : (x y : Result ℕ Refusal) → x ≡ check_of L b m → y ≡ check_of L b n → Picked (which_of L b m n)
+      go (Ok c) (Ok d) e f = let p = passes-by m e in let q = passes-by n f in counts (leb c d) refl e f p.1 q.1 p.0 q.0
+      go (Ok c) (Err l) e f = subst Picked (pick_first e f) (first (passes-by m e).0 (λ p. absurd (fails-by n f p)))
+      go (Err k) (Ok d) e f = subst Picked (pick_second e f) (second (passes-by n f).0 (λ p. absurd (fails-by m e p)))
+      go (Err k) (Err l) e f = subst Picked (pick_neither e f) (neither (fails-by m e) (fails-by n f))
 
   -- ---- the number
 
@@ -94,39 +107,35 @@ module _ (L : Limits) (b m n : List ℕ) where
   unfolding choose_number
   read_number_lem r = stage-passes _ _ r
 
-  number_40 : Neither ≡ which_of L b m n → Readable L b → choose_number L b m n ≡ 40
+  number_40 : None ≡ which_of L b m n → Readable L b → choose_number L b m n ≡ 40
   unfolding some
   number_40 e r = read_number_lem r ∙ fails 40 [] (ap some (sym e))
 
   number_0 : some (which_of L b m n) ≡ true → Readable L b → choose_number L b m n ≡ 0
   number_0 e r = read_number_lem r ∙ passes 40 [] e ∙ no_test
 
-  -- a table that is readable
-  module _ (r : Readable L b) where
-    pub decide_neither : Neither ≡ which_of L b m n → record { number = 40; which = Neither } ≡ choice_of L b m n
-    unfolding choice_of
-    decide_neither e = λ i. record { number = sym (number_40 e r) i; which = e i }
+  -- it refuses by numbers that are known
+  choose-known : Known (choose_number L b m n)
+  unfolding choose_number
+  choose-known = failed_known _ _ (read-known L b) (failed_known _ _ (known_of NeitherMap) none_known)
 
-    pub decide-first : First ≡ which_of L b m n → record { number = 0; which = First } ≡ choice_of L b m n
-    unfolding choice_of some
-    decide-first e = λ i. record { number = sym (number_0 (ap some (sym e)) r) i; which = e i }
+  -- the answer, by which map it is
+  by_choice : {w : Option Which} → w ≡ which_of L b m n → (elim w as (λ _. Result Which Refusal) [ None ↦ Err (refusal (choose_number L b m n)) | Some v ↦ Ok v ]) ≡ choice_of L b m n
+  unfolding choice_of
+  by_choice e = ap (λ (w : Option Which). elim w as (λ _. Result Which Refusal) [ None ↦ Err (refusal (choose_number L b m n)) | Some v ↦ Ok v ]) e
 
-    pub decide-second : Second ≡ which_of L b m n → record { number = 0; which = Second } ≡ choice_of L b m n
-    unfolding choice_of some
-    decide-second e = λ i. record { number = sym (number_0 (ap some (sym e)) r) i; which = e i }
+  pub decide_some : {w : Which} → Some w ≡ which_of L b m n → Ok w ≡ choice_of L b m n
+  decide_some e = by_choice e
 
-  -- which map, and the number, of an answer
-  module _ {x : Choice} (e : x ≡ choice_of L b m n) where
-    pub decided : {w : Which} → x.which ≡ w → w ≡ which_of L b m n
-    unfolding choice_of
-    decided f = sym f ∙ ap (λ y. y.which) e
+  pub decide_none : {r : Refusal} → None ≡ which_of L b m n → choose_number L b m n ≡ number_of r → Err r ≡ choice_of L b m n
+  decide_none {r} e f = ap {B = Result Which Refusal} (λ s. Err s) (sym (own_number r) ∙ ap refusal (sym f)) ∙ by_choice e
 
-    pub number_decided : x.number ≡ choose_number L b m n
-    unfolding choice_of
-    number_decided = ap (λ y. y.number) e
+  -- of a table that is readable
+  pub decide_neither : Readable L b → None ≡ which_of L b m n → Err NeitherMap ≡ choice_of L b m n
+  decide_neither r e = decide_none e (number_40 e r)
 
   -- nothing is handed back only with a refusal
-  refused : Neither ≡ which_of L b m n → choose_number L b m n ≡ 0 → ⊥
+  refused : None ≡ which_of L b m n → choose_number L b m n ≡ 0 → ⊥
   unfolding choose_number
   refused e z = let f = number_40 e (stage-passed _ _ z).0 in omega arith
 
@@ -134,47 +143,62 @@ module _ (L : Limits) (b m n : List ℕ) where
   unfolding some
   number-some h = go (which_of L b m n) refl picked h
     where
-      go : (w : Which) → w ≡ which_of L b m n → Picked w → some w ≡ true → choose_number L b m n ≡ 0
-      go Neither e p k = absurd (true≢false (sym k))
-      go First e (first p q) k = number_0 (ap some (sym e)) (pass-accepted L b m p).readable
-      go Second e (second p q) k = number_0 (ap some (sym e)) (pass-accepted L b n p).readable
+      go : (w : Option Which) → w ≡ which_of L b m n → Picked w → some w ≡ true → choose_number L b m n ≡ 0
+      go None e p k = absurd (true≢false (sym k))
+      go (Some First) e (first p q) k = number_0 (ap some (sym e)) (pass-accepted L b m p).readable
+      go (Some Second) e (second p q) k = number_0 (ap some (sym e)) (pass-accepted L b n p).readable
 
-  -- a map is picked only from a readable table, and then the number is 0
-  picked_number : (which_of L b m n ≡ Neither → ⊥) → choose_number L b m n ≡ 0
-  unfolding some
-  picked_number h = go (which_of L b m n) refl picked
-    where
-      go : (w : Which) → w ≡ which_of L b m n → Picked w → choose_number L b m n ≡ 0
-      go Neither e p = absurd (h (sym e))
-      go First e (first p q) = number_0 (ap some (sym e)) (pass-accepted L b m p).readable
-      go Second e (second p q) = number_0 (ap some (sym e)) (pass-accepted L b n p).readable
+  -- the number of an answer, and which map it is
+  module _ {x : Result Which Refusal} (e : x ≡ choice_of L b m n) where
+    pub decided : {w : Which} → x ≡ Ok w → Some w ≡ which_of L b m n
+    unfolding choice_of
+    decided {w} f = go (which_of L b m n) refl (sym f ∙ e)
+      where
+        go : (v : Option Which) → v ≡ which_of L b m n → Ok w ≡ (elim v as (λ _. Result Which Refusal) [ None ↦ Err (refusal (choose_number L b m n)) | Some u ↦ Ok u ]) → Some w ≡ which_of L b m n
+        go None h g = cc
+        go (Some u) h g = cc
 
-  pub told : {x : Choice} → x ≡ choice_of L b m n → (x ≡ choice_of L b m n) × NumberTells x
-  unfolding choice_of choice_values
-  told {x} e = (e, subst NumberTells (sym e) ((λ z f. by (which_of L b m n) refl f z), λ f. picked_number (λ g. f (rw (g, choice_values)))))
-    where
-      by : (w : Which) → w ≡ which_of L b m n → choice_values (record { number = choose_number L b m n; which = w }) ≡ [] → choose_number L b m n ≡ 0 → ⊥
-      by Neither g f z = refused g z
-      by First g f z = let a : ◌≡◌ {A = ℕ} 0 1 = cc in omega arith
-      by Second g f z = let a : ◌≡◌ {A = ℕ} 0 1 = cc in omega arith
+    pub undecided : {r : Refusal} → x ≡ Err r → None ≡ which_of L b m n
+    unfolding choice_of
+    undecided {r} f = go (which_of L b m n) refl (sym f ∙ e)
+      where
+        go : (v : Option Which) → v ≡ which_of L b m n → Err r ≡ (elim v as (λ _. Result Which Refusal) [ None ↦ Err (refusal (choose_number L b m n)) | Some u ↦ Ok u ]) → None ≡ which_of L b m n
+        go None h g = h
+        go (Some u) h g = cc
+
+    pub number_decided : number_in x ≡ choose_number L b m n
+    unfolding choice_of some
+    number_decided = ap number_in e ∙ go (which_of L b m n) refl
+      where
+        go : (v : Option Which) → v ≡ which_of L b m n → number_in (elim v as (λ _. Result Which Refusal) [ None ↦ Err (refusal (choose_number L b m n)) | Some u ↦ Ok u ]) ≡ choose_number L b m n
+        go None h = choose-known (refused h)
+        go (Some u) h = sym (number-some (ap some (sym h)))
+
+  -- the number says whether a value says which
+  tells : (x : Result Which Refusal) → NumberTells x
+  tells (Ok First) = (λ z f. cc, λ f. refl)
+  tells (Ok Second) = (λ z f. cc, λ f. refl)
+  tells (Err r) = (λ z. absurd (some_number r z), λ f. absurd (f refl))
+
+  pub told : {x : Result Which Refusal} → x ≡ choice_of L b m n → (x ≡ choice_of L b m n) × NumberTells x
+  told {x} e = (e, tells x)
 
   pub neither_passes : {k : ℕ} → k ≡ choose_number L b m n → NeitherPasses L b m n k
   unfolding some
   neither_passes {k} e = (λ f. to (ℕ_discrete (read_number L b) 0) (sym e ∙ f), λ h. e ∙ back (which_of L b m n) refl picked h)
     where
-      none : (w : Which) → Picked w → first_failed ((40, some w) ∷ []) ≡ 40 → (Passes L b m → ⊥) × (Passes L b n → ⊥)
-      none Neither (neither p q) f = (p, q)
-      none First p f = let g : first_failed ((40, some First) ∷ []) ≡ 0 = passes 40 [] refl ∙ no_test in absurd (omega arith)
-      none Second p f = let g : first_failed ((40, some Second) ∷ []) ≡ 0 = passes 40 [] refl ∙ no_test in absurd (omega arith)
+      none : (w : Option Which) → Picked w → first_failed ((40, some w) ∷ []) ≡ 40 → (Passes L b m → ⊥) × (Passes L b n → ⊥)
+      none None (neither p q) f = (p, q)
+      none (Some w) p f = let g : first_failed ((40, some (Some w)) ∷ []) ≡ 0 = passes 40 [] refl ∙ no_test in absurd (omega arith)
 
       to : Dec (Readable L b) → choose_number L b m n ≡ 40 → Readable L b × (Passes L b m → ⊥) × (Passes L b n → ⊥)
       to (yes r) f = let h = none (which_of L b m n) picked (sym (read_number_lem r) ∙ f) in (r, h.0, h.1)
       to (no h) f = absurd (⊎_elim (λ g. omega (arith, unread_number h)) (λ g. omega (arith, unread_number h)) (read-within L b))
 
-      back : (w : Which) → w ≡ which_of L b m n → Picked w → Readable L b × (Passes L b m → ⊥) × (Passes L b n → ⊥) → choose_number L b m n ≡ 40
-      back Neither e (neither p q) h = number_40 e h.0
-      back First e (first p q) h = absurd (h.1 p)
-      back Second e (second p q) h = absurd (h.2 p)
+      back : (w : Option Which) → w ≡ which_of L b m n → Picked w → Readable L b × (Passes L b m → ⊥) × (Passes L b n → ⊥) → choose_number L b m n ≡ 40
+      back None e (neither p q) h = number_40 e h.0
+      back (Some First) e (first p q) h = absurd (h.1 p)
+      back (Some Second) e (second p q) h = absurd (h.2 p)
 
 -- ---- what is handed back
 
@@ -182,33 +206,33 @@ pub zero_tells : (L : Limits) (b : List ℕ) (s t : Slice) {k : ℕ} → k ≡ c
 unfolding choose_of handed some
 zero_tells L b s t {k} e = go (which_of L b s.bytes t.bytes) refl (picked L b s.bytes t.bytes)
   where
-    go : (w : Which) → w ≡ which_of L b s.bytes t.bytes → Picked L b s.bytes t.bytes w → (k ≡ 0) ↔ (1 ≤ length (handed w s t).bytes)
-    go Neither f p = (λ z. absurd (refused L b s.bytes t.bytes f (sym e ∙ z)), λ h. absurd (omega arith))
-    go First f (first p q) = (λ z. pass-filled L b s.bytes p, λ h. e ∙ number-some L b s.bytes t.bytes (ap some (sym f)))
-    go Second f (second p q) = (λ z. pass-filled L b t.bytes p, λ h. e ∙ number-some L b s.bytes t.bytes (ap some (sym f)))
+    go : (w : Option Which) → w ≡ which_of L b s.bytes t.bytes → Picked L b s.bytes t.bytes w → (k ≡ 0) ↔ (1 ≤ length (handed w s t).bytes)
+    go None f p = (λ z. absurd (refused L b s.bytes t.bytes f (sym e ∙ z)), λ h. absurd (omega arith))
+    go (Some First) f (first p q) = (λ z. pass-filled L b s.bytes p, λ h. e ∙ number-some L b s.bytes t.bytes (ap some (sym f)))
+    go (Some Second) f (second p q) = (λ z. pass-filled L b t.bytes p, λ h. e ∙ number-some L b s.bytes t.bytes (ap some (sym f)))
 
 module _ (L : Limits) (b : List ℕ) (s t : Bor (List ℕ)) where
-  by_which : {w : Which} → w ≡ which_of L b s.now t.now → handed w (slice_of s) (slice_of t) ≡ choose_of L b (slice_of s) (slice_of t)
+  by_which : {w : Option Which} → w ≡ which_of L b s.now t.now → handed w (slice_of s) (slice_of t) ≡ choose_of L b (slice_of s) (slice_of t)
   unfolding choose_of
   by_which e = λ i. handed (e i) (slice_of s) (slice_of t)
 
-  pub hand_none : {x : Bor (List ℕ)} → Neither ≡ which_of L b s.now t.now → x.ref_ptr ≡ s.ref_ptr → x.now ≡ []
+  pub hand_none : {x : Bor (List ℕ)} → None ≡ which_of L b s.now t.now → x.ref_ptr ≡ s.ref_ptr → x.now ≡ []
       → (slice_of x ≡ choose_of L b (slice_of s) (slice_of t)) × HandedBack L b s t x
   unfolding handed
   hand_none {x} e p q = ((λ i. record { place = p i; bytes = q i }) ∙ by_which e, record { chosen = λ z. absurd (refused L b s.now t.now e z); empty = λ n. (p, q) })
 
-  pub hand_first : First ≡ which_of L b s.now t.now → (slice_of s ≡ choose_of L b (slice_of s) (slice_of t)) × HandedBack L b s t s
+  pub hand_first : Some First ≡ which_of L b s.now t.now → (slice_of s ≡ choose_of L b (slice_of s) (slice_of t)) × HandedBack L b s t s
   unfolding handed some
   hand_first e = (by_which e, record { chosen = λ z. go (subst (Picked L b s.now t.now) (sym e) (picked L b s.now t.now)); empty = λ n. absurd (n (number-some L b s.now t.now (ap some (sym e)))) })
     where
-      go : Picked L b s.now t.now First → Chosen L b s t s
+      go : Picked L b s.now t.now (Some First) → Chosen L b s t s
       go (first p q) = record { itself = inl refl; passes = p; fewest_first = λ _. omega arith; fewest_second = q; first = λ _ _. refl; filled = pass-filled L b s.now p }
 
-  pub hand_second : Second ≡ which_of L b s.now t.now → (slice_of t ≡ choose_of L b (slice_of s) (slice_of t)) × HandedBack L b s t t
+  pub hand_second : Some Second ≡ which_of L b s.now t.now → (slice_of t ≡ choose_of L b (slice_of s) (slice_of t)) × HandedBack L b s t t
   unfolding handed some
   hand_second e = (by_which e, record { chosen = λ z. go (subst (Picked L b s.now t.now) (sym e) (picked L b s.now t.now)); empty = λ n. absurd (n (number-some L b s.now t.now (ap some (sym e)))) })
     where
-      go : Picked L b s.now t.now Second → Chosen L b s t t
+      go : Picked L b s.now t.now (Some Second) → Chosen L b s t t
       go (second p q) =
           record {
             itself = inr refl;

@@ -1,13 +1,15 @@
 -- What choosing promises (document 02, request (xiv)). Assumes nothing.
-use Rattle.std.specs.Prelude.{◌≡◌, ◌↔◌, ◌⊎◌, List, [], ℕ, ◌≤◌, length}
+use Rattle.std.specs.Prelude.{◌≡◌, ◌↔◌, ◌⊎◌, Result, List, [], ℕ, ◌≤◌, length}
 use Rattle.std.specs.Borrow.{Bor}
 use Rattle.limits.specs.declared.Limits.{Limits}
+use Rattle.refusals.specs.declared.Refusal.{Refusal}
+use Rattle.refusals.specs.Refusals.{number_in, values_in}
 use Rattle.table_spec.specs.Reading.{Readable}
 use Rattle.table_spec.specs.Maps.{classes}
 use Rattle.check_spec.specs.Check.{check_of}
 use Rattle.check_spec.specs.Demands.{IsAccepted}
-use Rattle.choose_spec.specs.declared.Choice.{Choice}
-use Rattle.choose_spec.specs.Choose.{choose_number, choice_values, Slice, choose_of}
+use Rattle.choose_spec.specs.declared.Which.{Which}
+use Rattle.choose_spec.specs.Choose.{choose_number, which_values, Slice, choose_of}
 
 -- the check accepts a map
 abbrev pub Passes : Limits → List ℕ → List ℕ → Type 0
@@ -32,8 +34,8 @@ abbrev pub NeitherPasses : Limits → List ℕ → List ℕ → List ℕ → ℕ
 NeitherPasses L b m n k = (k ≡ 40) ↔ (Readable L b × (Passes L b m → ⊥) × (Passes L b n → ⊥))
 
 -- "0 when a map is handed back": a value says which
-abbrev pub NumberTells : Choice → Type 0
-NumberTells r = (r.number ≡ 0) ↔ (choice_values r ≡ [] → ⊥)
+abbrev pub NumberTells : Result Which Refusal → Type 0
+NumberTells r = (number_in r ≡ 0) ↔ (values_in which_values r ≡ [] → ⊥)
 
 -- "The refusal's number, 0 when a map is handed back": of the number k and of what is handed back for s and t, a map or else an empty part
 abbrev pub ZeroTells : Limits → List ℕ → Slice → Slice → ℕ → Type 0

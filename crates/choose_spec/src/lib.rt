@@ -2,16 +2,8 @@
 #![tactic(auto)]
 
 // Which of two maps is handed back.
-#[derive(Clone, Copy)]
+#[derive(Clone, Copy, Debug, PartialEq, Eq)]
 pub enum Which {
-    Neither,
     First,
     Second,
-}
-
-// The refusal's number or 0, and which map is handed back: neither with any refusal.
-#[derive(Clone, Copy)]
-pub struct Choice {
-    pub number: u8,
-    pub which: Which,
 }

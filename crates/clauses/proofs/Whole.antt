@@ -1,28 +1,28 @@
 -- The clause list of a table that was read: its groups one after the other, its sections as parts of the file, and its answer. Assumes nothing.
 use mathlib.Core.Path.{◌≡◌, refl, sym, ap, ◌∙◌}
-use mathlib.Core.Logic.{◌≢◌}
 use mathlib.Core.Bool.{Bool, true, false}
 use mathlib.Core.List.{List, ◌++◌, append-nil}
 use Prim.Native.Nat.{ℕ}
-use native.Mathlib.Omega.{arith}
 use lib.ListN.{length}
 use lib.Seq.{slice}
 use lib.Dec.{leb}
-use Rattle.lists.proofs.Refusals.{passes, fails, no_test, stage-passes, stage_fails, refuses, not_refused}
+use Rattle.lists.proofs.Refusals.{passes, fails, no_test, stage-passes, stage_fails, not_refused}
 use Rattle.cnf.specs.Clauses.{words_of}
 use Rattle.limits.specs.declared.Limits.{Limits}
+use Rattle.refusals.specs.declared.Refusal.{Refusal}
+use Rattle.refusals.specs.declared.Refusal.TheVariants.{ListLength}
+use Rattle.refusals.specs.Refusals.{number_of}
+use Rattle.refusals.proofs.Numbers.{some_number, refuses_by}
+use Rattle.std.specs.Prelude.{Result, Err}
 use Rattle.table_spec.specs.File.{trailer, start, table_of, records, of_states}
-use Rattle.table_spec.specs.Reading.{Readable, starts_of}
+use Rattle.table_spec.specs.Reading.{read_number, Readable, starts_of}
 use Rattle.table_spec.specs.declared.Starts.{Starts}
 use Rattle.table_view.specs.Sections.{part_of}
 use Rattle.table_view.specs.declared.Section.TheVariants.{States, Internals, Calls, Returns}
 use Rattle.table_view.proofs.Parts.{states-at, internals-at, calls_at, returns-at}
 use Rattle.tops_spec.specs.Tops.{top_words, live_returns}
-use Rattle.tops.specs.Steps.{examined_of}
-use Rattle.tops.specs.declared.Examined.{Examined}
 use Rattle.check_map.specs.Known.{Known}
-use Rattle.check_map.proofs.Checking.{examined_number}
-use Rattle.clauses_spec.specs.declared.Listed.TheVariants.{Refused}
+use Rattle.clauses_spec.specs.declared.Listed.{Listed}
 use Rattle.clauses_spec.specs.Clauses.{look_clauses, transitivity, move_clauses, return_clauses, clause_list, short_list, clause_words, clauses_number, ClausesDone, clauses_of}
 use Rattle.clauses_emit.specs.Emit.{State, emit}
 use Rattle.clauses_records.specs.Returns.{return_clauses_by}
@@ -58,9 +58,9 @@ groups whole states internals calls returns tops s e1 e2 e3 e4 e5 =
 
 -- ---- a refusal
 
-refused : (L : Limits) (b list : List ℕ) {k : ℕ} → clauses_number L b list ≡ k → k ≢ 0 → record { answer = Refused k; list = list } ≡ clauses_of L b list
+refused : (L : Limits) (b list : List ℕ) {r : Refusal} {x : Result Listed Refusal} → x ≡ Err r → clauses_number L b list ≡ number_of r → record { answer = x; list = list } ≡ clauses_of L b list
 unfolding clauses_of
-refused L b list e n = refuses (clauses_number L b list) _ (λ k. record { answer = Refused k; list = list }) e n
+refused L b list p e = (λ i. record { answer = p i; list = list }) ∙ refuses_by (λ r. record { answer = Err r; list = list }) _ e
 
 -- ---- the parts of the file
 
@@ -79,7 +79,7 @@ module _ (L : Limits) (b : List ℕ) (readable : Readable L b) where
     where
       go : (t : Bool) → leb (length (words_of (clause_list (table_of b)))) (length list) ≡ t → listed_by (clause_list (table_of b)) list ≡ clauses_of L b list
       go true h = rw (h, listed_by) (not_refused (clauses_number L b list) _ _ (stage-passes _ _ readable ∙ passes 10 _ h ∙ no_test))
-      go false h = rw (h, listed_by) (refused L b list (stage-passes _ _ readable ∙ fails 10 _ h) (omega arith))
+      go false h = rw (h, listed_by) (refused L b list {r = ListLength} refl (stage-passes _ _ readable ∙ fails 10 _ h))
 
 -- the parts handed on
 module _ {b : List ℕ} {s : Starts} {tops : List ℕ} (k : Known b s tops) {states internals calls returns : List ℕ}
@@ -87,15 +87,13 @@ module _ {b : List ℕ} {s : Starts} {tops : List ℕ} (k : Known b s tops) {sta
   starts : s ≡ starts_of b
   starts = k.read.starts
 
-  pub parts-listed : (whole : Bool) (list : List ℕ) {d : ClausesDone} → d ≡ listed_by (list_by whole states internals calls returns tops) list → d ≡ listed_by (list_for whole (table_of b)) list
-  parts-listed whole list f =
-      f
-      ∙ (λ i. listed_by (list_by whole ((e1 ∙ states-at b starts) i) ((e2 ∙ internals-at b starts) i) ((e3 ∙ calls_at b starts) i) ((e4 ∙ returns-at b starts) i) (k.words i)) list)
-      ∙ ap (λ cs. listed_by cs list) (listed_for k.limits b k.read.readable whole)
+  pub parts-listed : (whole : Bool) → list_by whole states internals calls returns tops ≡ list_for whole (table_of b)
+  parts-listed whole =
+      (λ i. list_by whole ((e1 ∙ states-at b starts) i) ((e2 ∙ internals-at b starts) i) ((e3 ∙ calls_at b starts) i) ((e4 ∙ returns-at b starts) i) (k.words i))
+      ∙ listed_for k.limits b k.read.readable whole
 
 -- ---- reading first
 
-module _ (L : Limits) (b : List ℕ) {x : Examined} (e : x ≡ examined_of L b) where
-  pub unread : (list : List ℕ) → x.number ≢ 0 → record { answer = Refused x.number; list = list } ≡ clauses_of L b list
-  unfolding clauses_number
-  unread list h = refused L b list (stage_fails _ _ (sym (examined_number L b e)) h) h
+pub unread : (L : Limits) (b list : List ℕ) (r : Refusal) {x : Result Listed Refusal} → read_number L b ≡ number_of r → x ≡ Err r → record { answer = x; list = list } ≡ clauses_of L b list
+unfolding clauses_number
+unread L b list r e p = refused L b list p (stage_fails _ _ e (some_number r))

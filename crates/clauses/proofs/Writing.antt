@@ -10,18 +10,18 @@ use lib.ListN.{length, take, drop, length-append, take-append-drop}
 use lib.Seq.{length-take-le, drop-drop, take_at, drop_at}
 use lib.Dec.{ltb}
 use borrow.Author.Tests.{lt-ltb, le-ltb, le-leb, lt-leb}
-use Rattle.lists.specs.Lists.{concat_map, over}
+use Rattle.lists.specs.Lists.{over}
 use Rattle.cnf.specs.Clauses.{words_of}
-use Rattle.clauses_spec.specs.declared.Listed.TheVariants.{List as Words, Refused}
-use Rattle.clauses_emit.specs.declared.emit.Tally.{Tally}
-use Rattle.clauses_emit.specs.Emit.{State, state, Ordered, place, written, emit_one, emit}
+use Rattle.refusals.specs.declared.Refusal.TheVariants.{ListLength}
+use Rattle.std.specs.Prelude.{Ok, Err}
+use Rattle.clauses_emit.specs.Emit.{Counts, State, with_list, place, written, emit_one, emit}
 use Rattle.clauses.specs.Whole.{listed_by}
 use Rattle.clauses_emit.proofs.Emitting.{emit-full, length-place, length-written}
 
 -- ---- the words of clauses
 
 words-cons : (c : List ℕ) (cs : List (List ℕ)) → words_of (c ∷ cs) ≡ (length c ∷ c) ++ words_of cs
-unfolding words_of concat_map
+unfolding words_of
 words-cons c cs = refl
 
 length-words : (c : List ℕ) (cs : List (List ℕ)) → length (words_of (c ∷ cs)) ≡ 1 + length c + length (words_of cs)
@@ -50,7 +50,7 @@ place-behind k xs ys list h =
 
 -- ---- a list that fits
 
-abbrev tally : Bool → ℕ → ℕ → Tally
+abbrev tally : Bool → ℕ → ℕ → Counts
 tally w a k = record { write = w; clauses = a; words = k }
 
 -- the buffer with words, where they are to be written
@@ -60,16 +60,16 @@ filled false k xs list = list
 
 one-fits :
     (c : List ℕ) (w : Bool) (a k : ℕ) (list : List ℕ) → k + 1 + length c ≤ length list
-    → emit_one c (state (tally w a k) list) ≡ state (tally w (a + 1) (k + 1 + length c)) (filled w k (length c ∷ c) list)
+    → emit_one c (with_list (tally w a k) list) ≡ with_list (tally w (a + 1) (k + 1 + length c)) (filled w k (length c ∷ c) list)
 unfolding emit_one written
 one-fits c true a k list h = let l : k ≤ length list = omega arith in rw (le-ltb _ _ l, emit_one, le-leb _ _ h, written)
 one-fits c false a k list h = let l : k ≤ length list = omega arith in rw (le-ltb _ _ l, emit_one)
 
 fits :
     (cs : List (List ℕ)) (w : Bool) (a k : ℕ) (list : List ℕ) → k + length (words_of cs) ≤ length list
-    → emit cs (state (tally w a k) list) ≡ state (tally w (a + length cs) (k + length (words_of cs))) (filled w k (words_of cs) list)
-unfolding emit words_of concat_map
-fits [] w a k list h = λ i. state (tally w (sym (add-zero a) i) (sym (add-zero k) i)) (none w i)
+    → emit cs (with_list (tally w a k) list) ≡ with_list (tally w (a + length cs) (k + length (words_of cs))) (filled w k (words_of cs) list)
+unfolding emit words_of
+fits [] w a k list h = λ i. with_list (tally w (sym (add-zero a) i) (sym (add-zero k) i)) (none w i)
   where
     none : (w : Bool) → list ≡ filled w k [] list
     none true = sym (place_none k list)
@@ -81,7 +81,7 @@ fits (c ∷ cs) w a k list h =
     let f : k + 1 + length c + length (words_of cs) ≡ k + length (words_of (c ∷ cs)) = omega (arith, n) in
     ap (emit cs) (one-fits c w a k list one)
     ∙ fits cs w (a + 1) (k + 1 + length c) (filled w k (length c ∷ c) list) (omega (arith, n, kept w one))
-    ∙ (λ i. state (tally w (e i) (f i)) (behind w one i))
+    ∙ (λ i. with_list (tally w (e i) (f i)) (behind w one i))
   where
     kept : (w : Bool) → k + 1 + length c ≤ length list → length (filled w k (length c ∷ c) list) ≡ length list
     kept true l = length-place k (length c ∷ c) list (omega arith)
@@ -104,7 +104,7 @@ unfolding emit_one
 one_more c s h = rw (le-ltb _ _ h, emit_one) (refl, length-written s.tally c s.list)
 
 exceeds : (cs : List (List ℕ)) (s : State) → length s.list < s.tally.words + length (words_of cs) → length s.list < (emit cs s).tally.words
-unfolding emit words_of concat_map
+unfolding emit words_of
 exceeds [] s h = omega arith
 exceeds (c ∷ cs) s h = go (dec_lt (length s.list) s.tally.words) (exceeds cs (emit_one c s))
   where
@@ -130,19 +130,14 @@ unfolding emit
 measures [] s h = refl
 measures (c ∷ cs) s h = let m = one_measured c s h in measures cs (emit_one c s) m.1 ∙ m.0
 
--- ---- from nothing counted yet
-
-pub nothing_ordered : {t : Tally} {w : Bool} → t ≡ tally w 0 0 → Ordered t
-nothing_ordered e = subst (λ (t : Tally). Ordered t) (sym e) (omega arith)
-
 -- ---- written where it fits
 
-module _ (cs : List (List ℕ)) (room : List ℕ) {z t : Tally} {room' : List ℕ} (none : z ≡ tally true 0 0) (m : state t room' ≡ emit cs (state z room)) where
-  made : state t room' ≡ emit cs (state (tally true 0 0) room)
-  made = m ∙ ap (λ x. emit cs (state x room)) none
+module _ (cs : List (List ℕ)) (room : List ℕ) {z t : Counts} {room' : List ℕ} (none : z ≡ tally true 0 0) (m : with_list t room' ≡ emit cs (with_list z room)) where
+  made : with_list t room' ≡ emit cs (with_list (tally true 0 0) room)
+  made = m ∙ ap (λ x. emit cs (with_list x room)) none
 
-  written-whole : length (words_of cs) ≤ length room → state t room' ≡ state (tally true (length cs) (length (words_of cs))) (over (words_of cs) room)
-  written-whole h = made ∙ fits cs true 0 0 room (omega arith) ∙ (λ i. state (tally true (zero-add (length cs) i) (zero-add (length (words_of cs)) i)) (front i))
+  written-whole : length (words_of cs) ≤ length room → with_list t room' ≡ with_list (tally true (length cs) (length (words_of cs))) (over (words_of cs) room)
+  written-whole h = made ∙ fits cs true 0 0 room (omega arith) ∙ (λ i. with_list (tally true (zero-add (length cs) i) (zero-add (length (words_of cs)) i)) (front i))
     where
       front : place 0 (words_of cs) room ≡ over (words_of cs) room
       front = unfold place in refl
@@ -152,7 +147,7 @@ module _ (cs : List (List ℕ)) (room : List ℕ) {z t : Tally} {room' : List �
   shorter h = go (dec_lt (length room) (length (words_of cs)))
     where
       go : Dec (length room < length (words_of cs)) → length (words_of cs) ≤ length room
-      go (yes l) = let e = ap (λ (s : State). s.tally.words) made in absurd (omega (arith, exceeds cs (state (tally true 0 0) room) (omega arith)))
+      go (yes l) = let e = ap (λ (s : State). s.tally.words) made in absurd (omega (arith, exceeds cs (with_list (tally true 0 0) room) (omega arith)))
       go (no l) = omega arith
 
   longer : length room < t.words → length room < length (words_of cs)
@@ -162,51 +157,51 @@ module _ (cs : List (List ℕ)) (room : List ℕ) {z t : Tally} {room' : List �
       go (yes l) = l
       go (no l) = let e = ap (λ (s : State). s.tally.words) (written-whole (omega arith)) in absurd (omega arith)
 
-  pub room-short : (list : List ℕ) → length room < t.words → length room ≡ length list → record { answer = Refused 10; list = list } ≡ listed_by cs list
+  pub room-short : (list : List ℕ) → length room < t.words → length room ≡ length list → record { answer = Err ListLength; list = list } ≡ listed_by cs list
   unfolding listed_by
   room-short list h e = let l : length list < length (words_of cs) = omega (arith, longer h) in rw (lt-leb _ _ l, listed_by)
 
   pub room_copied :
       (list : List ℕ) {out : List ℕ} → t.words ≤ length room → length room ≤ length list → out ≡ over (take t.words room') list
-      → record { answer = Words t.clauses t.words; list = out } ≡ listed_by cs list
+      → record { answer = Ok (record { clauses = t.clauses; words = t.words }); list = out } ≡ listed_by cs list
   unfolding listed_by
   room_copied list {out} h k o =
       let e = written-whole (shorter h) in
       let words : take t.words room' ≡ words_of cs = (λ i. take (e i).tally.words (e i).list) ∙ front in
       let l : length (words_of cs) ≤ length list = omega (arith, shorter h) in
-      rw (le-leb _ _ l, listed_by) (λ i. record { answer = Words (e i).tally.clauses (e i).tally.words; list = (o ∙ ap (λ ws. over ws list) words) i })
+      rw (le-leb _ _ l, listed_by) (λ i. record { answer = Ok (record { clauses = (e i).tally.clauses; words = (e i).tally.words }); list = (o ∙ ap (λ ws. over ws list) words) i })
     where
       front : take (length (words_of cs)) (over (words_of cs) room) ≡ words_of cs
       front = unfold over in take_at (words_of cs) (drop (length (words_of cs)) room) (length (words_of cs)) refl
 
 -- ---- measured, then written
 
-module _ (cs : List (List ℕ)) (list : List ℕ) {z t : Tally} {list' : List ℕ} (none : z ≡ tally false 0 0) (m : state t list' ≡ emit cs (state z list)) where
-  measured : state t list' ≡ emit cs (state (tally false 0 0) list)
-  measured = m ∙ ap (λ x. emit cs (state x list)) none
+module _ (cs : List (List ℕ)) (list : List ℕ) {z t : Counts} {list' : List ℕ} (none : z ≡ tally false 0 0) (m : with_list t list' ≡ emit cs (with_list z list)) where
+  measured : with_list t list' ≡ emit cs (with_list (tally false 0 0) list)
+  measured = m ∙ ap (λ x. emit cs (with_list x list)) none
 
   same-list : list' ≡ list
-  same-list = ap (λ (s : State). s.list) measured ∙ measures cs (state (tally false 0 0) list) refl
+  same-list = ap (λ (s : State). s.list) measured ∙ measures cs (with_list (tally false 0 0) list) refl
 
-  pub refused : length list' < t.words → record { answer = Refused 10; list = list' } ≡ listed_by cs list
+  pub refused : length list' < t.words → record { answer = Err ListLength; list = list' } ≡ listed_by cs list
   unfolding listed_by
   refused h = go (dec_lt (length list) (length (words_of cs)))
     where
-      go : Dec (length list < length (words_of cs)) → record { answer = Refused 10; list = list' } ≡ listed_by cs list
-      go (yes l) = rw (lt-leb _ _ l, listed_by) (λ i. record { answer = Refused 10; list = same-list i })
+      go : Dec (length list < length (words_of cs)) → record { answer = Err ListLength; list = list' } ≡ listed_by cs list
+      go (yes l) = rw (lt-leb _ _ l, listed_by) (λ i. record { answer = Err ListLength; list = same-list i })
       go (no l) = let e = ap (λ (s : State). s.tally.words) (measured ∙ fits cs false 0 0 list (omega arith)) in absurd (omega (arith, ap length same-list))
 
   pub delivered :
-      {y t' : Tally} {list'' : List ℕ} → t.words ≤ length list' → y ≡ tally true 0 0 → state t' list'' ≡ emit cs (state y list')
-      → record { answer = Words t'.clauses t'.words; list = list'' } ≡ listed_by cs list
+      {y t' : Counts} {list'' : List ℕ} → t.words ≤ length list' → y ≡ tally true 0 0 → with_list t' list'' ≡ emit cs (with_list y list')
+      → record { answer = Ok (record { clauses = t'.clauses; words = t'.words }); list = list'' } ≡ listed_by cs list
   unfolding listed_by
   delivered {y} {t'} {list''} h n w = go (dec_lt (length list) (length (words_of cs)))
     where
-      go : Dec (length list < length (words_of cs)) → record { answer = Words t'.clauses t'.words; list = list'' } ≡ listed_by cs list
+      go : Dec (length list < length (words_of cs)) → record { answer = Ok (record { clauses = t'.clauses; words = t'.words }); list = list'' } ≡ listed_by cs list
       go (yes l) =
           let e = ap (λ (s : State). s.tally.words) measured in
-          absurd (omega (arith, exceeds cs (state (tally false 0 0) list) (omega arith), ap length same-list))
+          absurd (omega (arith, exceeds cs (with_list (tally false 0 0) list) (omega arith), ap length same-list))
       go (no l) =
           let k : length (words_of cs) ≤ length list = omega arith in
-          let e = written-whole cs list n (w ∙ ap (λ x. emit cs (state y x)) same-list) k in
-          rw (le-leb _ _ k, listed_by) (λ i. record { answer = Words (e i).tally.clauses (e i).tally.words; list = (e i).list })
+          let e = written-whole cs list n (w ∙ ap (λ x. emit cs (with_list y x)) same-list) k in
+          rw (le-leb _ _ k, listed_by) (λ i. record { answer = Ok (record { clauses = (e i).tally.clauses; words = (e i).tally.words }); list = (e i).list })

@@ -1,9 +1,12 @@
 -- What the code that writes the whole clause list is stated with. Assumes nothing.
-use Rattle.std.specs.Prelude.{Bool, true, false, ◌&&◌, List, [], ◌++◌, ℕ, length, leb}
+use Rattle.std.specs.Prelude.{Bool, true, false, ◌&&◌, Ok, Err, List, [], ◌++◌, ℕ, length, leb}
 use Rattle.lists.specs.Lists.{over}
 use Rattle.table_spec.specs.File.{Table, records, of_states}
+use Rattle.table_spec.specs.declared.Starts.{Starts}
+use Rattle.table_view.specs.Sections.{part_of}
+use Rattle.table_view.specs.declared.Section.TheVariants.{States, Internals, Calls, Returns}
 use Rattle.cnf.specs.Clauses.{words_of}
-use Rattle.clauses_spec.specs.declared.Listed.TheVariants.{List as Words, Refused}
+use Rattle.refusals.specs.declared.Refusal.TheVariants.{ListLength}
 use Rattle.clauses_records.specs.Returns.{return_clauses_by}
 use Rattle.clauses_spec.specs.Clauses.{look_clauses, transitivity, move_clauses, ClausesDone, clause_list, short_list}
 
@@ -27,12 +30,13 @@ list_by whole states internals calls returns tops =
     ++ return_clauses_by tops (records 4 returns) (length states)
 
 -- up to 4 states and 3 records of each kind: a short room is enough
-unfoldable pub is_small : List ℕ → List ℕ → List ℕ → List ℕ → Bool
-is_small states internals calls returns = leb (length states) 4 && leb (length internals) 9 && leb (length calls) 9 && leb (length returns) 12
+unfoldable pub is_small : List ℕ → Starts → Bool
+is_small b s =
+    leb (length (part_of b s States)) 4 && leb (length (part_of b s Internals)) 9 && leb (length (part_of b s Calls)) 9 && leb (length (part_of b s Returns)) 12
 
 -- the answer and the buffer for a list
 unfoldable pub listed_by : List (List ℕ) → List ℕ → ClausesDone
 listed_by cs list = elim (leb (length (words_of cs)) (length list)) [
-  | true ↦ record { answer = Words (length cs) (length (words_of cs)); list = over (words_of cs) list }
-  | false ↦ record { answer = Refused 10; list = list }
+  | true ↦ record { answer = Ok (record { clauses = length cs; words = length (words_of cs) }); list = over (words_of cs) list }
+  | false ↦ record { answer = Err ListLength; list = list }
 ]

@@ -1,49 +1,19 @@
--- The literals of one clause as they are looked through, added to and stored. Assumes nothing.
+-- The literals of one clause as they are added to and stored. Assumes nothing.
 use mathlib.Core.Path.{◌≡◌, refl, sym, ap, ◌∙◌}
-use mathlib.Core.Bool.{Bool, true, false, ◌||◌}
+use mathlib.Core.Bool.{true, false}
 use mathlib.Core.List.{List, [], ◌∷◌, ◌++◌, map}
 use Prim.Native.Nat.{ℕ, suc, ◌+◌, ◌≤◌, ◌<◌}
 use native.Mathlib.Numerals.{add-one}
 use native.Mathlib.Omega.{arith}
-use lib.ListN.{length, get_or, take, drop, set, length-append, length-map, drop_of_length-le}
-use lib.Seq.{drop-cons, take-suc, take-suc-set, length-take-le, get_or-take, append_snoc, set_at}
-use lib.Dec.{eqb}
-use borrow.Author.Tests.{eq-eqb, ne_eqb}
-use Rattle.lists.specs.Lists.{any, mem, over}
-use Rattle.lists.proofs.Copying.{length_over}
+use lib.ListN.{length, get_or, take, drop, set, length-append, length-map}
+use lib.Seq.{drop-cons, take-suc, take-suc-set, length-take-le, append_snoc, set_at}
+use Rattle.lists.specs.Lists.{mem, over}
 use Rattle.clauses_emit.specs.declared.literals.Literals.{Literals}
 use Rattle.clauses_emit.specs.Emit.{literals_of, with_literal, Holds}
 
 -- the words of a clause are 3
 pub whole : (words : List ℕ) → length (map (λ v. v) words) ≡ 3 → length words ≡ 3
 whole words e = sym (length-map words (λ v. v)) ∙ e
-
--- ---- looking for a literal: it is among all of them where it is among those to come
-
-pub record Seeking (l : ℕ) (words : List ℕ) (n i : ℕ) : Type 0 where
-  pub long : n ≤ length words
-  pub inside : i ≤ n
-  pub meets : mem l (take n words) ≡ mem l (drop i (take n words))
-
-pub seeking : (l : ℕ) (words : List ℕ) (n : ℕ) → n ≤ length words → Seeking l words n 0
-seeking l words n h = record { long = h; inside = omega arith; meets = refl }
-
-module _ {l : ℕ} {words : List ℕ} {n i : ℕ} (w : Seeking l words n i) where
-  here : i < n → (t : Bool) → eqb l (get_or words i 0) ≡ t → mem l (take n words) ≡ (t || mem l (drop (i + 1) (take n words)))
-  unfolding mem any
-  here h t e =
-      let k : i < length (take n words) = omega (arith, length-take-le n words w.long) in
-      w.meets ∙ ap (mem l) (drop-cons (take n words) i 0 k) ∙ rw (get_or-take n words i 0 h, e, add-one i)
-
-  pub seek_on : i < n → (get_or words i 0 ≡ l → ⊥) → Seeking l words n (i + 1)
-  seek_on h d = record { long = w.long; inside = omega arith; meets = here h false (ne_eqb l (get_or words i 0) (λ e. d (sym e))) }
-
-  pub sought : i < n → get_or words i 0 ≡ l → true ≡ mem l (take n words)
-  sought h e = sym (here h true (eq-eqb l (get_or words i 0) (sym e)))
-
-  pub unseen : n ≤ i → false ≡ mem l (take n words)
-  unfolding mem any
-  unseen h = sym (w.meets ∙ ap (mem l) (drop_of_length-le (take n words) {i = i} (omega (arith, length-take-le n words w.long))))
 
 -- ---- one literal more
 
@@ -84,9 +54,6 @@ count-first k ls (x ∷ rest) = refl
 module _ {k n : ℕ} {words rest₀ rest : List ℕ} {i : ℕ} (w : Storing k n words rest₀ rest i) where
   taken : length (k ∷ take i words) ≡ i + 1
   taken = omega (arith, w, length-take-le i words (omega (arith, w)))
-
-  pub stored-length : length rest ≡ length rest₀
-  stored-length = ap length w.meets ∙ length_over (k ∷ take i words) rest₀ (omega (arith, w, taken))
 
   pub store_on : i < n → Storing k n words rest₀ (set rest (i + 1) (get_or words i 0)) (i + 1)
   unfolding over

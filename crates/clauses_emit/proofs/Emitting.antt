@@ -9,31 +9,19 @@ use native.Mathlib.Decide.{dec_lt}
 use lib.ListN.{length, take, drop, length-append, length-drop, drop_of_length-le}
 use lib.Seq.{take_all, length-take-le}
 use lib.Dec.{ltb, leb}
-use borrow.Author.Tests.{lt-ltb, le-ltb, le-leb, lt-leb, leb-true}
+use borrow.Author.Tests.{lt-ltb, le-ltb, lt-leb, leb-true}
 use Rattle.lists.specs.Lists.{over}
 use Rattle.lists.proofs.Members.{and-true}
 use Rattle.lists.proofs.Copying.{length_over}
-use Rattle.clauses_emit.specs.declared.emit.Tally.{Tally}
-use Rattle.clauses_emit.specs.Emit.{State, state, Ordered, counted_by, place, written, emit_one, emit}
+use Rattle.clauses_emit.specs.Emit.{Counts, State, with_list, counted_by, place, written, emit_one, emit}
 
 -- ---- one clause
 
 -- the test that a clause of n literals is written
-abbrev pub Tested : Bool → Tally → ℕ → ℕ → Type 0
+abbrev pub Tested : Bool → Counts → ℕ → ℕ → Type 0
 Tested b t n room = b ≡ (t.write && leb (t.words + 1 + n) room)
 
-module _ (t : Tally) (n room : ℕ) where
-  -- the code's own test, where there is room for the words so far
-  pub writes_by : {b : Bool} → t.write ≡ true → t.words ≤ room → b ≡ ltb n (room - t.words) → Tested b t n room
-  writes_by w l e = e ∙ rw (w, ◌&&◌) (go (dec_lt n (room - t.words)))
-    where
-      go : Dec (n < room - t.words) → ltb n (room - t.words) ≡ leb (t.words + 1 + n) room
-      go (yes h) = lt-ltb _ _ h ∙ sym (le-leb (t.words + 1 + n) room (omega arith))
-      go (no h) = le-ltb n (room - t.words) (omega arith) ∙ sym (lt-leb (t.words + 1 + n) room (omega arith))
-
-  pub writes_none : t.write ≡ false → Tested false t n room
-  writes_none w = sym (rw w)
-
+module _ (t : Counts) (n room : ℕ) where
   pub writes_full : room < t.words → Tested false t n room
   writes_full l = sym (ap (λ b. t.write && b) (lt-leb (t.words + 1 + n) room (omega arith)) ∙ and_none t.write)
     where
@@ -49,33 +37,33 @@ module _ (t : Tally) (n room : ℕ) where
   unfolding counted_by
   counted-more h = sym (rw (le-ltb _ _ h, counted_by))
 
-module _ (t : Tally) (c list : List ℕ) where
+module _ (t : Counts) (c list : List ℕ) where
   unwritten : Tested false t (length c) (length list) → written t c list ≡ list
   unfolding written
   unwritten e = rw (sym e, written)
 
   -- the counts and the buffer, each by itself
-  emit-one : emit (c ∷ []) (state t list) ≡ state (counted_by t (length c) (length list)) (written t c list)
+  emit-one : emit (c ∷ []) (with_list t list) ≡ with_list (counted_by t (length c) (length list)) (written t c list)
   unfolding emit emit_one
   emit-one = go (dec_lt (length list) t.words)
     where
-      go : Dec (length list < t.words) → emit_one c (state t list) ≡ state (counted_by t (length c) (length list)) (written t c list)
-      go (yes h) = rw (lt-ltb _ _ h, emit_one) (λ i. state (counted-full t (length c) (length list) h i) (sym (unwritten (writes_full t (length c) (length list) h)) i))
-      go (no h) = rw (le-ltb (length list) t.words (omega arith), emit_one) (λ i. state (counted-more t (length c) (length list) (omega arith) i) (written t c list))
+      go : Dec (length list < t.words) → emit_one c (with_list t list) ≡ with_list (counted_by t (length c) (length list)) (written t c list)
+      go (yes h) = rw (lt-ltb _ _ h, emit_one) (λ i. with_list (counted-full t (length c) (length list) h i) (sym (unwritten (writes_full t (length c) (length list) h)) i))
+      go (no h) = rw (le-ltb (length list) t.words (omega arith), emit_one) (λ i. with_list (counted-more t (length c) (length list) (omega arith) i) (written t c list))
 
-  module _ {n : ℕ} {b : Bool} {r : Tally} (e : n ≡ length c) (d : Tested b t n (length list)) (k : r ≡ counted_by t n (length list)) where
+  module _ {n : ℕ} {b : Bool} {r : Counts} (e : n ≡ length c) (d : Tested b t n (length list)) (k : r ≡ counted_by t n (length list)) where
     counts : r ≡ counted_by t (length c) (length list)
     counts = k ∙ ap (λ m. counted_by t m (length list)) e
 
     test : {v : Bool} → b ≡ v → Tested v t (length c) (length list)
     test f = sym f ∙ d ∙ ap (λ m. t.write && leb (t.words + 1 + m) (length list)) e
 
-    pub put_unwritten : b ≡ false → state r list ≡ emit (c ∷ []) (state t list)
-    put_unwritten f = (λ i. state (counts i) (sym (unwritten (test f)) i)) ∙ sym emit-one
+    pub put_unwritten : b ≡ false → with_list r list ≡ emit (c ∷ []) (with_list t list)
+    put_unwritten f = (λ i. with_list (counts i) (sym (unwritten (test f)) i)) ∙ sym emit-one
 
     -- the clause's words are stored in the remaining buffer
     pub put_stored : b ≡ true → {out : List ℕ} → out ≡ over (n ∷ c) (take (length list - t.words) (drop t.words list))
-        → state r (take t.words list ++ (out ++ drop (length list - t.words) (drop t.words list))) ≡ emit (c ∷ []) (state t list)
+        → with_list r (take t.words list ++ (out ++ drop (length list - t.words) (drop t.words list))) ≡ emit (c ∷ []) (with_list t list)
     unfolding written place
     put_stored f {out} s =
         let l = length-drop t.words list in
@@ -83,7 +71,7 @@ module _ (t : Tally) (c list : List ℕ) where
         let none : drop (length list - t.words) (drop t.words list) ≡ [] = drop_of_length-le (drop t.words list) {i = length list - t.words} (omega arith) in
         let there : take t.words list ++ (out ++ drop (length list - t.words) (drop t.words list)) ≡ written t c list
         = (λ i. take t.words list ++ (s i ++ none i)) ∙ ap (λ x. take t.words list ++ x) (append-nil _ ∙ (λ i. over (e i ∷ c) (all i))) ∙ sym (rw (sym (test f), written)) in
-        (λ i. state (counts i) (there i)) ∙ sym emit-one
+        (λ i. with_list (counts i) (there i)) ∙ sym emit-one
 
   -- where a clause of n literals is written
   pub put_room : (n : ℕ) {b : Bool} → Tested b t n (length list) → b ≡ true → t.words + 1 + n ≤ length list
@@ -108,7 +96,7 @@ length-place k xs list h =
     let d = length-drop k list in
     omega (arith, length-append (take k list) (over xs (drop k list)), length-take-le k list (omega arith), length_over xs (drop k list) (omega arith))
 
-pub length-written : (t : Tally) (c list : List ℕ) → length (written t c list) ≡ length list
+pub length-written : (t : Counts) (c list : List ℕ) → length (written t c list) ≡ length list
 unfolding written
 length-written t c list = go (t.write && leb (t.words + 1 + length c) (length list)) refl
   where
@@ -116,48 +104,43 @@ length-written t c list = go (t.write && leb (t.words + 1 + length c) (length li
     go true e = length-place t.words (length c ∷ c) list (omega (arith, leb-true (t.words + 1 + length c) (length list) (and-true t.write (leb (t.words + 1 + length c) (length list)) e).1))
     go false e = refl
 
--- the counts and the buffer's length through one clause
-one_kept : (c : List ℕ) (s : State) → Ordered s.tally → Ordered (emit_one c s).tally × (length (emit_one c s).list ≡ length s.list)
+-- the buffer's length through one clause
+length-emit_one : (c : List ℕ) (s : State) → length (emit_one c s).list ≡ length s.list
 unfolding emit_one
-one_kept c s h = go (ltb (length s.list) s.tally.words) refl
+length-emit_one c s = go (ltb (length s.list) s.tally.words) refl
   where
-    go : (b : Bool) → ltb (length s.list) s.tally.words ≡ b → Ordered (emit_one c s).tally × (length (emit_one c s).list ≡ length s.list)
-    go true e = rw (e, emit_one) (h, refl)
-    go false e = rw (e, emit_one) (omega arith, length-written s.tally c s.list)
+    go : (b : Bool) → ltb (length s.list) s.tally.words ≡ b → length (emit_one c s).list ≡ length s.list
+    go true e = rw (e, emit_one) refl
+    go false e = rw (e, emit_one) (length-written s.tally c s.list)
 
-kept : (cs : List (List ℕ)) (s : State) → Ordered s.tally → Ordered (emit cs s).tally × (length (emit cs s).list ≡ length s.list)
+length-emit : (cs : List (List ℕ)) (s : State) → length (emit cs s).list ≡ length s.list
 unfolding emit
-kept [] s h = (h, refl)
-kept (c ∷ cs) s h = let k = one_kept c s h in let r = kept cs (emit_one c s) k.0 in (r.0, r.1 ∙ k.1)
+length-emit [] s = refl
+length-emit (c ∷ cs) s = length-emit cs (emit_one c s) ∙ length-emit_one c s
 
-pub ordered_by : (cs : List (List ℕ)) (s : State) {next : State} → next ≡ emit cs s → Ordered s.tally → Ordered next.tally
-ordered_by cs s e h = rw e (kept cs s h).0
-
--- ---- a loop: the clauses still to come make of the state now what all clauses make of the first state
+-- ---- a loop: the clauses still to come make of the with_list now what all clauses make of the first with_list
 
 pub record Coming (all : List (List ℕ)) (start : State) (rest : List (List ℕ)) (now : State) : Type 0 where
   pub meets : emit all start ≡ emit rest now
-  pub ordered : Ordered now.tally
   pub long : length now.list ≡ length start.list
 
-pub coming : (all : List (List ℕ)) (start : State) → Ordered start.tally → Coming all start all start
-coming all start h = record { meets = refl; ordered = h; long = refl }
+pub coming : (all : List (List ℕ)) (start : State) → Coming all start all start
+coming all start = record { meets = refl; long = refl }
 
 module _ {all : List (List ℕ)} {start now : State} where
   -- the first of them come
   pub come_on : (cs rest : List (List ℕ)) {next : State} → Coming all start (cs ++ rest) now → next ≡ emit cs now → Coming all start rest next
   come_on cs rest {next} w e = record {
     meets = w.meets ∙ emit-append cs rest now ∙ ap (emit rest) (sym e);
-    ordered = rw e (kept cs now w.ordered).0;
-    long = rw e (kept cs now w.ordered).1 ∙ w.long;
+    long = rw e (length-emit cs now) ∙ w.long;
   }
 
   -- the same clauses, told in another way
   pub come_as : {rest rest' : List (List ℕ)} → rest ≡ rest' → Coming all start rest now → Coming all start rest' now
-  come_as e w = record { meets = w.meets ∙ ap (λ cs. emit cs now) e; ordered = w.ordered; long = w.long }
+  come_as e w = record { meets = w.meets ∙ ap (λ cs. emit cs now) e; long = w.long }
 
   pub come_all : {all' rest : List (List ℕ)} → all ≡ all' → Coming all start rest now → Coming all' start rest now
-  come_all e w = record { meets = ap (λ cs. emit cs start) (sym e) ∙ w.meets; ordered = w.ordered; long = w.long }
+  come_all e w = record { meets = ap (λ cs. emit cs start) (sym e) ∙ w.meets; long = w.long }
 
   pub come : Coming all start [] now → now ≡ emit all start
   unfolding emit

@@ -118,7 +118,7 @@ written_once before kept (l ∷ ls) same h =
     behind (inr m) = inr (Memᴰ.tail m)
 
     more : (x : ℕ) → mem x (l ∷ before) ≡ mem x (kept ++ (l ∷ []))
-    more x = unfold mem any in (ap (λ (t : Bool). eqb x l || t) (same x) ∙ or_comm (eqb x l) (mem x kept) ∙ sym (mem-snoc x l kept))
+    more x = unfold mem in (ap (λ (t : Bool). eqb x l || t) (same x) ∙ or_comm (eqb x l) (mem x kept) ∙ sym (mem-snoc x l kept))
 
     none : mem (opposite l) kept ≡ false
     none = not-mem (opposite l) kept (λ x m. h l x (Memᴰ.head refl) (inl m))
@@ -227,7 +227,7 @@ once-all p' before (next {q = q} {qs = qs} l up) d h =
     rw (h q (Memᴰ.head refl), once) (ap (λ ls. together p' q ∷ ls) (once-all p' (together p' q ∷ before) up (λ r m. d r (Memᴰ.tail m)) later))
   where
     later : (r : ℕ) → Memᴰ r qs → mem (together p' r) (together p' q ∷ before) ≡ false
-    later r m = unfold mem any in
+    later r m = unfold mem in
         rw (ne_eqb (together p' r) (together p' q) (λ e. together-apart p' q r (d q (Memᴰ.head refl)) (d r (Memᴰ.tail m)) (ascending-from up r m) (sym e))) (h r (Memᴰ.tail m))
 
 module _ (kept : List ℕ) (p' : ℕ) (qs : List ℕ) where

@@ -7,7 +7,7 @@ use Rattle.pairs.specs.Triangles.{together}
 use Rattle.table_spec.specs.File.{records}
 use Rattle.clauses_spec.specs.Clauses.{opposite}
 use Rattle.clauses_emit.specs.declared.literals.Literals.{Literals}
-use Rattle.clauses_emit.specs.declared.emit.Tally.{Tally}
+use Rattle.clauses_emit.specs.declared.tally.Tally.{Tally}
 
 -- ---- the literals of a clause
 
@@ -56,20 +56,29 @@ pub record Holds (c : Literals) (ls : List ℕ) : Type 0 where
 
 -- ---- clauses counted and written
 
--- the counts, whether clauses are written, and the buffer
+-- whether clauses are written, and the counts
+pub record Counts : Type 0 where
+  pub write : Bool
+  pub clauses : ℕ
+  pub words : ℕ
+
+-- and the buffer
 pub record State : Type 0 where
-  pub tally : Tally
+  pub tally : Counts
   pub list : List ℕ
 
-abbrev pub state : Tally → List ℕ → State
-state t list = record { tally = t; list = list }
+abbrev pub with_list : Counts → List ℕ → State
+with_list t list = record { tally = t; list = list }
 
--- there are no more clauses than words
-abbrev pub Ordered : Tally → Type 0
-Ordered t = t.clauses ≤ t.words
+-- those of the code
+abbrev pub counts_of : Tally → Counts
+counts_of t = record { write = t.write; clauses = t.clauses; words = t.words }
+
+abbrev pub state : Tally → List ℕ → State
+state t list = with_list (counts_of t) list
 
 -- the counts after a clause of n literals more, where the buffer has room for so many words; nothing changes once there are more
-unfoldable pub counted_by : Tally → ℕ → ℕ → Tally
+unfoldable pub counted_by : Counts → ℕ → ℕ → Counts
 counted_by t n room = elim (ltb room t.words) [ true ↦ t | false ↦ record { write = t.write; clauses = t.clauses + 1; words = t.words + 1 + n } ]
 
 -- the buffer with words put at a place
@@ -77,14 +86,14 @@ unfoldable pub place : ℕ → List ℕ → List ℕ → List ℕ
 place k xs list = take k list ++ over xs (drop k list)
 
 -- the buffer after one clause more: its words are written where they are to be and where they fit
-unfoldable pub written : Tally → List ℕ → List ℕ → List ℕ
+unfoldable pub written : Counts → List ℕ → List ℕ → List ℕ
 written t c list = elim (t.write && leb (t.words + 1 + length c) (length list)) [ true ↦ place t.words (length c ∷ c) list | false ↦ list ]
 
 -- one clause more; nothing changes once there are more words than the buffer has
 unfoldable pub emit_one : List ℕ → State → State
 emit_one c s = elim (ltb (length s.list) s.tally.words) [
   | true ↦ s
-  | false ↦ state (record { write = s.tally.write; clauses = s.tally.clauses + 1; words = s.tally.words + 1 + length c }) (written s.tally c s.list)
+  | false ↦ with_list (record { write = s.tally.write; clauses = s.tally.clauses + 1; words = s.tally.words + 1 + length c }) (written s.tally c s.list)
 ]
 
 -- the clauses, in their order

@@ -1,35 +1,22 @@
 // Clauses counted and written, one after the other.
 ghost use Rattle.std.specs.Prelude.{◌≡◌, [], ◌∷◌, ◌&&◌, ◌+◌, ◌^◌, ◌<◌, ◌≤◌, length, leb};
 ghost use Rattle.lists.specs.Lists.{over};
-ghost use Rattle.clauses_emit.specs.Emit.{literals_of, state, Ordered, counted_by, emit};
+ghost use Rattle.clauses_emit.specs.Emit.{literals_of, counts_of, state, counted_by, emit};
 
 use super::literals::Literals;
-
-// What is counted so far, and whether it is written too.
-#[derive(Clone, Copy)]
-pub struct Tally {
-    pub write: bool,
-    pub clauses: usize,
-    pub words: usize,
-}
+use super::tally::Tally;
 
 // Whether a clause of n literals is written: where it is to be and where it fits.
 pub fn writes(tally: Tally, n: usize, room: usize) -> bool
     ensures { result ≡ (tally.write && leb (tally.words + 1 + n) room) }
 {
-    if !tally.write {
-        return false;
-    }
-    if room < tally.words {
-        return false;
-    }
-    n < room - tally.words
+    tally.write && tally.words <= room && n < room - tally.words
 }
 
 // What is counted with a clause of n literals more. Nothing changes once there are more words than the list has room for.
 pub fn counted(tally: Tally, n: usize, room: usize) -> Tally
-    requires { (n ≤ 42) × (room < 2 ^ 63) × Ordered tally }
-    ensures { result ≡ counted_by tally n room }
+    requires { (n ≤ 42) × (room < 2 ^ 63) }
+    ensures { counts_of result ≡ counted_by (counts_of tally) n room }
 {
     if room < tally.words {
         return tally;
@@ -65,7 +52,7 @@ pub fn store(clause: Literals, count: usize, rest: &mut [u16])
 
 // One clause, whose literals are all collected: it is counted, and written where it is to be and where it fits.
 pub fn put(clause: Literals, tally: Tally, list: &mut [u16]) -> Tally
-    requires { (clause.n ≤ 3) × Ordered tally }
+    requires { clause.n ≤ 3 }
     ensures { state result list.new ≡ emit (literals_of clause ∷ []) (state tally list.old) }
 {
     let n = clause.n;

@@ -3,8 +3,10 @@
 
 mod emit;
 mod literals;
+mod tally;
 
-pub use emit::{Tally, counted, put, store, writes};
+pub use emit::{counted, put, store, writes};
 pub use literals::{
     Literals, add_literal, contains, joined, no_literals, opposed, parted, with_literal,
 };
+pub use tally::Tally;

@@ -45,18 +45,12 @@ pub fn no_literals() -> Literals
 }
 
 // Whether a literal is among the first n words.
+#[tactic(auto, unfolding(lists::specs::Lists::mem))]
 pub fn contains(words: &[u16; 3], n: usize, l: u16) -> bool
     requires { (n ≤ 3) × (length words.now ≡ 3) }
     ensures { result ≡ mem l (take n words.now) }
 {
-    let mut i: usize = 0;
-    'literals: while i < n {
-        if words[i] == l {
-            return true;
-        }
-        i += 1;
-    }
-    false
+    words[..n].iter().any(|word| l == *word)
 }
 
 // "A repeated literal is written once, at its first place": one literal more after the first n words, and how many there are then.

@@ -1,23 +1,21 @@
--- The clauses of one record and one state, and of a whole record, by the bytes that the code reads. Assumes nothing.
+-- The clauses of one record and one state, by the bytes that the code reads. Assumes nothing.
 use mathlib.Core.Path.{◌≡◌, sym, ap, ◌∙◌, subst}
 use mathlib.Core.Logic.{◌≢◌}
 use mathlib.Core.Bool.{Bool, true, false}
 use mathlib.Core.List.Memᴰ.{not-nil}
-use mathlib.Core.List.{List, [], ◌∷◌, map, Memᴰ}
-use Prim.Native.Nat.{ℕ, ◌+◌, ◌-◌, ◌≤◌, ◌<◌}
+use mathlib.Core.List.{List, [], ◌∷◌, ◌++◌, map, Memᴰ}
+use Prim.Native.Nat.{ℕ, ◌+◌, ◌≤◌, ◌<◌}
 use native.Mathlib.Omega.{arith}
-use native.Mathlib.Nat.{add-zero}
-use lib.ListN.{length, get_or, take, drop, length-take}
+use lib.ListN.{length, get_or, length-take}
 use lib.Dec.{eqb}
 use borrow.Author.Tests.{eq-eqb, ne_eqb}
-use Rattle.lists.specs.Lists.{concat_map, upto, filter, same}
+use Rattle.lists.specs.Lists.{filter}
 use Rattle.limits.specs.Limits.{state_most, symbol_most}
 use Rattle.pairs.specs.Triangles.{apart}
 use Rattle.table_spec.specs.File.{records}
 use Rattle.table_spec.specs.Language.{targets}
 use Rattle.table_spec.proofs.Bytes.{records-wide}
 use Rattle.table_find.specs.Spans.{starts_with}
-use Rattle.tops.proofs.Loops.{record_byte}
 use Rattle.clauses_spec.specs.Clauses.{premise, move_clause}
 use Rattle.clauses_emit.specs.declared.literals.Literals.{Literals}
 use Rattle.clauses_emit.specs.Emit.{literals_of, with_all, Negative, Holds, matching_from, Ascending, last_bytes, State, emit}
@@ -25,7 +23,7 @@ use Rattle.table_index.specs.Index.{Lent}
 use Rattle.clauses_emit.proofs.Tidying.{premise-negative, with_negative, matching-one}
 use Rattle.clauses_targets.specs.Targets.{Premised}
 use Rattle.clauses_targets.proofs.Targeting.{with_length}
-use Rattle.clauses_emit.proofs.Stepping.{Along, along-here, along_on}
+use Rattle.clauses_emit.proofs.Stepping.{Along, along-here}
 use Rattle.clauses_records.proofs.Few.{rising, few-targets}
 
 -- ---- premises are few
@@ -72,19 +70,8 @@ module _ (s : List ℕ) (p a p' q : ℕ) where
         ∙ ap (λ cs. emit cs t) (sym (matching-one p q p' (targets (records 3 s) (q ∷ a ∷ []))))
         ∙ sym (rw (ne_eqb q p d, move_clause))
 
--- the symbol of the record at a place
+-- the symbol of the record taken
 pub symbol-few :
-    {g : List ℕ → List (List ℕ)} {w n : ℕ} {s : List ℕ} {all : List (List ℕ)} {start : State} {at : ℕ} {now : State} → Along g w s all start at now → 1 < w
-    → w ≤ length s - at → Lent w n s → get_or s (at + 1) 0 < symbol_most
-symbol-few {w = w} {s = s} {at = at} i p h o = let k = o.symbols (take w (drop at s)) (along-here i (omega arith) h) in omega (arith, record_byte w s at 1 p)
-
--- the clauses of the record at a place
-pub move_turn : (n : ℕ) {s : List ℕ} {all : List (List ℕ)} {start : State} {at : ℕ} {now next : State}
-    → Along (λ r. concat_map (λ q. move_clause (records 3 s) (get_or r 0 0) (get_or r 1 0) (get_or r 2 0) q) (upto n)) 3 s all start at now → 3 ≤ length s - at
-    → next ≡ emit (concat_map (λ q. move_clause (records 3 s) (get_or s at 0) (get_or s (at + 1) 0) (get_or s (at + 2) 0) q) (upto n)) now
-    → Along (λ r. concat_map (λ q. move_clause (records 3 s) (get_or r 0 0) (get_or r 1 0) (get_or r 2 0) q) (upto n)) 3 s all start (at + 3) next
-move_turn n {s} {at} {now} i h e =
-    let first : get_or s at 0 ≡ get_or (take 3 (drop at s)) 0 0 = sym (record_byte 3 s at 0 (omega arith) ∙ ap (λ k. get_or s k 0) (add-zero at)) in
-    let second : get_or s (at + 1) 0 ≡ get_or (take 3 (drop at s)) 1 0 = sym (record_byte 3 s at 1 (omega arith)) in
-    let third : get_or s (at + 2) 0 ≡ get_or (take 3 (drop at s)) 2 0 = sym (record_byte 3 s at 2 (omega arith)) in
-    along_on i (omega arith) h (e ∙ λ j. emit (concat_map (λ q. move_clause (records 3 s) (first j) (second j) (third j) q) (upto n)) now)
+    {g : List ℕ → List (List ℕ)} {w n : ℕ} {s : List ℕ} {all : List (List ℕ)} {start : State} {rest : List ℕ} {now : State} (x after : List ℕ) → Along g w s all start rest now → 0 < w
+    → rest ≡ x ++ after → length x ≡ w → Lent w n s → get_or x 1 0 < symbol_most
+symbol-few x after i p e h o = o.symbols x (along-here i x after p e h)

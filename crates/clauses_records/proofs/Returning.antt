@@ -4,14 +4,13 @@ use mathlib.Core.Path.{◌≡◌, refl, sym, ap, ◌∙◌, subst}
 use mathlib.Core.Logic.{◌≢◌}
 use mathlib.Core.Bool.{Bool, true, false, ◌&&◌}
 use mathlib.Core.List.{List, [], ◌∷◌, ◌++◌, map}
-use Prim.Native.Nat.{ℕ, ◌+◌, ◌-◌, ◌^◌, ◌≤◌, ◌<◌}
+use Prim.Native.Nat.{ℕ, ◌-◌, ◌^◌, ◌≤◌, ◌<◌}
 use native.Mathlib.Omega.{arith}
-use native.Mathlib.Nat.{add-zero}
-use lib.ListN.{length, get_or, take, drop}
+use lib.ListN.{length, get_or}
 use lib.Pow.{pow_pos}
 use lib.Count.{count_trailing_zeros}
 use lib.Dec.{eqb}
-use Rattle.lists.specs.Lists.{concat_map, filter, upto, same}
+use Rattle.lists.specs.Lists.{concat_map, filter, upto}
 use Rattle.lists.specs.Bits.{has_bit, has}
 use Rattle.lists.proofs.Bits.{no_bit}
 use Rattle.lists.proofs.Lowest.{LowestBit, trailing_lowest, filter_none, filter-lowest, bit_le}
@@ -21,17 +20,16 @@ use Rattle.table_spec.specs.Language.{targets}
 use Rattle.table_spec.proofs.Bytes.{records-wide}
 use Rattle.table_find.specs.Spans.{starts_with}
 use Rattle.tops_spec.specs.Tops.{live}
-use Rattle.tops.proofs.Loops.{record_byte}
 use Rattle.clauses_spec.specs.Clauses.{premise, matching, return_clause, top_states}
 use Rattle.clauses_emit.specs.declared.literals.Literals.{Literals}
 use Rattle.clauses_records.specs.declared.returns.Return.{Return}
-use Rattle.clauses_emit.specs.Emit.{literals_of, with_all, Holds, matching_from, Ascending, last_bytes, State, Ordered, emit}
+use Rattle.clauses_emit.specs.Emit.{literals_of, with_all, Holds, matching_from, Ascending, last_bytes, State, emit}
 use Rattle.clauses_targets.specs.Targets.{Premised}
 use Rattle.table_index.specs.Index.{Lent}
 use Rattle.table_index.proofs.Blocks.{starts_shorter, filter-within}
 use Rattle.clauses_records.specs.Returns.{return_of, live_record, return_clauses_by}
 use Rattle.clauses_emit.proofs.Emitting.{Coming, coming, come_on, come_as, come_all, come}
-use Rattle.clauses_emit.proofs.Stepping.{Along, along-all, along-here, along_on}
+use Rattle.clauses_emit.proofs.Stepping.{Along, along-all, along-here}
 use Rattle.clauses_emit.proofs.Tidying.{matching-two}
 use Rattle.clauses_records.proofs.Few.{rising, few-targets}
 use Rattle.clauses_records.proofs.Moving.{premise-more, none_odd, premise_odd}
@@ -73,8 +71,8 @@ module _ (g : ℕ → List (List ℕ)) (n : ℕ) where
     pub small : rest < 2 ^ 64
     pub coming : Coming all start (concat_map g (filter (has_bit rest) (upto n))) now
 
-  pub toward : (word : ℕ) (start : State) → word < 2 ^ 64 → Ordered start.tally → Toward (concat_map g (filter (has_bit word) (upto n))) start word start
-  toward word start l h = record { small = l; coming = coming _ start h }
+  pub toward : (word : ℕ) (start : State) → word < 2 ^ 64 → Toward (concat_map g (filter (has_bit word) (upto n))) start word start
+  toward word start l = record { small = l; coming = coming _ start }
 
 module _ {g : ℕ → List (List ℕ)} {n : ℕ} {all : List (List ℕ)} {start : State} {rest : ℕ} {now : State} (w : Toward g n all start rest now) where
   module _ {u : ℕ} (d : rest ≢ 0) (e : u ≡ count_trailing_zeros 64 rest) where
@@ -86,7 +84,6 @@ module _ {g : ℕ → List (List ℕ)} {n : ℕ} {all : List (List ℕ)} {start 
     toward_less = omega (arith, pow_pos (count_trailing_zeros 64 rest), bit_le rest (count_trailing_zeros 64 rest) (trailing_lowest 64 rest w.small d).1.own)
 
     pub toward_on : {next : State} {later : ℕ} → u < n → next ≡ emit (g u) now → later ≡ rest - 2 ^ count_trailing_zeros 64 rest → Toward g n all start later next
-    unfolding concat_map
     toward_on {next} {later} h f l =
         let k : rest - 2 ^ u ≡ later = ap (λ x. rest - 2 ^ x) e ∙ sym l in
         let step : filter (has_bit rest) (upto n) ≡ u ∷ filter (has_bit later) (upto n) = filter-lowest n rest u low h ∙ ap (λ v. u ∷ filter (has_bit v) (upto n)) k in
@@ -94,11 +91,9 @@ module _ {g : ℕ → List (List ℕ)} {n : ℕ} {all : List (List ℕ)} {start 
 
     -- bottom is no state: no top is left
     pub toward_past : n ≤ u → now ≡ emit all start
-    unfolding concat_map
     toward_past h = come (come_as (ap (concat_map g) (filter_none n rest (λ x l b. let k = low.least x b in omega arith))) w.coming)
 
   pub toward_done : rest ≡ 0 → now ≡ emit all start
-  unfolding concat_map
   toward_done e = come (come_as (ap (concat_map g) (ap (λ v. filter (has_bit v) (upto n)) e ∙ filter_none n 0 (λ x l. no_bit x))) w.coming)
 
 -- ---- one record
@@ -135,7 +130,7 @@ module _ (rs : List (List ℕ)) (f : List ℕ) (n : ℕ) (x : Return) (t : State
   alive g k = let h : has f x.from x.under ≡ true = sym e ∙ g in k ∙ sym (rw (h, live_record))
 
 concat_map-filter : {A : Type 0} (test : A → Bool) (g : A → List (List ℕ)) (xs : List A) → concat_map g (filter test xs) ≡ concat_map (λ y. elim (test y) [ true ↦ g y | false ↦ [] ]) xs
-unfolding concat_map filter
+unfolding filter
 concat_map-filter test g [] = refl
 concat_map-filter test g (y ∷ xs) = go (test y) refl (concat_map-filter test g xs)
   where
@@ -149,25 +144,14 @@ abbrev pub fields_of : List ℕ → Return
 fields_of r = record { from = get_or r 0 0; symbol = get_or r 1 0; under = get_or r 2 0; to = get_or r 3 0 }
 
 module _ (f : List ℕ) (n : ℕ) (s : List ℕ) where
-  pub return-all : (start : State) → Ordered start.tally → Along (λ r. live_record (records 4 s) f n (fields_of r)) 4 s (return_clauses_by f (records 4 s) n) start 0 start
+  pub return-all : (start : State) {rest : List ℕ} → rest ≡ s → Along (λ r. live_record (records 4 s) f n (fields_of r)) 4 s (return_clauses_by f (records 4 s) n) start rest start
   unfolding return_clauses_by live_record live
-  return-all start h = let w = along-all (λ r. live_record (records 4 s) f n (fields_of r)) 4 s start h in record { inside = w.inside; among = w.among; coming = come_all (sym (concat_map-filter (live f) (λ r. concat_map (λ q. concat_map (λ u. return_of (records 4 s) (fields_of r) q u) (top_states f n q)) (upto n)) (records 4 s))) w.coming }
+  return-all start d = let w = along-all (λ r. live_record (records 4 s) f n (fields_of r)) 4 s start d in record { among = w.among; coming = come_all (sym (concat_map-filter (live f) (λ r. concat_map (λ q. concat_map (λ u. return_of (records 4 s) (fields_of r) q u) (top_states f n q)) (upto n)) (records 4 s))) w.coming }
 
-module _ {s : List ℕ} {g : List ℕ → List (List ℕ)} {all : List (List ℕ)} {start : State} {at : ℕ} {now : State} (i : Along g 4 s all start at now) (h : 4 ≤ length s - at) where
-  first : get_or (take 4 (drop at s)) 0 0 ≡ get_or s at 0
-  first = record_byte 4 s at 0 (omega arith) ∙ ap (λ k. get_or s k 0) (add-zero at)
+module _ {s : List ℕ} {g : List ℕ → List (List ℕ)} {all : List (List ℕ)} {start : State} {rest : List ℕ} {now : State} (i : Along g 4 s all start rest now)
+    (x after : List ℕ) (e : rest ≡ x ++ after) (h : length x ≡ 4) where
+  pub from-few : Lent 4 state_most s → get_or x 0 0 < state_most
+  from-few o = o.states x (along-here i x after (omega arith) e h) 0 (omega arith) (omega arith)
 
-  pub from-few : Lent 4 state_most s → get_or s at 0 < state_most
-  from-few o = let k = o.states (take 4 (drop at s)) (along-here i (omega arith) h) 0 (omega arith) (omega arith) in omega (arith, first)
-
-  pub under-few : Lent 4 state_most s → get_or s (at + 2) 0 < state_most
-  under-few o = let k = o.states (take 4 (drop at s)) (along-here i (omega arith) h) 2 (omega arith) (omega arith) in omega (arith, record_byte 4 s at 2 (omega arith))
-
-  pub fields_here : record { from = get_or s at 0; symbol = get_or s (at + 1) 0; under = get_or s (at + 2) 0; to = get_or s (at + 3) 0 } ≡ fields_of (take 4 (drop at s))
-  fields_here = λ j. record { from = sym first j; symbol = sym (record_byte 4 s at 1 (omega arith)) j; under = sym (record_byte 4 s at 2 (omega arith)) j; to = sym (record_byte 4 s at 3 (omega arith)) j }
-
-pub return_turn : (f : List ℕ) (n : ℕ) {s : List ℕ} {all : List (List ℕ)} {start : State} {at : ℕ} {now next : State}
-    → Along (λ r. live_record (records 4 s) f n (fields_of r)) 4 s all start at now → 4 ≤ length s - at
-    → next ≡ emit (live_record (records 4 s) f n (record { from = get_or s at 0; symbol = get_or s (at + 1) 0; under = get_or s (at + 2) 0; to = get_or s (at + 3) 0 })) now
-    → Along (λ r. live_record (records 4 s) f n (fields_of r)) 4 s all start (at + 4) next
-return_turn f n {s} {now} i h e = along_on i (omega arith) h (e ∙ ap (λ x. emit (live_record (records 4 s) f n x) now) (fields_here i h))
+  pub under-few : Lent 4 state_most s → get_or x 2 0 < state_most
+  under-few o = o.states x (along-here i x after (omega arith) e h) 2 (omega arith) (omega arith)

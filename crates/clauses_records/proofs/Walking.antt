@@ -114,8 +114,10 @@ module _ {s : List ℕ} {from u i : ℕ} (w : Reaching s from u i) where
     pub reach_there : u ≤ get_or s (i * 4 + 2) 0 → Reached (records 4 s) from u i
     reach_there l = record { begun = w.begun; within = w.within; below = w.below; there = λ k. omega (arith, byte_at 4 s i inside 2 (omega arith), l) }
 
-  pub reach_end : length s / 4 ≤ i → Reached (records 4 s) from u i
-  reach_end h = record { begun = w.begun; within = w.within; below = w.below; there = λ k. absurd (omega (arith, length-records 4 s, k)) }
+  pub reach_end : length s / 4 ≤ i → Reached (records 4 s) from u (length s / 4)
+  reach_end h =
+      let e : i ≡ length s / 4 = omega (arith, w.within, length-records 4 s) in
+      record { begun = omega (arith, w.begun); within = omega (arith, length-records 4 s); below = λ j a b. w.below j a (omega arith); there = λ k. absurd (omega (arith, length-records 4 s, k)) }
 
 -- ---- the tops in ascending order
 

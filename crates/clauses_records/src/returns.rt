@@ -4,11 +4,11 @@ ghost use Rattle.lists.specs.Lists.{concat_map, filter, upto};
 ghost use Rattle.lists.specs.Bits.{has_bit, has};
 ghost use Rattle.table_spec.specs.File.{records};
 ghost use Rattle.clauses_spec.specs.Clauses.{top_states};
-ghost use Rattle.clauses_emit.specs.Emit.{state, Ordered, emit};
+ghost use Rattle.clauses_emit.specs.Emit.{state, emit};
 ghost use Rattle.table_index.specs.Index.{Lent, Indexed};
 ghost use Rattle.clauses_records.specs.Returns.{Starting, Reached, return_of, live_record, return_clauses_by};
 
-use bits::{later_states, next_state, wide};
+use bits::{has_bit, later_states, next_state};
 use clauses_emit::{Tally, no_literals};
 use clauses_targets::{matched, with_premise};
 use table_index::{block, starts_of};
@@ -26,15 +26,12 @@ pub struct Return {
 fn same_place(x: Return, q: u8, u: u8) -> bool
     ensures { result ≡ (eqb q x.from && eqb u x.under) }
 {
-    if q != x.from {
-        return false;
-    }
-    u == x.under
+    q == x.from && u == x.under
 }
 
 // The clause of a return, a state q and a top u of q, by the returns of q over u.
 fn return_clause(found: &[u8], x: Return, q: u8, u: u8, tally: Tally, list: &mut [u16]) -> Tally
-    requires { Starting (q ∷ x.symbol ∷ u ∷ []) found.now × Ordered tally }
+    requires { Starting (q ∷ x.symbol ∷ u ∷ []) found.now }
     ensures { state result list.new ≡ emit (return_of (records 4 found.now) x q u) (state tally list.old) }
 {
     if same_place(x, q, u) {
@@ -50,14 +47,12 @@ fn reached(block: &[u8], from: usize, u: u8) -> usize
     ensures { Reached (records 4 block.now) from u result }
 {
     let count = block.len() / 4;
-    let mut i = from;
-    'records: while i < count {
+    'records: for i in from..count {
         if block[i * 4 + 2] >= u {
             return i;
         }
-        i += 1;
     }
-    i
+    count
 }
 
 // "each state u in tops(q) ascending": the trailing zeros give the next top, and a walk along the block of q its returns.
@@ -70,7 +65,7 @@ fn return_tops(
     tally: Tally,
     list: &mut [u16],
 ) -> Tally
-    requires { Starting (q ∷ x.symbol ∷ []) block.now × Ordered tally }
+    requires { Starting (q ∷ x.symbol ∷ []) block.now }
     ensures { state result list.new ≡ emit (concat_map (λ u. return_of (records 4 block.now) x q u) (filter (has_bit word) (upto count))) (state tally list.old) }
 {
     let mut so_far = tally;
@@ -102,18 +97,16 @@ fn return_record(
     tally: Tally,
     list: &mut [u16],
 ) -> Tally
-    requires { Lent 4 40 section.now × Indexed count (records 4 section.now) starts.now × (x.symbol < 64) × (count ≤ 40) × Ordered tally }
+    requires { Lent 4 40 section.now × Indexed count (records 4 section.now) starts.now × (x.symbol < 64) × (count ≤ 40) }
     ensures { state result list.new
         ≡ emit (concat_map (λ q. concat_map (λ u. return_of (records 4 section.now) x q u) (top_states tops.now count q)) (upto count))
         (state tally list.old) }
 {
     let mut at = tally;
-    let mut q: u8 = 0;
-    'states: while q < count {
-        let word = tops[wide(q)];
+    'states: for q in 0..count {
+        let word = tops[usize::from(q)];
         let found = block(section, 4, starts, q, x.symbol);
         at = return_tops(found, x, q, word, count, at, list);
-        q += 1;
     }
     at
 }
@@ -123,7 +116,7 @@ fn is_live(tops: &[u64; 40], x: Return) -> bool
     requires { (x.from < 40) × (x.under < 64) }
     ensures { result ≡ has tops.now x.from x.under }
 {
-    (tops[wide(x.from)] >> wide(x.under)) % 2 == 1
+    has_bit(tops[usize::from(x.from)], usize::from(x.under))
 }
 
 // A live return has clauses, a dead one none.
@@ -136,7 +129,7 @@ fn live_record(
     tally: Tally,
     list: &mut [u16],
 ) -> Tally
-    requires { Lent 4 40 section.now × Indexed count (records 4 section.now) starts.now × (x.from < 40) × (x.symbol < 64) × (x.under < 64) × (count ≤ 40) × Ordered tally }
+    requires { Lent 4 40 section.now × Indexed count (records 4 section.now) starts.now × (x.from < 40) × (x.symbol < 64) × (x.under < 64) × (count ≤ 40) }
     ensures { state result list.new ≡ emit (live_record (records 4 section.now) tops.now count x) (state tally list.old) }
 {
     if !is_live(tops, x) {
@@ -153,24 +146,22 @@ pub fn live_returns(
     tally: Tally,
     list: &mut [u16],
 ) -> Tally
-    requires { Lent 4 count section.now × (count ≤ 40) × Ordered tally }
+    requires { Lent 4 count section.now × (count ≤ 40) }
     ensures { state result list.new ≡ emit (return_clauses_by tops.now (records 4 section.now) count) (state tally list.old) }
 {
-    let starts = starts_of(section, 4, wide(count));
+    let starts = starts_of(section, 4, usize::from(count));
     let mut so_far = tally;
-    let mut at: usize = 0;
-    'records: while 4 <= section.len() - at {
+    'records: for fields in section.chunks_exact(4) {
         if list.len() < so_far.words {
             return so_far;
         }
         let x = Return {
-            from: section[at],
-            symbol: section[at + 1],
-            under: section[at + 2],
-            to: section[at + 3],
+            from: fields[0],
+            symbol: fields[1],
+            under: fields[2],
+            to: fields[3],
         };
         so_far = live_record(section, &starts, tops, x, count, so_far, list);
-        at += 4;
     }
     so_far
 }

@@ -4,6 +4,7 @@
 use mathlib.Core.Path.{◌≡◌, refl, sym, ap, ◌∙◌, subst}
 use mathlib.Core.Logic.{inr, ◌↔◌}
 use mathlib.Core.List.{List, ◌++◌}
+use Rattle.std.specs.Prelude.{Result, Ok, Err}
 use Prim.Native.Nat.{ℕ, ◌<◌}
 use native.Mathlib.Omega.{arith}
 use native.Mathlib.Decide.{dec_lt}
@@ -18,6 +19,11 @@ use Rattle.pairs.proofs.Pairs.{variable-pair, pair-ordered, pair-below}
 use Rattle.vpa.specs.Quotients.{Joined}
 use Rattle.vpa.proofs.Relations.{raq_along}
 use Rattle.limits.specs.declared.Limits.{Limits}
+use Rattle.refusals.specs.declared.Refusal.{Refusal}
+use Rattle.refusals.specs.declared.Refusal.TheVariants.{ListLength}
+use Rattle.refusals.specs.Refusals.{refusal, Known, number_in, values_in}
+use Rattle.refusals.proofs.Numbers.{some_number, known_of, failed_known, none_known}
+use Rattle.table_spec.proofs.Passed.{read-known}
 use Rattle.table_spec.specs.File.{Table, table_of}
 use Rattle.table_spec.specs.Reading.{Readable, WellFormed}
 use Rattle.table_spec.specs.Language.{count, automaton}
@@ -26,8 +32,7 @@ use Rattle.table_spec.proofs.Bytes.{read_well_formed}
 use Rattle.check_spec.specs.Check.{check_number}
 use Rattle.check_spec.proofs.Accepted.{accepts}
 use Rattle.clauses_spec.specs.declared.Listed.{Listed}
-use Rattle.clauses_spec.specs.declared.Listed.TheVariants.{List as Words, Refused}
-use Rattle.clauses_spec.specs.Clauses.{clause_list, clause_words, clauses_number, ClausesDone, clauses_of, listed_number, listed_values, ClausesSays}
+use Rattle.clauses_spec.specs.Clauses.{clause_list, clause_words, clauses_number, ClausesDone, clauses_of, listed_values, ClausesSays}
 use Rattle.clauses_spec.specs.Maps.{map_of}
 use Rattle.clauses_spec.specs.Demands.{ListSound}
 use Rattle.clauses_spec.proofs.Related.{Related, related_true}
@@ -108,14 +113,14 @@ fit L b list e = (stage-passed _ _ e).0
 
 -- the two ways to end
 abbrev written : List ℕ → List ℕ → ClausesDone
-written b list = record { answer = Words (length (clause_list (table_of b))) (length (clause_words (table_of b))); list = over (clause_words (table_of b)) list }
+written b list = record { answer = Ok (record { clauses = length (clause_list (table_of b)); words = length (clause_words (table_of b)) }); list = over (clause_words (table_of b)) list }
 
 abbrev refused : Limits → List ℕ → List ℕ → ClausesDone
-refused L b list = record { answer = Refused (clauses_number L b list); list = list }
+refused L b list = record { answer = Err (refusal (clauses_number L b list)); list = list }
 
 sound : (L : Limits) (b list : List ℕ) → ListSound L b (clauses_of L b list).list (clauses_of L b list).answer
-unfolding clauses_of clause_words over listed_number listed_values
-sound L b list = by_number _ (written b list) (refused L b list) (λ (d : ClausesDone). ListSound L b d.list d.answer) given (λ n e. absurd (n e))
+unfolding clauses_of clause_words over
+sound L b list = by_number _ (written b list) (refused L b list) (λ (d : ClausesDone). ListSound L b d.list d.answer) given (λ n e. absurd (some_number (refusal (clauses_number L b list)) e))
   where
     cs : List (List ℕ)
     cs = clause_list (table_of b)
@@ -123,13 +128,17 @@ sound L b list = by_number _ (written b list) (refused L b list) (λ (d : Clause
     there : clauses_in (take (length (words_of cs)) (words_of cs ++ drop (length (words_of cs)) list)) ≡ cs
     there = ap clauses_in (take-append_seam (words_of cs) (drop (length (words_of cs)) list)) ∙ clauses_words cs
 
-    given : clauses_number L b list ≡ 0 → ListSound L b (over (words_of cs) list) (Words (length cs) (length (words_of cs)))
+    given : clauses_number L b list ≡ 0 → ListSound L b (over (words_of cs) list) (Ok (record { clauses = length cs; words = length (words_of cs) }))
     given z _ v m = model_accepted L b (fit L b list z) v (subst (λ (ds : List (List ℕ)). Model ds (pairs (count (table_of b))) v) there m)
 
-numbered : (L : Limits) (b list : List ℕ) → ClausesSays L b list (clauses_of L b list).answer
-unfolding clauses_of listed_number listed_values
-numbered L b list = says _ (written b list) (refused L b list) (λ (d : ClausesDone). listed_number d.answer) (λ (d : ClausesDone). listed_values d.answer) refl refl refl refl
+clauses-known : (L : Limits) (b list : List ℕ) → Known (clauses_number L b list)
+unfolding clauses_number
+clauses-known L b list = failed_known _ _ (read-known L b) (failed_known _ _ (known_of ListLength) none_known)
 
-pub promised : (L : Limits) (b list : List ℕ) {r : Listed} {list' : List ℕ} → record { answer = r; list = list' } ≡ clauses_of L b list
+numbered : (L : Limits) (b list : List ℕ) → ClausesSays L b list (clauses_of L b list).answer
+unfolding clauses_of
+numbered L b list = says _ (written b list) (refused L b list) (λ (d : ClausesDone). number_in d.answer) (λ (d : ClausesDone). values_in listed_values d.answer) refl refl (clauses-known L b list) refl
+
+pub promised : (L : Limits) (b list : List ℕ) {r : Result Listed Refusal} {list' : List ℕ} → record { answer = r; list = list' } ≡ clauses_of L b list
     → (record { answer = r; list = list' } ≡ clauses_of L b list) × (ClausesSays L b list r × ListSound L b list' r)
 promised L b list {r} {list'} e = (e, subst (λ (d : ClausesDone). ClausesSays L b list d.answer × ListSound L b d.list d.answer) (sym e) (numbered L b list, sound L b list))

@@ -1,16 +1,17 @@
 -- The clause list of a table, its five groups in their order (document 01, "Pairs and clauses"). Assumes nothing.
-use Rattle.std.specs.Prelude.{true, false, ◌&&◌, List, [], ◌∷◌, ◌++◌, map, ℕ, ◌+◌, ◌-◌, ◌%◌, length, get_or, eqb, leb}
+use Rattle.std.specs.Prelude.{true, false, ◌&&◌, Result, Ok, Err, List, [], ◌∷◌, ◌++◌, map, ℕ, ◌+◌, ◌-◌, ◌%◌, length, get_or, eqb, leb}
 use Rattle.lists.specs.Lists.{any, filter, concat_map, upto, mem, over, first_failed, stage, Says}
 use Rattle.lists.specs.Bits.{has}
 use Rattle.cnf.specs.Clauses.{words_of}
 use Rattle.limits.specs.declared.Limits.{Limits}
+use Rattle.refusals.specs.declared.Refusal.{Refusal}
+use Rattle.refusals.specs.Refusals.{refusal, number_in, values_in}
 use Rattle.pairs.specs.Triangles.{together, apart, triangles}
 use Rattle.table_spec.specs.File.{Table, table_of}
 use Rattle.table_spec.specs.Reading.{read_number}
 use Rattle.table_spec.specs.Language.{count, byte_of, agreed_on, targets}
 use Rattle.tops_spec.specs.Tops.{top_words, live_returns}
 use Rattle.clauses_spec.specs.declared.Listed.{Listed}
-use Rattle.clauses_spec.specs.declared.Listed.TheVariants.{List as Words, Refused}
 
 -- the same variable the other way
 unfoldable pub opposite : ℕ → ℕ
@@ -84,25 +85,20 @@ clauses_number L b list = first_failed (stage (read_number L b) ∷ (10, leb (le
 
 -- the answer, and the clause buffer at exit
 pub record ClausesDone : Type 0 where
-  pub answer : Listed
+  pub answer : Result Listed Refusal
   pub list : List ℕ
 
 -- the operation: "The answer is the clause count and the word count; later words keep their content."
 unfoldable pub clauses_of : Limits → List ℕ → List ℕ → ClausesDone
 clauses_of L b list = elim (eqb (clauses_number L b list) 0) [
-  | true ↦ record { answer = Words (length (clause_list (table_of b))) (length (clause_words (table_of b))); list = over (clause_words (table_of b)) list }
-  | false ↦ record { answer = Refused (clauses_number L b list); list = list }
+  | true ↦ record { answer = Ok (record { clauses = length (clause_list (table_of b)); words = length (clause_words (table_of b)) }); list = over (clause_words (table_of b)) list }
+  | false ↦ record { answer = Err (refusal (clauses_number L b list)); list = list }
 ]
 
--- an answer's number, 0 where it is none, and its values
-unfoldable pub listed_number : Listed → ℕ
-listed_number (Words c w) = 0
-listed_number (Refused k) = k
-
-unfoldable pub listed_values : Listed → List ℕ
-listed_values (Words c w) = c ∷ w ∷ []
-listed_values (Refused k) = []
+-- its values
+abbrev pub listed_values : Listed → List ℕ
+listed_values r = r.clauses ∷ r.words ∷ []
 
 -- the answer by its number and its values
-abbrev pub ClausesSays : Limits → List ℕ → List ℕ → Listed → Type 0
-ClausesSays L b list r = Says (listed_number r) (listed_values r) (clauses_number L b list) (length (clause_list (table_of b)) ∷ length (clause_words (table_of b)) ∷ [])
+abbrev pub ClausesSays : Limits → List ℕ → List ℕ → Result Listed Refusal → Type 0
+ClausesSays L b list r = Says (number_in r) (values_in listed_values r) (clauses_number L b list) (length (clause_list (table_of b)) ∷ length (clause_words (table_of b)) ∷ [])

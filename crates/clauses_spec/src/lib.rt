@@ -1,10 +1,9 @@
 // The clauses of a table and the map of an assignment: definitions, laws, and the answer's form. No code.
 #![tactic(auto)]
 
-// What writing the clause list answers.
-#[derive(Clone, Copy)]
-pub enum Listed {
-    List { clauses: usize, words: usize },
-    // 39, 1 to 8, 10
-    Refused(u8),
+// The list that was written: how many clauses it has, and how many words.
+#[derive(Clone, Copy, Debug, PartialEq, Eq)]
+pub struct Listed {
+    pub clauses: usize,
+    pub words: usize,
 }

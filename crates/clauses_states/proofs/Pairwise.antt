@@ -32,8 +32,8 @@ pub record Placed (n v low high : ℕ) : Type 0 where
   pub low_is : low ≡ (pair_of v).low
   pub high_is : high ≡ (pair_of v).high
 
-pub placed : {n v i j : ℕ} {t : List ℕ} {x : Pair} {R : Type 0} → (n ≤ state_most) × PairTable t × (v < pairs n) × R → x ≡ pair_in t v → i ≡ x.low → j ≡ x.high → Placed n v i j
-placed {n} {v} (l, k, h, _) e f g =
+pub placed : {n v i j : ℕ} {t : List ℕ} {x : Pair} → (n ≤ state_most) × PairTable t × (v < pairs n) → x ≡ pair_in t v → i ≡ x.low → j ≡ x.high → Placed n v i j
+placed {n} {v} (l, k, h) e f g =
     let w = pair_found n v l k h e in
     let a = f ∙ ap (λ (p : Pair). p.low) w in
     let b = g ∙ ap (λ (p : Pair). p.high) w in
@@ -41,7 +41,7 @@ placed {n} {v} (l, k, h, _) e f g =
 
 -- a clause of one literal
 pub alone : {none c : Literals} {l : ℕ} → Holds none [] → Holds c (with_literal (literals_of none) l) → Holds c (l ∷ [])
-unfolding with_literal mem any
+unfolding with_literal mem
 alone h k = rw h.same at k
 
 module _ (s : List ℕ) {v low high : ℕ} (w : Placed (length s) v low high) where

@@ -2,7 +2,7 @@
 use mathlib.Core.Path.{◌≡◌, refl, sym, ap, ◌∙◌, subst}
 use mathlib.Core.Logic.{◌≢◌}
 use mathlib.Core.Bool.{Bool, true, false}
-use mathlib.Core.List.{List, [], ◌∷◌, ◌++◌, append-nil, append_assoc}
+use mathlib.Core.List.{List, [], ◌∷◌, ◌++◌, map, append-nil, append_assoc}
 use Prim.Native.Nat.{ℕ, ◌+◌, ◌-◌, ◌*◌, ◌/◌, ◌≤◌, ◌<◌}
 use native.Mathlib.Omega.{arith}
 use lib.ListN.{length, get_or, take, drop, set, length-append, length-map, drop_of_length-le}
@@ -16,7 +16,7 @@ use Rattle.lists.proofs.Copying.{Writing, writing, write_on, write_all}
 use Rattle.pairs.specs.Triangles.{together, apart}
 use Rattle.table_spec.specs.File.{records}
 use Rattle.table_spec.proofs.Bytes.{length-records}
-use Rattle.table_find.proofs.Walks.{Still, begin, any-passed, any_found, any-done}
+use Rattle.table_spec.proofs.Chunks.{chunk_on, chunk_end}
 use Rattle.table_find.proofs.Spanning.{record_inside}
 use Rattle.tops.proofs.Loops.{record_byte}
 use Rattle.clauses_spec.specs.Clauses.{opposite, premise}
@@ -43,14 +43,33 @@ with_length ls l = go (mem l ls)
     go true = omega arith
     go false = omega (arith, length-append ls (l ∷ []))
 
+-- ---- whether a target leaves the clause out
+
+-- a record's target, then those of the rest
+pub target_next : {w : ℕ} (s x r : List ℕ) → 0 < w → s ≡ x ++ r → length x ≡ w → last_bytes w s ≡ get_or x (w - 1) 0 ∷ last_bytes w r
+target_next {w} s x r p e h = ap (map (λ r. get_or r (w - 1) 0)) (chunk_on s x r p e h)
+
+pub targets_end : {w : ℕ} (s : List ℕ) → length s < w → last_bytes w s ≡ []
+targets_end {w} s h = ap (map (λ r. get_or r (w - 1) 0)) (chunk_end s h)
+
+module _ (kept : List ℕ) (p' q : ℕ) (qs : List ℕ) where
+  pub leaves-itself : q ≡ p' → any (leaves kept p') (q ∷ qs) ≡ true
+  unfolding leaves
+  leaves-itself e = or_left (any (leaves kept p') qs) (or_left (mem (opposite (together p' q)) kept) (eq-eqb q p' e))
+
+  module _ {literal other : ℕ} {b : Bool} (f : literal ≡ together p' q) (g : other ≡ opposite literal) (k : b ≡ mem other kept) where
+    both_ways : mem (opposite (together p' q)) kept ≡ b
+    both_ways = ap (λ x. mem x kept) (sym (g ∙ ap opposite f)) ∙ sym k
+
+    pub leaves-both : b ≡ true → any (leaves kept p') (q ∷ qs) ≡ true
+    unfolding leaves
+    leaves-both d = or_left (any (leaves kept p') qs) (or_right (eqb q p') (both_ways ∙ d))
+
+    pub leaves_on : q ≢ p' → b ≡ false → any (leaves kept p') (q ∷ qs) ≡ any (leaves kept p') qs
+    unfolding leaves
+    leaves_on n d = rw (ne_eqb q p' n, both_ways ∙ d)
+
 -- ---- the targets of the records found
-
--- none of the first i targets leaves the clause out
-pub record Leaving (kept : List ℕ) (p' w : ℕ) (found : List ℕ) (i : ℕ) : Type 0 where
-  pub still : Still (any (leaves kept p')) (last_bytes w found) i
-
-pub leaving : (kept : List ℕ) (p' w : ℕ) (found : List ℕ) → Leaving kept p' w found 0
-leaving kept p' w found = record { still = begin (any (leaves kept p')) (last_bytes w found) }
 
 module _ {w : ℕ} {found : List ℕ} {count : ℕ} (h : Counted w found count) where
   counts : length (last_bytes w found) ≡ count
@@ -72,27 +91,6 @@ module _ {w : ℕ} {found : List ℕ} {count : ℕ} (h : Counted w found count) 
         let e : i * w + w - 1 ≡ i * w + (w - 1) = omega (arith, h.some-width) in
         let k : i < length found / w = omega (arith, in_records, length-records w found) in
         sym (get_d_map (λ r. get_or r (w - 1) 0) (records w found) i 0 [] in_records ∙ ap (λ r. get_or r (w - 1) 0) (get_d_parts (length found / w) w found i k) ∙ record_byte w found (i * w) (w - 1) (omega (arith, h.some-width)) ∙ ap (λ m. get_or found m 0) (sym e))
-
-  module _ {kept : List ℕ} {p' i : ℕ} (s : Leaving kept p' w found i) where
-    module _ {q : ℕ} (l : i < count) (e : q ≡ get_or (last_bytes w found) i 0) where
-      inside : i < length (last_bytes w found)
-      inside = omega (arith, counts)
-
-      pub leaves-itself : q ≡ p' → true ≡ any (leaves kept p') (last_bytes w found)
-      leaves-itself d = any_found (leaves kept p') s.still inside (unfold leaves in or_left (mem (opposite (together p' (get_or (last_bytes w found) i 0))) kept) (eq-eqb (get_or (last_bytes w found) i 0) p' (sym e ∙ d)))
-
-      module _ {literal other : ℕ} {b : Bool} (f : literal ≡ together p' q) (g : other ≡ opposite literal) (k : b ≡ mem other kept) where
-        both_ways : mem (opposite (together p' (get_or (last_bytes w found) i 0))) kept ≡ b
-        both_ways = ap (λ x. mem (opposite (together p' x)) kept) (sym e) ∙ ap (λ x. mem x kept) (sym (g ∙ ap opposite f)) ∙ sym k
-
-        pub leaves-both : b ≡ true → true ≡ any (leaves kept p') (last_bytes w found)
-        leaves-both d = any_found (leaves kept p') s.still inside (unfold leaves in or_right (eqb (get_or (last_bytes w found) i 0) p') (both_ways ∙ d))
-
-        pub leaves_on : q ≢ p' → b ≡ false → Leaving kept p' w found (i + 1)
-        leaves_on n d = record { still = any-passed (leaves kept p') s.still inside (unfold leaves in rw (ne_eqb (get_or (last_bytes w found) i 0) p' (λ x. n (e ∙ x))) (both_ways ∙ d)) }
-
-    pub leaves_none : count ≤ i → false ≡ any (leaves kept p') (last_bytes w found)
-    leaves_none l = any-done (leaves kept p') s.still (omega (arith, counts))
 
   -- ---- storing them
 

@@ -4,7 +4,7 @@
 ghost use Rattle.std.specs.Prelude.{◌≡◌, ◌∷◌, ◌++◌, ◌+◌, ◌<◌, ◌≤◌, length, get_or};
 ghost use Rattle.lists.specs.Lists.{any, over};
 ghost use Rattle.clauses_spec.specs.Clauses.{premise};
-ghost use Rattle.clauses_emit.specs.Emit.{literals_of, with_all, Holds, matching_from, leaves, last_bytes, state, Ordered, emit};
+ghost use Rattle.clauses_emit.specs.Emit.{literals_of, with_all, Holds, matching_from, leaves, last_bytes, state, emit};
 ghost use Rattle.clauses_targets.specs.Targets.{Counted, Premised, target_literals};
 
 use clauses_emit::{
@@ -22,24 +22,15 @@ pub fn with_premise(c: Literals, p: u8, q: u8) -> Literals
     with_literal(c, parted(p, q))
 }
 
-// The target of record i of those found: its last byte.
-fn target_at(found: &[u8], width: usize, count: usize, i: usize) -> u8
-    requires { Counted width found.now count × (i < count) }
-    ensures { result ≡ get_or (last_bytes width found.now) i 0 }
-{
-    found[i * width + width - 1]
-}
-
 // "Left out if some q' = p'", and where a target makes a variable both ways with a premise.
-fn left_out(found: &[u8], width: usize, count: usize, target: u8, premises: Literals) -> bool
-    requires { Counted width found.now count × (premises.n ≤ 2) }
+fn left_out(found: &[u8], width: usize, target: u8, premises: Literals) -> bool
+    requires { (0 < width) × (premises.n ≤ 2) }
     ensures { result ≡ any (leaves (literals_of premises) target) (last_bytes width found.now) }
 {
     let words = premises.words;
     let n = premises.n;
-    let mut i: usize = 0;
-    'targets: while i < count {
-        let q = target_at(found, width, count, i);
+    'targets: for fields in found.chunks_exact(width) {
+        let q = fields[width - 1];
         if q == target {
             return true;
         }
@@ -48,9 +39,16 @@ fn left_out(found: &[u8], width: usize, count: usize, target: u8, premises: Lite
         if contains(&words, n, other) {
             return true;
         }
-        i += 1;
     }
     false
+}
+
+// The target of record i of those found: its last byte.
+fn target_at(found: &[u8], width: usize, count: usize, i: usize) -> u8
+    requires { Counted width found.now count × (i < count) }
+    ensures { result ≡ get_or (last_bytes width found.now) i 0 }
+{
+    found[i * width + width - 1]
 }
 
 // "then {p',q'} true for each", at the front of the remaining buffer.
@@ -58,10 +56,8 @@ fn store_targets(found: &[u8], width: usize, count: usize, target: u8, rest: &mu
     requires { Counted width found.now count × (count ≤ length rest.old) }
     ensures { rest.new ≡ over (target_literals width target found.now) rest.old }
 {
-    let mut i: usize = 0;
-    'targets: while i < count {
+    'targets: for i in 0..count {
         rest[i] = joined(target, target_at(found, width, count, i));
-        i += 1;
     }
 }
 
@@ -92,11 +88,11 @@ pub fn matched(
     tally: Tally,
     list: &mut [u16],
 ) -> Tally
-    requires { Premised width found.now premises × Ordered tally }
+    requires { Premised width found.now premises }
     ensures { state result list.new ≡ emit (matching_from (literals_of premises) target (last_bytes width found.now)) (state tally list.old) }
 {
     let count = found.len() / width;
-    if left_out(found, width, count, target, premises) {
+    if left_out(found, width, target, premises) {
         return tally;
     }
     let n = premises.n + count;

@@ -491,5 +491,5 @@ module _ (cs : List (List ℕ)) (n b : ℕ) (formed : Formed cs n) where
 
 -- ---- three states without records, one guess: the trial of the rest at which the budget is found spent is held
 three_states : search_tried ((1 ∷ 5 ∷ 2 ∷ []) ∷ (1 ∷ 3 ∷ 4 ∷ []) ∷ (3 ∷ 5 ∷ 0 ∷ []) ∷ []) 3 1 ≡ record { outcome = spent 1; trials = record { held = 1 ∷ 0 ∷ 0 ∷ []; ceiling = some 3 } }
-unfolding search_tried run_tried step act decide undo scan seen both by_unset is_right is_unset any all filter lowest_unset tried rested better ceiling_by satisfied only_true true_count not_false
+unfolding search_tried run_tried step act decide undo scan seen both by_unset is_right is_unset filter lowest_unset tried rested better ceiling_by satisfied only_true true_count not_false
 three_states = refl

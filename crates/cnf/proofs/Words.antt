@@ -66,14 +66,14 @@ whole-cons k ws = ap (λ (t : Bool). leb k (length ws) && t) (whole_bound (lengt
 -- ---- words of clauses, and back
 
 pub clauses_words : (cs : List (List ℕ)) → clauses_in (words_of cs) ≡ cs
-unfolding words_of concat_map
+unfolding words_of
 clauses_words [] = clauses_nil
 clauses_words (c ∷ cs) =
     clauses_cons (length c) (c ++ concat_map (λ c. length c ∷ c) cs)
     ∙ λ i. take-append_seam c (concat_map (λ c. length c ∷ c) cs) i ∷ (ap clauses_in (drop-append_seam c (concat_map (λ c. length c ∷ c) cs)) ∙ clauses_words cs) i
 
 pub whole_words : (cs : List (List ℕ)) → whole (words_of cs) ≡ true
-unfolding words_of concat_map
+unfolding words_of
 whole_words [] = whole-nil
 whole_words (c ∷ cs) =
     let rest = concat_map (λ c. length c ∷ c) cs in
@@ -84,10 +84,10 @@ pub words_clauses : (ws : List ℕ) → whole ws ≡ true → words_of (clauses_
 words_clauses = by_clauses (λ (ws : List ℕ). whole ws ≡ true → words_of (clauses_in ws) ≡ ws) none one
   where
     none : whole [] ≡ true → words_of (clauses_in []) ≡ []
-    none e = rw clauses_nil (unfold words_of concat_map in refl)
+    none e = rw clauses_nil (unfold words_of in refl)
 
     step : (c : List ℕ) (cs : List (List ℕ)) → words_of (c ∷ cs) ≡ length c ∷ (c ++ words_of cs)
-    step c cs = unfold words_of concat_map in refl
+    step c cs = unfold words_of in refl
 
     one : (k : ℕ) (ws : List ℕ) → (whole (drop k ws) ≡ true → words_of (clauses_in (drop k ws)) ≡ drop k ws) → whole (k ∷ ws) ≡ true → words_of (clauses_in (k ∷ ws)) ≡ k ∷ ws
     one k ws ih e =

@@ -6,7 +6,8 @@ use mathlib.Core.List.{List, [], ◌∷◌, map, Memᴰ}
 use Prim.Native.Nat.{ℕ, zero, suc, ◌+◌, ◌*◌, ◌<◌, ◌≤◌}
 use native.Mathlib.Omega.{arith}
 use native.Mathlib.Decide.{dec_lt}
-use lib.ListN.{length, get_or, take, drop, length-map, get_or-eq_default}
+use Rattle.std.specs.Prelude.{Option}
+use lib.ListN.{length-take, length, get_or, take, drop, length-map, get_or-eq_default}
 use lib.Seq.{take_at}
 use lib.Dec.{leb}
 use borrow.Author.Tests.{le-leb, lt-leb, leb-true}
@@ -29,7 +30,8 @@ use Rattle.table_index.specs.Index.{Lent, LentParts}
 use Rattle.table_index.proofs.Index.{lent-more}
 use Rattle.table_index.proofs.Parts.{parts-lent}
 use Rattle.quotient_spec.specs.Quotient.{QuotientDone}
-use Rattle.quotient_spec.specs.declared.Written.TheVariants.{Length, Refused}
+use Rattle.std.specs.Prelude.{Ok, Err}
+use Rattle.refusals.specs.declared.Refusal.TheVariants.{OutputLength, LoadRecords}
 use Rattle.table_write.specs.Keys.{keys_of, record_of, Holds}
 use Rattle.table_write.specs.Tables.{keyed_table, written_for}
 use Rattle.table_write.proofs.Keys.{Same, keys_back}
@@ -55,36 +57,21 @@ product_section {w = w} {n = n} {m = m} {k = k} {f = f} {s = s} e h = subst (λ 
 pub sum_section : {how : How} {w n : ℕ} (m k : ℕ) {f s : List ℕ} → how ≡ Union → Sections how w n m k f s → Summands w n f s
 sum_section {w = w} {n = n} m k {f = f} {s = s} e h = subst (λ x. Sections x w n m k f s) e h
 
-pub product_collected : {how : How} (w n m k : ℕ) (f s : List ℕ) {room r : ℕ} {keys : List ℕ} → how ≡ Intersection → Sections how w n m k f s
+pub product_collected : {how : How} (w n m k : ℕ) (f s : List ℕ) (room : ℕ) (r : Option ℕ) (keys : List ℕ) → how ≡ Intersection → Sections how w n m k f s
     → Collected room (map key (walk m (records w f) (records w s) (n * m ∷ k ∷ stack_bounds w (n * m)) [])) keys r → Collected room (keys_of (section_records how n m (records w f) (records w s))) keys r
 unfolding section_records
-product_collected w n m k f s {room} {r} {keys} e h c =
+product_collected w n m k f s room r keys e h c =
     subst (λ x. Collected room (keys_of (section_records x n m (records w f) (records w s))) keys r) (sym e)
     (subst (λ xs. Collected room (map key xs) keys r) (product_section e h).2 c)
 
-pub sum_collected : {how : How} (w n m : ℕ) (f s : List ℕ) {room r : ℕ} {keys : List ℕ} → how ≡ Union → Collected room (keys_of (both_records n (records w f) (records w s))) keys r
+pub sum_collected : {how : How} (w n m : ℕ) (f s : List ℕ) (room : ℕ) (r : Option ℕ) (keys : List ℕ) → how ≡ Union → Collected room (keys_of (both_records n (records w f) (records w s))) keys r
     → Collected room (keys_of (section_records how n m (records w f) (records w s))) keys r
 unfolding section_records
-sum_collected w n m f s {room} {r} {keys} e c = subst (λ x. Collected room (keys_of (section_records x n m (records w f) (records w s))) keys r) (sym e) c
+sum_collected w n m f s room r keys e c = subst (λ x. Collected room (keys_of (section_records x n m (records w f) (records w s))) keys r) (sym e) c
 
--- how many keys there are
-module _ {room r : ℕ} (xs : List (List ℕ)) {keys : List ℕ} (c : Collected room (keys_of xs) keys r) where
-  pub many : room < r → room < length xs
-  many l = go (dec_lt room (length (keys_of xs)))
-    where
-      go : Dec (room < length (keys_of xs)) → room < length xs
-      go (yes h) = omega (arith, length-map xs key)
-      go (no h) = absurd (omega (arith, (c.fit (omega arith)).count))
-
-  pub few : r ≤ room → length xs ≤ room
-  few l = go (dec_lt room (length (keys_of xs)))
-    where
-      go : Dec (room < length (keys_of xs)) → length xs ≤ room
-      go (yes h) = absurd (omega (arith, c.full h))
-      go (no h) = omega (arith, length-map xs key)
-
-  pub held : r ≤ room → Holds keys r (keys_of xs)
-  held l = c.fit (omega (arith, few l, length-map xs key))
+-- as many keys as there is room for
+pub held-few : {keys : List ℕ} {r : ℕ} {xs : List ℕ} → Holds keys r xs → r ≤ length keys
+held-few {keys} {r} h = omega (arith, h.count, ap length h.same, length-take r keys)
 
 -- ---- written by keys
 
@@ -106,7 +93,7 @@ module _ (how : How) (v : ℕ) (y f s xs ys zs : List ℕ) {n : ℕ} (e : n ≡ 
   whole : length keyed ≡ size
   whole = omega (arith, bytes-long v y (state_bytes how f s) xs ys zs, states.bytes-long f s how)
 
-  pub short : (out : List ℕ) → length out < size → record { answer = Refused 21; out = out } ≡ written_for keyed out
+  pub short : (out : List ℕ) → length out < size → record { answer = Err OutputLength; out = out } ≡ written_for keyed out
   unfolding written_for
   short out h = sym (rw (lt-leb (length keyed) (length out) (omega (arith, whole)), written_for))
 
@@ -117,9 +104,9 @@ module _ (how : How) (v : ℕ) (y f s xs ys zs : List ℕ) {n : ℕ} (e : n ≡ 
     pub room : length (bytes_of (keyed_table v y (take n vs) xs ys zs)) ≤ length out
     room = omega (arith, ap length same_bytes, whole)
 
-    pub put : {out' : List ℕ} → out' ≡ over (bytes_of (keyed_table v y (take n vs) xs ys zs)) out → record { answer = Length size; out = out' } ≡ written_for keyed out
+    pub put : {out' : List ℕ} → out' ≡ over (bytes_of (keyed_table v y (take n vs) xs ys zs)) out → record { answer = Ok size; out = out' } ≡ written_for keyed out
     unfolding written_for
-    put p = sym (rw (le-leb (length keyed) (length out) (omega (arith, whole)), written_for) (λ j. record { answer = Length (whole j); out = sym (p ∙ ap (λ x. over x out) same_bytes) j }))
+    put p = sym (rw (le-leb (length keyed) (length out) (omega (arith, whole)), written_for) (λ j. record { answer = Ok (whole j); out = sym (p ∙ ap (λ x. over x out) same_bytes) j }))
 
 -- ---- what two tables that were read have of it
 
@@ -277,7 +264,7 @@ module _ {how : How} {b c : List ℕ} {x y : Starts} (h : Combined how b x c y) 
 
     module _ (out : List ℕ) where
       abbrev refused : QuotientDone
-      refused = record { answer = Refused 36; out = out }
+      refused = record { answer = Err LoadRecords; out = out }
 
       too_many : records_few T ≡ false → refused ≡ combined_for how b c out
       unfolding combined_for
@@ -304,45 +291,45 @@ module _ {how : How} {b c : List ℕ} {x y : Starts} (h : Combined how b x c y) 
       few_third true false c e = refl
       few_third false b c e = refl
 
-      module _ {p q ks : List ℕ} {r : ℕ} (i : p ≡ part_of b x Internals) (j : q ≡ part_of c y Internals) (d : Collected 1024 (keys_of (section_records how (length f) (length s) (records 3 p) (records 3 q))) ks r) where
-        pub internals_collected : Collected 1024 (keys_of T.internals) ks r
-        internals_collected = subst (λ xs. Collected 1024 (keys_of xs) ks r) (internals-same how t u firsts seconds (internals-read h.both.first i) (internals-read h.both.second j)) d
+      module _ {p q : List ℕ} (i : p ≡ part_of b x Internals) (j : q ≡ part_of c y Internals) where
+        internals_are : section_records how (length f) (length s) (records 3 p) (records 3 q) ≡ T.internals
+        internals_are = internals-same how t u firsts seconds (internals-read h.both.first i) (internals-read h.both.second j)
 
-        pub internals_many : 1024 < r → refused ≡ combined_for how b c out
+        pub internals_held : {ks : List ℕ} {r : ℕ} → Holds ks r (keys_of (section_records how (length f) (length s) (records 3 p) (records 3 q))) → Holds ks r (keys_of T.internals)
+        internals_held {ks} {r} d = subst (λ xs. Holds ks r (keys_of xs)) internals_are d
+
+        pub internals_many : 1024 < length (keys_of (section_records how (length f) (length s) (records 3 p) (records 3 q))) → refused ≡ combined_for how b c out
         unfolding records_few
-        internals_many l = too_many (few-first one two three (lt-leb (length T.internals) 1024 (many T.internals internals_collected l)))
+        internals_many l = too_many (few-first one two three (lt-leb (length T.internals) 1024 (omega (arith, l, ap (λ xs. length (keys_of xs)) internals_are, length-map T.internals key))))
 
-      module _ {p q ks : List ℕ} {r : ℕ} (i : p ≡ part_of b x Calls) (j : q ≡ part_of c y Calls) (d : Collected 1024 (keys_of (section_records how (length f) (length s) (records 3 p) (records 3 q))) ks r) where
-        pub calls_collected : Collected 1024 (keys_of T.calls) ks r
-        calls_collected = subst (λ xs. Collected 1024 (keys_of xs) ks r) (calls_same how t u firsts seconds (calls-read h.both.first i) (calls-read h.both.second j)) d
+      module _ {p q : List ℕ} (i : p ≡ part_of b x Calls) (j : q ≡ part_of c y Calls) where
+        calls_are : section_records how (length f) (length s) (records 3 p) (records 3 q) ≡ T.calls
+        calls_are = calls_same how t u firsts seconds (calls-read h.both.first i) (calls-read h.both.second j)
 
-        pub calls_many : 1024 < r → refused ≡ combined_for how b c out
+        pub calls_held : {ks : List ℕ} {r : ℕ} → Holds ks r (keys_of (section_records how (length f) (length s) (records 3 p) (records 3 q))) → Holds ks r (keys_of T.calls)
+        calls_held {ks} {r} d = subst (λ xs. Holds ks r (keys_of xs)) calls_are d
+
+        pub calls_many : 1024 < length (keys_of (section_records how (length f) (length s) (records 3 p) (records 3 q))) → refused ≡ combined_for how b c out
         unfolding records_few
-        calls_many l = too_many (few-second one two three (lt-leb (length T.calls) 1024 (many T.calls calls_collected l)))
+        calls_many l = too_many (few-second one two three (lt-leb (length T.calls) 1024 (omega (arith, l, ap (λ xs. length (keys_of xs)) calls_are, length-map T.calls key))))
 
-      module _ {p q ks : List ℕ} {r : ℕ} (i : p ≡ part_of b x Returns) (j : q ≡ part_of c y Returns) (d : Collected 4096 (keys_of (section_records how (length f) (length s) (records 4 p) (records 4 q))) ks r) where
-        pub returns_collected : Collected 4096 (keys_of T.returns) ks r
-        returns_collected = subst (λ xs. Collected 4096 (keys_of xs) ks r) (returns-same how t u firsts seconds (returns-read h.both.first i) (returns-read h.both.second j)) d
+      module _ {p q : List ℕ} (i : p ≡ part_of b x Returns) (j : q ≡ part_of c y Returns) where
+        returns_are : section_records how (length f) (length s) (records 4 p) (records 4 q) ≡ T.returns
+        returns_are = returns-same how t u firsts seconds (returns-read h.both.first i) (returns-read h.both.second j)
 
-        pub returns_many : 4096 < r → refused ≡ combined_for how b c out
+        pub returns_held : {ks : List ℕ} {r : ℕ} → Holds ks r (keys_of (section_records how (length f) (length s) (records 4 p) (records 4 q))) → Holds ks r (keys_of T.returns)
+        returns_held {ks} {r} d = subst (λ xs. Holds ks r (keys_of xs)) returns_are d
+
+        pub returns_many : 4096 < length (keys_of (section_records how (length f) (length s) (records 4 p) (records 4 q))) → refused ≡ combined_for how b c out
         unfolding records_few
-        returns_many l = too_many (few_third one two three (lt-leb (length T.returns) 4096 (many T.returns returns_collected l)))
+        returns_many l = too_many (few_third one two three (lt-leb (length T.returns) 4096 (omega (arith, l, ap (λ xs. length (keys_of xs)) returns_are, length-map T.returns key))))
 
     -- ---- no more than a file permits
 
-    module _ {k1 k2 k3 : List ℕ} {r1 r2 r3 : ℕ} (d1 : Collected 1024 (keys_of T.internals) k1 r1) (l1 : r1 ≤ 1024) (d2 : Collected 1024 (keys_of T.calls) k2 r2) (l2 : r2 ≤ 1024) (d3 : Collected 4096 (keys_of T.returns) k3 r3) (l3 : r3 ≤ 4096) where
-      abbrev h1 : Holds k1 r1 (keys_of T.internals)
-      h1 = held T.internals d1 l1
-
-      abbrev h2 : Holds k2 r2 (keys_of T.calls)
-      h2 = held T.calls d2 l2
-
-      abbrev h3 : Holds k3 r3 (keys_of T.returns)
-      h3 = held T.returns d3 l3
-
+    module _ {k1 k2 k3 : List ℕ} {r1 r2 r3 : ℕ} (h1 : Holds k1 r1 (keys_of T.internals)) (l1 : length k1 ≡ 1024) (h2 : Holds k2 r2 (keys_of T.calls)) (l2 : length k2 ≡ 1024) (h3 : Holds k3 r3 (keys_of T.returns)) (l3 : length k3 ≡ 4096) where
       records-few : records_few T ≡ true
       unfolding records_few
-      records-few = and_of (le-leb (length T.internals) 1024 (few T.internals d1 l1)) (and_of (le-leb (length T.calls) 1024 (few T.calls d2 l2)) (le-leb (length T.returns) 4096 (few T.returns d3 l3)))
+      records-few = and_of (le-leb (length T.internals) 1024 (omega (arith, held-few h1, h1.count, length-map T.internals key))) (and_of (le-leb (length T.calls) 1024 (omega (arith, held-few h2, h2.count, length-map T.calls key))) (le-leb (length T.returns) 4096 (omega (arith, held-few h3, h3.count, length-map T.returns key))))
 
       formed : WellFormed h.limits T
       formed = combined_well_formed wf wf' how h.symbols h.states records-few
@@ -353,9 +340,9 @@ module _ {how : How} {b c : List ℕ} {x y : Starts} (h : Combined how b x c y) 
         firsts-few = omega (arith, firsts, most-states wf);
         seconds-few = omega (arith, seconds, most-states wf');
         states-few = total;
-        moves-few = omega (arith, ap length h1.same, h1.count);
-        pushes_few = omega (arith, ap length h2.same, h2.count);
-        pops_few = omega (arith, ap length h3.same, h3.count);
+        moves-few = omega (arith, ap length h1.same, h1.count, held-few h1);
+        pushes_few = omega (arith, ap length h2.same, h2.count, held-few h2);
+        pops_few = omega (arith, ap length h3.same, h3.count, held-few h3);
       }
 
       back : {kind w : ℕ} {rs : List (List ℕ)} → w ≤ 4 → Fit T kind w rs → map (record_of w) (keys_of rs) ≡ rs

@@ -1,5 +1,5 @@
 -- What the functions of src/ are stated with: two tables that were read, their states combined, and what is left to test of them. Assumes nothing.
-use Rattle.std.specs.Prelude.{◌≡◌, true, false, List, [], ◌∷◌, ◌++◌, map, ℕ, ◌+◌, ◌*◌, ◌/◌, ◌%◌, ◌≤◌, length, get_or}
+use Rattle.std.specs.Prelude.{◌≡◌, true, false, Err, List, [], ◌∷◌, ◌++◌, map, ℕ, ◌+◌, ◌*◌, ◌/◌, ◌%◌, ◌≤◌, length, get_or}
 use Rattle.lists.specs.Lists.{upto}
 use Rattle.limits.specs.declared.Limits.{Limits}
 use Rattle.limits.specs.Limits.{state_most, symbol_most}
@@ -8,7 +8,7 @@ use Rattle.table_spec.specs.File.{table_of, records}
 use Rattle.table_spec.specs.declared.Starts.{Starts}
 use Rattle.table_view.specs.Sections.{ReadAs}
 use Rattle.quotient_spec.specs.Quotient.{QuotientDone}
-use Rattle.quotient_spec.specs.declared.Written.TheVariants.{Refused}
+use Rattle.refusals.specs.declared.Refusal.TheVariants.{LoadRecords}
 use Rattle.table_write.specs.Tables.{written_for}
 use Rattle.generate_spec.specs.Loads.{records_few}
 use Rattle.combine_spec.specs.Combine.{pair_byte, pair_records, both_records, combined_table, combined_bytes, states_few}
@@ -64,5 +64,5 @@ pub record Few (how : How) (symbols f s moves pushes pops : List ℕ) : Type 0 w
 unfoldable pub combined_for : How → List ℕ → List ℕ → List ℕ → QuotientDone
 combined_for how b c out = elim (records_few (combined_table how (table_of b) (table_of c))) [
   | true ↦ written_for (combined_bytes how b c) out
-  | false ↦ record { answer = Refused 36; out = out }
+  | false ↦ record { answer = Err LoadRecords; out = out }
 ]

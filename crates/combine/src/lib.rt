@@ -10,8 +10,8 @@ ghost use Rattle.combine.specs.Parts.{BothRead};
 
 use combine_spec::How;
 use limits::Limits;
-use quotient_spec::Written;
-use table_spec::{Reading, Starts};
+use refusals::Refusal;
+use table_spec::Starts;
 use table_view::{Section, part};
 
 mod states;
@@ -29,19 +29,19 @@ fn combine_both(
     two: Starts,
     how: How,
     out: &mut [u8],
-) -> Written
+) -> Result<usize, Refusal>
     requires { BothRead limits first.now one second.now two }
     ensures { record { answer = result; out = out.new } ≡ combine_of limits how first.now second.now out.old }
 {
     let symbols = part(first, one, Section::Symbols);
     if !check::same(symbols, part(second, two, Section::Symbols)) {
-        return Written::Refused(37);
+        return Err(Refusal::Symbols);
     }
     let own = part(first, one, Section::States);
     let other = part(second, two, Section::States);
     let states = limits.states;
     if states < state_count(how, own.len(), other.len()) {
-        return Written::Refused(35);
+        return Err(Refusal::Load);
     }
     write_combined(how, first, one, second, two, out)
 }
@@ -54,15 +54,12 @@ fn combine_second(
     second: &[u8],
     how: How,
     out: &mut [u8],
-) -> Written
+) -> Result<usize, Refusal>
     requires { ReadAs limits first.now one }
     ensures { record { answer = result; out = out.new } ≡ combine_of limits how first.now second.now out.old }
 {
-    let reading = read::read_within(limits, second);
-    match reading {
-        Reading::Sections(two) => combine_both(limits, first, one, second, two, how, out),
-        Reading::Refused(number) => Written::Refused(number),
-    }
+    let two = read::read_within(limits, second)?;
+    combine_both(limits, first, one, second, two, how, out)
 }
 
 // Writes the combination of two tables that are read at limits: its length, or the first refusal that applies, the output then unchanged.
@@ -72,20 +69,17 @@ pub fn combine_within(
     second: &[u8],
     how: How,
     out: &mut [u8],
-) -> Written
+) -> Result<usize, Refusal>
     ensures answers { record { answer = result; out = out.new } ≡ combine_of limits how first.now second.now out.old }
     ensures number { CombineSays limits how first.now second.now out.old result }
     ensures promises { Promises limits how first.now second.now result out.new }
 {
-    let reading = read::read_within(limits, first);
-    match reading {
-        Reading::Sections(one) => combine_second(limits, first, one, second, how, out),
-        Reading::Refused(number) => Written::Refused(number),
-    }
+    let one = read::read_within(limits, first)?;
+    combine_second(limits, first, one, second, how, out)
 }
 
 // Writes the combination, at the limits of a caller that gives none.
-pub fn combine(first: &[u8], second: &[u8], how: How, out: &mut [u8]) -> Written
+pub fn combine(first: &[u8], second: &[u8], how: How, out: &mut [u8]) -> Result<usize, Refusal>
     ensures answers { record { answer = result; out = out.new } ≡ combine_of standard how first.now second.now out.old }
     ensures number { CombineSays standard how first.now second.now out.old result }
     ensures promises { Promises standard how first.now second.now result out.new }

@@ -80,10 +80,8 @@ pub fn put_states(how: How, first: &[u8], second: &[u8], states: usize, out: &mu
     requires { (states ≡ state_count how (length first.now) (length second.now)) × (states ≤ length out.old) }
     ensures { out.new ≡ over (state_bytes how first.now second.now) out.old }
 {
-    let mut q: usize = 0;
-    'states: while q < states {
+    'states: for q in 0..states {
         out[q] = state_byte(how, first, second, q);
-        q += 1;
     }
 }
 

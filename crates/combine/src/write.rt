@@ -8,11 +8,11 @@ ghost use Rattle.combine.specs.Parts.{state_bytes, section_records, Sections, Co
 
 use super::states::{later_version, put_states, state_count};
 use combine_spec::How;
-use quotient_spec::Written;
+use refusals::Refusal;
 use table_spec::Starts;
 use table_view::{Section, part};
 
-// The keys of a section's records; how many there are, or one more than there is room for.
+// The keys of a section's records; how many there are, or nothing where there is no room for all of them.
 fn section_keys(
     how: How,
     width: usize,
@@ -22,7 +22,7 @@ fn section_keys(
     first: &[u8],
     second: &[u8],
     keys: &mut [u32],
-) -> usize
+) -> Option<usize>
     requires { Sections how width firsts seconds symbols first.now second.now }
     ensures { Collected (length keys.old)
         (keys_of (section_records how firsts seconds (records width first.now) (records width second.now)))
@@ -47,7 +47,7 @@ fn write_keys(
     pushes: &[u32],
     pops: &[u32],
     out: &mut [u8],
-) -> Written
+) -> Result<usize, Refusal>
     requires { Few how symbols.now first.now second.now moves.now pushes.now pops.now }
     ensures { record { answer = result; out = out.new }
         ≡ written_for
@@ -58,7 +58,7 @@ fn write_keys(
     let records = 3 * moves.len() + 3 * pushes.len() + 4 * pops.len();
     let length = symbols.len() + states + records + 12;
     if out.len() < length {
-        return Written::Refused(21);
+        return Err(Refusal::OutputLength);
     }
     let mut state_bytes = [0u8; 40];
     put_states(how, first, second, states, &mut state_bytes);
@@ -71,7 +71,7 @@ fn write_keys(
         pops,
         out,
     );
-    Written::Length(length)
+    Ok(length)
 }
 
 // Two tables that were read, where 37 and 35 do not apply: refused by 36 or 21, or written.
@@ -82,7 +82,7 @@ pub fn write_combined(
     second: &[u8],
     two: Starts,
     out: &mut [u8],
-) -> Written
+) -> Result<usize, Refusal>
     requires { Combined how first.now one second.now two }
     ensures { record { answer = result; out = out.new } ≡ combined_for how first.now second.now out.old }
 {
@@ -95,24 +95,21 @@ pub fn write_combined(
     let internals = part(first, one, Section::Internals);
     let others = part(second, two, Section::Internals);
     let mut moves = [0u32; 1024];
-    let i = section_keys(how, 3, n, m, k, internals, others, &mut moves);
-    if 1024 < i {
-        return Written::Refused(36);
-    }
+    let Some(i) = section_keys(how, 3, n, m, k, internals, others, &mut moves) else {
+        return Err(Refusal::LoadRecords);
+    };
     let calls = part(first, one, Section::Calls);
     let others = part(second, two, Section::Calls);
     let mut pushes = [0u32; 1024];
-    let c = section_keys(how, 3, n, m, k, calls, others, &mut pushes);
-    if 1024 < c {
-        return Written::Refused(36);
-    }
+    let Some(c) = section_keys(how, 3, n, m, k, calls, others, &mut pushes) else {
+        return Err(Refusal::LoadRecords);
+    };
     let returns = part(first, one, Section::Returns);
     let others = part(second, two, Section::Returns);
     let mut pops = [0u32; 4096];
-    let r = section_keys(how, 4, n, m, k, returns, others, &mut pops);
-    if 4096 < r {
-        return Written::Refused(36);
-    }
+    let Some(r) = section_keys(how, 4, n, m, k, returns, others, &mut pops) else {
+        return Err(Refusal::LoadRecords);
+    };
     let version = later_version(read::version_of(first), read::version_of(second));
     write_keys(
         how,

@@ -1,5 +1,4 @@
 pub mod Adding
-pub mod Sections
 pub mod Sums
 pub mod Walks
 pub mod Products

@@ -6,6 +6,7 @@ use Prim.Native.Nat.{ℕ, ◌+◌, ◌*◌, ◌<◌, ◌≤◌}
 use native.Mathlib.Omega.{arith}
 use lib.ListN.{length, get_or}
 use borrow.Author.Tests.{eq-eqb, ne_eqb}
+use Rattle.std.specs.Prelude.{Option, Some, None}
 use Rattle.lists.specs.Lists.{concat_map}
 use Rattle.limits.specs.Limits.{state_most}
 use Rattle.table_spec.specs.File.{records}
@@ -16,7 +17,7 @@ use Rattle.table_index.specs.Index.{Lent}
 use Rattle.combine_spec.specs.Combine.{renumbered, both_records}
 use Rattle.combine_keys.specs.Adding.{Collected, Adds, shifted_keys}
 use Rattle.combine_keys.specs.Factors.{offset, Small, Summands}
-use Rattle.combine_keys.proofs.Adding.{none_collected, adds_both}
+use Rattle.combine_keys.proofs.Adding.{none_held, adds_both, adds_less}
 
 pub offset_three : {w : ℕ} (n : ℕ) → w ≡ 3 → n * 65537 ≡ offset w n
 unfolding offset
@@ -56,14 +57,12 @@ key-shifted n (four p a s q e) = omega (arith, offset_four n e)
 -- ---- a section's
 
 firsts : (rs : List (List ℕ)) → concat_map (λ r. (key r + 0) ∷ []) rs ≡ map key rs
-unfolding concat_map
 firsts [] = refl
 firsts (r ∷ rs) = let e : key r + 0 ≡ key r = omega arith in λ i. e i ∷ firsts rs i
 
 seconds :
     (w n : ℕ) → (w ≡ 3) ⊎ (w ≡ 4) → (rs : List (List ℕ)) → ((r : List ℕ) → Memᴰ r rs → length r ≡ w)
     → concat_map (λ r. (key r + offset w n) ∷ []) rs ≡ map key (map (renumbered (λ q. n + q)) rs)
-unfolding concat_map
 seconds w n h [] l = refl
 seconds w n h (r ∷ rs) l = λ i. key-shifted n (bytewise w r h (l r (Memᴰ.head refl))) i ∷ seconds w n h rs (λ s d. l s (Memᴰ.tail d)) i
 
@@ -101,12 +100,15 @@ module _ {w n : ℕ} {first second : List ℕ} (h : Summands w n first second) w
   pub second-small : {by : ℕ} → by ≡ offset w n → Small w by second
   second-small {by} e = lent-small h.second-lent by (omega (arith, offset-few))
 
-  pub summed : {by : ℕ} {ks ks' ks'' : List ℕ} {k k' : ℕ} → by ≡ offset w n → length ks' ≡ length ks → Adds (shifted_keys 0 w first) ks 0 ks' k → Adds (shifted_keys by w second) ks' k ks'' k'
-      → Collected (length ks) (keys_of (both_records n (records w first) (records w second))) ks'' k'
+  sum_keys : {by : ℕ} → by ≡ offset w n → shifted_keys 0 w first ++ shifted_keys by w second ≡ keys_of (both_records n (records w first) (records w second))
   unfolding both_records shifted_keys
-  summed {by} {ks} {ks'} {ks''} {k} {k'} e l a b = subst (λ xs. Collected (length ks) xs ks'' k') same (adds_both l a b [] (none_collected ks))
-    where
-      same : shifted_keys 0 w first ++ shifted_keys by w second ≡ keys_of (both_records n (records w first) (records w second))
-      same =
-          (λ i. firsts (records w first) i ++ (ap (λ z. shifted_keys z w second) e ∙ seconds w n h.width (records w second) (λ r d. records-wide w second r d)) i)
-          ∙ sym (map-append key (records w first) (map (renumbered (λ q. n + q)) (records w second)))
+  sum_keys e =
+      (λ i. firsts (records w first) i ++ (ap (λ z. shifted_keys z w second) e ∙ seconds w n h.width (records w second) (λ r d. records-wide w second r d)) i)
+      ∙ sym (map-append key (records w first) (map (renumbered (λ q. n + q)) (records w second)))
+
+  pub summed : {by : ℕ} {ks ks' ks'' : List ℕ} {k : ℕ} {r : Option ℕ} → by ≡ offset w n → length ks' ≡ length ks → Adds (shifted_keys 0 w first) ks 0 ks' (Some k) → Adds (shifted_keys by w second) ks' k ks'' r
+      → Collected (length ks) (keys_of (both_records n (records w first) (records w second))) ks'' r
+  summed {by} {ks} {ks''} {r = r} e l a b = subst (λ (xs : List ℕ). Collected (length ks) xs ks'' r) (sum_keys e) ((adds_both (shifted_keys 0 w first) (shifted_keys by w second) ks'' r l a b).each [] (none_held ks))
+
+  pub first_full : {ks ks' : List ℕ} {r : Option ℕ} → r ≡ None → Adds (shifted_keys 0 w first) ks 0 ks' None → Collected (length ks) (keys_of (both_records n (records w first) (records w second))) ks' r
+  first_full {ks} {ks'} o a = subst (λ (r : Option ℕ). Collected (length ks) (keys_of (both_records n (records w first) (records w second))) ks' r) (sym o) (subst (λ (xs : List ℕ). Collected (length ks) xs ks' None) (sum_keys refl) ((adds_less (shifted_keys 0 w first) (shifted_keys (offset w n) w second) ks' ks' a).each [] (none_held ks)))

@@ -19,12 +19,12 @@ abbrev lasts : ℕ → List ℕ → List ℕ
 lasts w s = map (λ r. get_or r (w - 1) 0) (records w s)
 
 row_keyed : (k m w p : ℕ) (ss : List (List ℕ)) → concat_map (λ s. (k * 256 + (p * m + get_or s (w - 1) 0)) ∷ []) ss ≡ map (key_from k) (map (λ q. pair_of m p q ∷ []) (map (λ s. get_or s (w - 1) 0) ss))
-unfolding concat_map key_from
+unfolding key_from
 row_keyed k m w p [] = refl
 row_keyed k m w p (s ∷ ss) = λ i. (k * 256 + (p * m + get_or s (w - 1) 0)) ∷ row_keyed k m w p ss i
 
 targets_keyed : (k m w : ℕ) (s s' : List ℕ) → target_keys k m w s s' ≡ map (key_from k) (pair_targets m (lasts w s) (lasts w s'))
-unfolding target_keys row_keys pair_targets concat_map
+unfolding target_keys row_keys pair_targets
 targets_keyed k m w s s' = go (records w s)
   where
     go :
@@ -60,7 +60,7 @@ returns_keyed k m rs ss own other x y e f g d c h j =
 pub walk_keyed :
     (k m : ℕ) (rs ss : List (List ℕ)) (c : ℕ) (cs key : List ℕ)
     → map (key_from k) (walk m rs ss (c ∷ cs) key) ≡ concat_map (λ x. map (key_from (k * 256 + x)) (walk m rs ss cs (key ++ (x ∷ [])))) (upto c)
-unfolding walk concat_map key_from
+unfolding walk key_from
 walk_keyed k m rs ss c cs key = go (upto c)
   where
     one : (x : ℕ) (ws : List (List ℕ)) → map (key_from k) (map (λ r. x ∷ r) ws) ≡ map (key_from (k * 256 + x)) ws

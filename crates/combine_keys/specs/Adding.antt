@@ -1,18 +1,17 @@
 -- Keys that are collected, and what a function adds to those that were there. Assumes nothing.
-use Rattle.std.specs.Prelude.{◌≡◌, List, [], ◌∷◌, ◌++◌, ℕ, ◌+◌, ◌-◌, ◌*◌, ◌<◌, ◌≤◌, length, get_or}
+use Rattle.std.specs.Prelude.{List, [], ◌∷◌, ◌++◌, ℕ, ◌+◌, ◌-◌, ◌*◌, ◌<◌, Option, MatchOption, length, get_or}
 use Rattle.lists.specs.Lists.{concat_map}
 use Rattle.table_spec.specs.File.{records}
 use Rattle.table_find.specs.Keys.{key}
 use Rattle.table_write.specs.Keys.{Holds}
 
--- a buffer holds all of these keys; or there is no room for them, and the count says so
-pub record Collected (room : ℕ) (all keys : List ℕ) (count : ℕ) : Type 0 where
-  pub fit : length all ≤ room → Holds keys count all
-  pub full : room < length all → count ≡ room + 1
+-- all of these keys stand in the buffer, so many; or there is no room for them
+abbrev pub Collected : ℕ → List ℕ → List ℕ → Option ℕ → Type 0
+Collected room all keys r = MatchOption r (room < length all) (λ count. Holds keys count all)
 
--- the keys xs are added to whatever was collected
-abbrev pub Adds : List ℕ → List ℕ → ℕ → List ℕ → ℕ → Type 0
-Adds xs old n new k = (all : List ℕ) → Collected (length old) all old n → Collected (length old) (all ++ xs) new k
+-- the keys xs are added to those that were there
+pub record Adds (xs old : List ℕ) (n : ℕ) (new : List ℕ) (r : Option ℕ) : Type 0 where
+  pub each : (all : List ℕ) → Holds old n all → Collected (length old) (all ++ xs) new r
 
 -- the keys of a section's records, with an offset
 unfoldable pub shifted_keys : ℕ → ℕ → List ℕ → List ℕ

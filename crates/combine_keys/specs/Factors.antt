@@ -34,7 +34,14 @@ pub record Factors (w n m : ℕ) (first second : List ℕ) : Type 0 where
 
 -- the same with their indexes
 pub record Ready (w n m : ℕ) (first second one two : List ℕ) : Type 0 where
-  pub factors : Factors w n m first second
+  pub some-width : 3 ≤ w
+  pub most-width : w ≤ 4
+  pub some-second : 1 ≤ m
+  pub firsts-few : n ≤ state_most
+  pub seconds-few : m ≤ state_most
+  pub few : n * m ≤ state_most
+  pub first-lent : Lent w n first
+  pub second-lent : Lent w m second
   pub one-indexed : Indexed n (records w first) one
   pub two-indexed : Indexed m (records w second) two
 

@@ -1,5 +1,4 @@
-// The records of two tables combined, collected as keys in the order of the file. Where there is no room for all of them, their count is one more than
-// there is room for.
+// The records of two tables combined, collected as keys in the order of the file: how many there are, or nothing where there is no room for all of them.
 #![tactic(auto)]
 
 mod pairs;

@@ -2,18 +2,16 @@
 ghost use Rattle.std.specs.Prelude.{[], ◌∷◌, ◌<◌, ◌≤◌};
 ghost use Rattle.combine_keys.specs.Adding.{Adds, row_keys, target_keys};
 
-use bits::wide;
-
-// One key more, where there is room; else the count is one more than there is room for.
-pub fn push(keys: &mut [u32], count: usize, key: usize) -> usize
+// One key more, where there is room for it; how many there are then.
+pub fn push(keys: &mut [u32], count: usize, key: usize) -> Option<usize>
     requires { key < 4294967296 }
     ensures { Adds (key ∷ []) keys.old count keys.new result }
 {
     if count < keys.len() {
         keys[count] = key as u32;
-        return count + 1;
+        return Some(count + 1);
     }
-    keys.len() + 1
+    None
 }
 
 // One target of the first with each target of the second, after the other bytes of their record.
@@ -24,19 +22,16 @@ fn add_row(
     base: usize,
     keys: &mut [u32],
     count: usize,
-) -> usize
+) -> Option<usize>
     requires { (1 ≤ width) × (prefix < 8388608) × (base ≤ 16384) }
     ensures { Adds (row_keys prefix base width section.now) keys.old count keys.new result }
 {
-    let records = section.len() / width;
     let mut held = count;
-    let mut i: usize = 0;
-    'records: while i < records {
-        let end = i * width + (width - 1);
-        held = push(keys, held, prefix * 256 + (base + wide(section[end])));
-        i += 1;
+    'records: for fields in section.chunks_exact(width) {
+        let target = usize::from(fields[width - 1]);
+        held = push(keys, held, prefix * 256 + (base + target))?;
     }
-    held
+    Some(held)
 }
 
 // Each target of the first with each of the second.
@@ -48,18 +43,14 @@ pub fn add_targets(
     prefix: usize,
     keys: &mut [u32],
     count: usize,
-) -> usize
+) -> Option<usize>
     requires { (1 ≤ width) × (prefix < 8388608) × (states ≤ 40) }
     ensures { Adds (target_keys prefix states width first.now second.now) keys.old count keys.new result }
 {
-    let records = first.len() / width;
     let mut held = count;
-    let mut i: usize = 0;
-    'records: while i < records {
-        let end = i * width + (width - 1);
-        let base = wide(first[end]) * states;
-        held = add_row(width, second, prefix, base, keys, held);
-        i += 1;
+    'records: for fields in first.chunks_exact(width) {
+        let base = usize::from(fields[width - 1]) * states;
+        held = add_row(width, second, prefix, base, keys, held)?;
     }
-    held
+    Some(held)
 }

@@ -21,27 +21,35 @@ fn offset(width: usize, states: usize) -> usize
 }
 
 // The keys of a section's records, each with the offset added.
-fn add_shifted(width: usize, section: &[u8], by: usize, keys: &mut [u32], count: usize) -> usize
+fn add_shifted(
+    width: usize,
+    section: &[u8],
+    by: usize,
+    keys: &mut [u32],
+    count: usize,
+) -> Option<usize>
     requires { (3 ≤ width) × (width ≤ 4) × Small width by section.now }
     ensures { Adds (shifted_keys by width section.now) keys.old count keys.new result }
 {
-    let records = section.len() / width;
     let mut held = count;
-    let mut i: usize = 0;
-    'records: while i < records {
-        let at = i * width;
-        held = push(keys, held, number_at(section, width, at) as usize + by);
-        i += 1;
+    'records: for fields in section.chunks_exact(width) {
+        held = push(keys, held, number_at(fields, width, 0) as usize + by)?;
     }
-    held
+    Some(held)
 }
 
 // The records of a section of the sum; how many there are.
-pub fn sum(width: usize, states: usize, first: &[u8], second: &[u8], keys: &mut [u32]) -> usize
+pub fn sum(
+    width: usize,
+    states: usize,
+    first: &[u8],
+    second: &[u8],
+    keys: &mut [u32],
+) -> Option<usize>
     requires { Summands width states first.now second.now }
     ensures { Collected (length keys.old) (keys_of (both_records states (records width first.now) (records width second.now)))
         keys.new result }
 {
-    let count = add_shifted(width, first, 0, keys, 0);
+    let count = add_shifted(width, first, 0, keys, 0)?;
     add_shifted(width, second, offset(width, states), keys, count)
 }

@@ -63,7 +63,6 @@ module _ {A B : Type 0} {R : A → A → Type 0} {Q : B → B → Type 0} where
 
   pub all-pairs-concat_map : (f : A → List B) {xs : List A} → AllPairs R xs → ((x : A) → Memᴰ x xs → AllPairs Q (f x))
       → ((x y : A) → Memᴰ x xs → Memᴰ y xs → R x y → (u v : B) → Memᴰ u (f x) → Memᴰ v (f y) → Q u v) → AllPairs Q (concat_map f xs)
-  unfolding concat_map
   all-pairs-concat_map f (none) e h = none
   all-pairs-concat_map f (first {x} {xs} k o) e h =
       all-pairs-append (e x (Memᴰ.head refl)) (all-pairs-concat_map f o (λ y d. e y (Memᴰ.tail d)) (λ a b i j. h a b (Memᴰ.tail i) (Memᴰ.tail j)))

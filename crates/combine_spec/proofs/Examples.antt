@@ -26,7 +26,7 @@ second = record { version = 2; symbols = 0 ∷ 1 ∷ 2 ∷ []; states = 1 ∷ 6 
 
 pub intersected : bytes_of (combined_table Intersection first second)
     ≡ 0 ∷ 1 ∷ 2 ∷ 1 ∷ 0 ∷ 0 ∷ 2 ∷ 0 ∷ 0 ∷ 3 ∷ 1 ∷ 0 ∷ 3 ∷ 0 ∷ 1 ∷ 1 ∷ 3 ∷ 2 ∷ 0 ∷ 3 ∷ 20 ∷ 0 ∷ 17 ∷ 0 ∷ 13 ∷ 0 ∷ 7 ∷ 0 ∷ 4 ∷ 0 ∷ 2 ∷ 0 ∷ []
-unfolding filter concat_map upto concat bytes16 from_returns from_calls from_internals from_states from_symbols trailer_of bytes_of is_initial is_accepting mark_of before insert ascending bit_of later_version pair_byte pair_each pair_record by_same_symbol pair_records intersection_table combined_table
+unfolding filter upto bytes16 from_returns from_calls from_internals from_states from_symbols trailer_of bytes_of is_initial is_accepting mark_of before insert ascending bit_of later_version pair_byte pair_each pair_record by_same_symbol pair_records intersection_table combined_table
 intersected = refl
 
 -- the first's mark, where the two change places
@@ -36,7 +36,7 @@ marked = refl
 
 pub united : bytes_of (combined_table Union first second)
     ≡ 0 ∷ 1 ∷ 2 ∷ 1 ∷ 2 ∷ 1 ∷ 6 ∷ 0 ∷ 0 ∷ 1 ∷ 2 ∷ 0 ∷ 3 ∷ 3 ∷ 0 ∷ 3 ∷ 0 ∷ 1 ∷ 0 ∷ 2 ∷ 1 ∷ 3 ∷ 1 ∷ 2 ∷ 0 ∷ 1 ∷ 3 ∷ 2 ∷ 2 ∷ 3 ∷ 30 ∷ 0 ∷ 27 ∷ 0 ∷ 23 ∷ 0 ∷ 14 ∷ 0 ∷ 8 ∷ 0 ∷ 2 ∷ 0 ∷ []
-unfolding concat_map concat bytes16 from_returns from_calls from_internals from_states from_symbols trailer_of bytes_of renumbered later_version both_records union_table combined_table
+unfolding bytes16 from_returns from_calls from_internals from_states from_symbols trailer_of bytes_of renumbered later_version both_records union_table combined_table
 united = refl
 
 -- ---- the refusals
@@ -72,10 +72,10 @@ calls =
     ∷ []
 
 pub numbers : map number_for calls ≡ 0 ∷ 21 ∷ 0 ∷ 21 ∷ 39 ∷ 2 ∷ 1 ∷ 37 ∷ 35 ∷ 0 ∷ 35 ∷ []
-unfolding any all filter concat_map upto same parts concat first_failed limits_fit longest word16 trailer distance version start records table_of bytes16 from_returns from_calls from_internals from_states from_symbols trailer_of bytes_of length_fits version_fits distances_fit counts_fit state_byte_most bytes_fit is_initial is_accepting start_fits record_fits records_fit before ascend_from ascend order_fits table_tests read_number mark_of insert ascending bit_of same_symbols tuples span possible records_few renumbered later_version pair_byte pair_each pair_record by_same_symbol pair_records intersection_table both_records union_table combined_table combined_bytes states_few combine_number
+unfolding filter upto same parts first_failed limits_fit longest word16 trailer distance version start records table_of bytes16 from_returns from_calls from_internals from_states from_symbols trailer_of bytes_of length_fits version_fits distances_fit counts_fit state_byte_most bytes_fit is_initial is_accepting start_fits record_fits records_fit before ascend_from ascend order_fits table_tests read_number mark_of insert ascending bit_of same_symbols tuples span possible records_few renumbered later_version pair_byte pair_each pair_record by_same_symbol pair_records intersection_table both_records union_table combined_table combined_bytes states_few combine_number
 numbers = refl
 
 -- 36: 576 internals each, 1,152 side by side, before 21
 pub many : number_for (standard, Union, full 12 4, full 12 4, 0) ≡ 36
-unfolding any all filter concat_map upto same parts concat first_failed limits_fit longest word16 trailer distance version start records table_of bytes16 from_returns from_calls from_internals from_states from_symbols trailer_of bytes_of length_fits version_fits distances_fit counts_fit state_byte_most bytes_fit is_initial is_accepting start_fits record_fits records_fit before ascend_from ascend order_fits table_tests read_number mark_of insert ascending bit_of same_symbols tuples span possible records_few renumbered later_version pair_byte pair_each pair_record by_same_symbol pair_records intersection_table both_records union_table combined_table combined_bytes states_few combine_number
+unfolding filter upto same parts first_failed limits_fit longest word16 trailer distance version start records table_of bytes16 from_returns from_calls from_internals from_states from_symbols trailer_of bytes_of length_fits version_fits distances_fit counts_fit state_byte_most bytes_fit is_initial is_accepting start_fits record_fits records_fit before ascend_from ascend order_fits table_tests read_number mark_of insert ascending bit_of same_symbols tuples span possible records_few renumbered later_version pair_byte pair_each pair_record by_same_symbol pair_records intersection_table both_records union_table combined_table combined_bytes states_few combine_number
 many = refl

@@ -17,10 +17,14 @@ use Rattle.table_spec.specs.File.{Table, table_of}
 use Rattle.table_spec.specs.Reading.{Readable, WellFormed}
 use Rattle.table_spec.specs.Language.{automaton, automaton_of, AcceptsWord, SameWords}
 use Rattle.table_spec.proofs.Bytes.{bytes-length, read_well_formed, table_of-bytes, read-bytes}
-use Rattle.table_spec.proofs.Passed.{formed-wide}
+use Rattle.table_spec.proofs.Passed.{formed-wide, read-known}
 use Rattle.quotient_spec.specs.Quotient.{QuotientDone}
 use Rattle.quotient_spec.specs.Demands.{OnWriting}
-use Rattle.quotient_spec.specs.declared.Written.{Written}
+use Rattle.refusals.specs.declared.Refusal.{Refusal}
+use Rattle.refusals.specs.declared.Refusal.TheVariants.{Symbols, Load, LoadRecords, OutputLength}
+use Rattle.refusals.specs.Refusals.{Known}
+use Rattle.refusals.proofs.Numbers.{known_of, failed_known, none_known}
+use Rattle.std.specs.Prelude.{Result}
 use Rattle.quotient_spec.proofs.Writing.{on_writing, says_length}
 use Rattle.fit_spec.specs.Fit.{same_symbols}
 use Rattle.generate_spec.specs.Loads.{records_few}
@@ -139,12 +143,18 @@ module _ (L : Limits) (how : How) (b c : List ℕ) where
   promises : (out : List ℕ) → Promises L how b c (combine_of L how b c out).answer (combine_of L how b c out).out
   promises out = writes (Combination L how b c) combination out
 
+  combine-known : (out : List ℕ) → Known (combine_number L how b c out)
+  unfolding combine_number
+  combine-known out =
+      failed_known _ _ (read-known L b) (failed_known _ _ (read-known L c) (failed_known _ _ (known_of Symbols) (failed_known _ _ (known_of Load)
+      (failed_known _ _ (known_of LoadRecords) (failed_known _ _ (known_of OutputLength) none_known)))))
+
   numbered : (out : List ℕ) → CombineSays L how b c out (combine_of L how b c out).answer
   unfolding combine_of
-  numbered out = says_length (combine_number L how b c out) (combined_bytes how b c) out
+  numbered out = says_length (combine_number L how b c out) (combined_bytes how b c) out (combine-known out)
 
   -- the contract, from its equation
-  pub combined : (out : List ℕ) {r : Written} {now : List ℕ} → record { answer = r; out = now } ≡ combine_of L how b c out
+  pub combined : (out : List ℕ) {r : Result ℕ Refusal} {now : List ℕ} → record { answer = r; out = now } ≡ combine_of L how b c out
       → (record { answer = r; out = now } ≡ combine_of L how b c out) × (CombineSays L how b c out r × Promises L how b c r now)
   combined out e = (e, subst (λ (d : QuotientDone). CombineSays L how b c out d.answer × Promises L how b c d.answer d.out) (sym e) (numbered out, promises out))
 

@@ -1,13 +1,13 @@
 -- Two tables combined, as a table and as bytes: the product and the sum, the refusals in their order, and the answer. Assumes nothing.
-use Rattle.std.specs.Prelude.{Bool, true, false, ◌&&◌, ◌||◌, List, [], ◌∷◌, ◌++◌, map, ℕ, ◌+◌, ◌*◌, ◌/◌, ◌%◌, length, get_or, drop, eqb, leb}
+use Rattle.std.specs.Prelude.{Bool, true, false, ◌&&◌, ◌||◌, Result, Ok, Err, List, [], ◌∷◌, ◌++◌, map, ℕ, ◌+◌, ◌*◌, ◌/◌, ◌%◌, length, get_or, drop, eqb, leb}
 use Rattle.lists.specs.Lists.{filter, concat_map, upto, over, first_failed, stage, Says}
 use Rattle.limits.specs.declared.Limits.{Limits}
+use Rattle.refusals.specs.declared.Refusal.{Refusal}
+use Rattle.refusals.specs.Refusals.{refusal, number_in, one_value, values_in}
 use Rattle.table_spec.specs.File.{Table, table_of, bytes_of}
 use Rattle.table_spec.specs.Reading.{is_initial, is_accepting, read_number}
 use Rattle.table_spec.specs.Language.{count, byte_of, mark_of}
-use Rattle.quotient_spec.specs.Quotient.{ascending, bit_of, QuotientDone, written_number, written_values}
-use Rattle.quotient_spec.specs.declared.Written.{Written}
-use Rattle.quotient_spec.specs.declared.Written.TheVariants.{Length, Refused}
+use Rattle.quotient_spec.specs.Quotient.{ascending, bit_of, QuotientDone}
 use Rattle.fit_spec.specs.Fit.{same_symbols}
 use Rattle.generate_spec.specs.Loads.{records_few}
 use Rattle.combine_spec.specs.declared.How.{How}
@@ -113,10 +113,10 @@ combine_number L how b c out =
 -- the operation: "The answer is the length; later bytes keep their content."
 unfoldable pub combine_of : Limits → How → List ℕ → List ℕ → List ℕ → QuotientDone
 combine_of L how b c out = elim (eqb (combine_number L how b c out) 0) [
-  | true ↦ record { answer = Length (length (combined_bytes how b c)); out = over (combined_bytes how b c) out }
-  | false ↦ record { answer = Refused (combine_number L how b c out); out = out }
+  | true ↦ record { answer = Ok (length (combined_bytes how b c)); out = over (combined_bytes how b c) out }
+  | false ↦ record { answer = Err (refusal (combine_number L how b c out)); out = out }
 ]
 
 -- the answer by its number and its values
-abbrev pub CombineSays : Limits → How → List ℕ → List ℕ → List ℕ → Written → Type 0
-CombineSays L how b c out r = Says (written_number r) (written_values r) (combine_number L how b c out) (length (combined_bytes how b c) ∷ [])
+abbrev pub CombineSays : Limits → How → List ℕ → List ℕ → List ℕ → Result ℕ Refusal → Type 0
+CombineSays L how b c out r = Says (number_in r) (values_in one_value r) (combine_number L how b c out) (length (combined_bytes how b c) ∷ [])

@@ -1,5 +1,5 @@
 -- What a written combination promises, of words, from the lent bytes to the written ones. Assumes nothing.
-use Rattle.std.specs.Prelude.{◌≡◌, ◌↔◌, ◌⊎◌, List, ℕ, take}
+use Rattle.std.specs.Prelude.{◌≡◌, ◌↔◌, ◌⊎◌, Result, List, ℕ, take}
 use Rattle.vpa.specs.Automata.{Automaton, EndsIn}
 use Rattle.vpa.specs.Combined.{EndsOn}
 use Rattle.limits.specs.declared.Limits.{Limits}
@@ -7,7 +7,7 @@ use Rattle.table_spec.specs.File.{table_of}
 use Rattle.table_spec.specs.Reading.{Readable}
 use Rattle.table_spec.specs.Language.{automaton_of, AcceptsWord, SameWords}
 use Rattle.quotient_spec.specs.Demands.{OnWriting}
-use Rattle.quotient_spec.specs.declared.Written.{Written}
+use Rattle.refusals.specs.declared.Refusal.{Refusal}
 use Rattle.combine_spec.specs.Combine.{combined_table, combined_bytes}
 use Rattle.combine_spec.specs.declared.How.{How}
 use Rattle.combine_spec.specs.declared.How.TheVariants.{Intersection, Union}
@@ -43,9 +43,9 @@ pub record Combination (L : Limits) (how : How) (b c d : List ℕ) : Type 0 wher
   pub order : SameWords d (combined_bytes how c b)
 
 -- .. of the bytes that are written
-abbrev pub Promises : Limits → How → List ℕ → List ℕ → Written → List ℕ → Type 0
+abbrev pub Promises : Limits → How → List ℕ → List ℕ → Result ℕ Refusal → List ℕ → Type 0
 Promises L how b c r out = OnWriting r (λ n. Combination L how b c (take n out))
 
 -- "the order of the two changes no word", of two calls, the second with the tables the other way round
-abbrev pub EitherOrder : Written → List ℕ → Written → List ℕ → Type 0
+abbrev pub EitherOrder : Result ℕ Refusal → List ℕ → Result ℕ Refusal → List ℕ → Type 0
 EitherOrder r out r' out' = OnWriting r (λ n. OnWriting r' (λ k. SameWords (take n out) (take k out')))

@@ -5,13 +5,13 @@ ghost use Rattle.std.specs.Prelude.{◌≢◌, ◌<◌, length};
 ghost use Rattle.cnf.specs.Clauses.{value_of};
 ghost use Rattle.pairs.specs.Entries.{PairTable};
 ghost use Rattle.pairs.specs.Triangles.{triangles};
+ghost use Rattle.sat_trail.specs.Conflicts.{is_broken, set_count};
 ghost use Rattle.sat_trail.specs.Trail.{Ready, Attended, Queue, Drained};
-ghost use Rattle.sat_trail.specs.Rows.{Rows};
+ghost use Rattle.sat_trail.specs.Rows.{RowsOf};
 
-use equality_spread::Reached;
 use equality_transitivity::{conclude_apart, conclude_joined};
 use pairs::pair_of;
-use sat_trail::wide;
+use sat_trail::{Conflict, StateRows};
 
 // What the pair of a variable that is set says of every third state. With no states there is none.
 pub fn conclude(
@@ -20,29 +20,25 @@ pub fn conclude(
     x: u16,
     values: &mut [u8],
     trail: &mut [u16],
-    joined: &mut [u64; 40],
-    apart: &mut [u64; 40],
+    rows: &mut StateRows,
     start: usize,
-) -> Reached
-    requires ready { Ready (triangles n) values.old trail.old start × Rows n values.old joined.old apart.old }
+) -> Result<usize, Conflict>
+    requires ready { Ready (triangles n) values.old trail.old start × RowsOf n values.old rows.old }
     requires pair_table { PairTable table.now }
     requires x_in_bounds { (x < length values.old) × (value_of values.old x ≢ 2) }
-    ensures { Attended (triangles n) x values.old trail.old start values.new trail.new result.broken result.count
-        × Rows n values.new joined.new apart.new }
+    ensures { Attended (triangles n) x values.old trail.old start values.new trail.new (is_broken result) (set_count result)
+        × RowsOf n values.new rows.new }
 {
     if n == 0 {
-        return Reached {
-            broken: false,
-            count: start,
-        };
+        return Ok(start);
     }
     let pair = pair_of(table, x);
     let p = pair.low;
     let q = pair.high;
-    if values[wide(x)] == 1 {
-        return conclude_joined(n, p, q, values, trail, joined, apart, start);
+    if values[usize::from(x)] == 1 {
+        return conclude_joined(n, p, q, values, trail, rows, start);
     }
-    conclude_apart(n, p, q, values, trail, joined, apart, start)
+    conclude_apart(n, p, q, values, trail, rows, start)
 }
 
 // Draws every conclusion from the pairs on the trail from `from` on, and from those that it sets itself.
@@ -51,29 +47,21 @@ pub fn drain(
     table: &[u16],
     values: &mut [u8],
     trail: &mut [u16],
-    joined: &mut [u64; 40],
-    apart: &mut [u64; 40],
+    rows: &mut StateRows,
     from: usize,
     start: usize,
-) -> Reached
-    requires ready { Ready (triangles n) values.old trail.old start × Rows n values.old joined.old apart.old }
+) -> Result<usize, Conflict>
+    requires ready { Ready (triangles n) values.old trail.old start × RowsOf n values.old rows.old }
     requires pair_table { PairTable table.now × Queue (triangles n) values.old trail.old from start }
-    ensures { Drained (triangles n) values.old trail.old start values.new trail.new result.broken result.count
-        × Rows n values.new joined.new apart.new }
+    ensures { Drained (triangles n) values.old trail.old start values.new trail.new (is_broken result) (set_count result)
+        × RowsOf n values.new rows.new }
 {
     let mut at = from;
     let mut count = start;
     'queue: while at < count {
         let x = trail[at];
         at += 1;
-        let r = conclude(n, table, x, values, trail, joined, apart, count);
-        if r.broken {
-            return r;
-        }
-        count = r.count;
+        count = conclude(n, table, x, values, trail, rows, count)?;
     }
-    Reached {
-        broken: false,
-        count,
-    }
+    Ok(count)
 }

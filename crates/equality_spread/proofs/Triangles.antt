@@ -11,7 +11,7 @@ use native.Mathlib.Decide.{ℕ_discrete}
 use lib.ListN.{length}
 use lib.Dec.{eqb, ltb}
 use borrow.Author.Tests.{eqb-true, eqb-false}
-use Rattle.lists.specs.Lists.{any, filter, concat_map, upto}
+use Rattle.lists.specs.Lists.{any, filter, upto}
 use Rattle.lists.proofs.Members.{any-true, any_false, concat_map-mem, concat_map_of, upto_of}
 use Rattle.cnf.specs.Clauses.{positive, negative, value_of, clauses_in, is_positive, Horn}
 use Rattle.cnf.specs.Search.{is_right, is_unset, broken, forcing, by_unset, seen}
@@ -55,19 +55,19 @@ module _ (w : List ℕ) (x : ℕ) {k : ℕ} (e : value_of w x ≡ k) where
 
 module _ (w : List ℕ) (x y z : ℕ) where
   arrow_third : value_of w x ≡ 1 → value_of w y ≡ 1 → value_of w z ≡ 2 → seen w (arrow x y z) ≡ forcing (positive z)
-  unfolding seen any filter by_unset
+  unfolding seen filter by_unset
   arrow_third a b c = rw (right_no w x a, right_no w y b, right_yes w z c, unset_no w x a, unset_no w y b, unset_yes w z c, filter, seen, any, by_unset)
 
   arrow_first : value_of w x ≡ 2 → value_of w y ≡ 1 → value_of w z ≡ 0 → seen w (arrow x y z) ≡ forcing (negative x)
-  unfolding seen any filter by_unset
+  unfolding seen filter by_unset
   arrow_first a b c = rw (right_no w x a, right_no w y b, right_yes w z c, unset_no w x a, unset_no w y b, unset_yes w z c, filter, seen, any, by_unset)
 
   arrow_second : value_of w x ≡ 1 → value_of w y ≡ 2 → value_of w z ≡ 0 → seen w (arrow x y z) ≡ forcing (negative y)
-  unfolding seen any filter by_unset
+  unfolding seen filter by_unset
   arrow_second a b c = rw (right_no w x a, right_no w y b, right_yes w z c, unset_no w x a, unset_no w y b, unset_yes w z c, filter, seen, any, by_unset)
 
   arrow_broken : value_of w x ≡ 1 → value_of w y ≡ 1 → value_of w z ≡ 0 → seen w (arrow x y z) ≡ broken
-  unfolding seen any filter by_unset
+  unfolding seen filter by_unset
   arrow_broken a b c = rw (right_no w x a, right_no w y b, right_yes w z c, unset_no w x a, unset_no w y b, unset_yes w z c, filter, seen, any, by_unset)
 
 pub found_by : {cs : List (List ℕ)} (w c : List ℕ) → Memᴰ c cs → (l : ℕ) → seen w c ≡ forcing l → Found w cs (forcing l)
@@ -337,7 +337,7 @@ triangles_horn n = record { one = λ c m. let i = in_some n c m in triangle-one 
 
 -- no states have none
 pub no_triangles : triangles 0 ≡ []
-unfolding triangles concat_map upto
+unfolding triangles upto
 no_triangles = refl
 
 pub with_none : (ws : List ℕ) → with_triangles ws 0 ≡ clauses_in ws

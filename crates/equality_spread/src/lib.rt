@@ -2,21 +2,15 @@
 #![tactic(auto)]
 
 ghost use Rattle.pairs.specs.Triangles.{triangles};
+ghost use Rattle.sat_trail.specs.Conflicts.{is_broken, set_count};
 ghost use Rattle.sat_trail.specs.Trail.{Ready};
-ghost use Rattle.sat_trail.specs.Rows.{Rows};
+ghost use Rattle.sat_trail.specs.Rows.{RowsOf};
 ghost use Rattle.sat_trail.specs.Conclusions.{Spreads, Spread, SpreadBoth};
 
 use pairs::variable_of;
-use sat_trail::{put, wide};
+use sat_trail::{Conflict, StateRows, put};
 
-// Whether a clause is broken, and how many variables are set.
-#[derive(Clone, Copy)]
-pub struct Reached {
-    pub broken: bool,
-    pub count: usize,
-}
-
-// For each state of the word `todo`: its pair with q is x.
+// For each state of the word `todo`: its pair with q is x. Answers how many variables are set, or a conflict with a pair that was set.
 fn spread(
     n: u8,
     q: u8,
@@ -24,14 +18,13 @@ fn spread(
     x: u8,
     values: &mut [u8],
     trail: &mut [u16],
-    joined: &mut [u64; 40],
-    apart: &mut [u64; 40],
+    rows: &mut StateRows,
     start: usize,
-) -> Reached
-    requires ready { Ready (triangles n) values.old trail.old start × Rows n values.old joined.old apart.old }
+) -> Result<usize, Conflict>
+    requires ready { Ready (triangles n) values.old trail.old start × RowsOf n values.old rows.old }
     requires spreads { Spreads n values.old q todo x }
-    ensures { Spread n values.old trail.old start q todo x values.new trail.new result.broken result.count
-        × Rows n values.new joined.new apart.new }
+    ensures { Spread n values.old trail.old start q todo x values.new trail.new (is_broken result) (set_count result)
+        × RowsOf n values.new rows.new }
 {
     let mut count = start;
     let mut rest = todo;
@@ -39,22 +32,16 @@ fn spread(
         let s = bits::next_state(rest) as u8;
         rest = bits::later_states(rest);
         let v = variable_of(q, s);
-        let y = values[wide(v)];
+        let y = values[usize::from(v)];
         if y == 2 {
-            count = put(v, q, s, x, values, trail, joined, apart, count);
+            count = put(v, q, s, x, values, trail, rows, count);
             continue 'states;
         }
         if y != x {
-            return Reached {
-                broken: true,
-                count,
-            };
+            return Err(Conflict { count });
         }
     }
-    Reached {
-        broken: false,
-        count,
-    }
+    Ok(count)
 }
 
 // For each state of the word `todo` its pair with q is x, and for each of `back` that with p.
@@ -67,18 +54,14 @@ pub fn spread_both(
     x: u8,
     values: &mut [u8],
     trail: &mut [u16],
-    joined: &mut [u64; 40],
-    apart: &mut [u64; 40],
+    rows: &mut StateRows,
     start: usize,
-) -> Reached
-    requires ready { Ready (triangles n) values.old trail.old start × Rows n values.old joined.old apart.old }
+) -> Result<usize, Conflict>
+    requires ready { Ready (triangles n) values.old trail.old start × RowsOf n values.old rows.old }
     requires spreads { Spreads n values.old q todo x × Spreads n values.old p back x }
-    ensures { SpreadBoth n values.old trail.old start p q todo back x values.new trail.new result.broken result.count
-        × Rows n values.new joined.new apart.new }
+    ensures { SpreadBoth n values.old trail.old start p q todo back x values.new trail.new (is_broken result) (set_count result)
+        × RowsOf n values.new rows.new }
 {
-    let a = spread(n, q, todo, x, values, trail, joined, apart, start);
-    if a.broken {
-        return a;
-    }
-    spread(n, p, back, x, values, trail, joined, apart, a.count)
+    let count = spread(n, q, todo, x, values, trail, rows, start)?;
+    spread(n, p, back, x, values, trail, rows, count)
 }

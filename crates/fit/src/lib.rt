@@ -9,43 +9,37 @@ ghost use Rattle.fit_spec.specs.Demands.{YesExactly, NoApart, FitsQuotient, Fits
 ghost use Rattle.fit_compare.specs.Compared.{BothRead};
 
 use fit_compare::{fits, no_choice};
-use fit_spec::Fitting;
-use table_spec::{Reading, Starts};
+use refusals::Refusal;
+use table_spec::Starts;
 use table_view::Section;
 
 // The answer for two tables that were read.
-fn fit_both(first: &[u8], one: Starts, second: &[u8], two: Starts) -> Fitting
+fn fit_both(first: &[u8], one: Starts, second: &[u8], two: Starts) -> Result<bool, Refusal>
     requires { BothRead first.now one second.now two }
     ensures { result ≡ fit_of first.now second.now }
 {
     let symbols = table_view::part(first, one, Section::Symbols);
     if !check::same(symbols, table_view::part(second, two, Section::Symbols)) {
-        return Fitting::Refused(37);
+        return Err(Refusal::Symbols);
     }
     if !no_choice(second, two) {
-        return Fitting::Refused(38);
+        return Err(Refusal::Choices);
     }
-    if fits(first, one, second, two) {
-        return Fitting::Yes;
-    }
-    Fitting::No
+    Ok(fits(first, one, second, two))
 }
 
 // The answer for a first table that was read.
-fn fit_second(first: &[u8], one: Starts, second: &[u8]) -> Fitting
+fn fit_second(first: &[u8], one: Starts, second: &[u8]) -> Result<bool, Refusal>
     requires { ReadAs standard first.now one }
     ensures { result ≡ fit_of first.now second.now }
 {
-    let reading = read::read(second);
-    match reading {
-        Reading::Sections(two) => fit_both(first, one, second, two),
-        Reading::Refused(number) => Fitting::Refused(number),
-    }
+    let two = read::read(second)?;
+    fit_both(first, one, second, two)
 }
 
 // Says whether the second table accepts every word of the first; or the first refusal that applies. Both are read at the limits of a caller that
 // gives none.
-pub fn fit(first: &[u8], second: &[u8]) -> Fitting
+pub fn fit(first: &[u8], second: &[u8]) -> Result<bool, Refusal>
     ensures answers { result ≡ fit_of first.now second.now }
     ensures number { FitSays first.now second.now result }
     ensures exact { YesExactly first.now second.now result }
@@ -53,9 +47,6 @@ pub fn fit(first: &[u8], second: &[u8]) -> Fitting
     ensures quotient { FitsQuotient first.now second.now result }
     ensures transitive { FitsOn first.now second.now result }
 {
-    let reading = read::read(first);
-    match reading {
-        Reading::Sections(one) => fit_second(first, one, second),
-        Reading::Refused(number) => Fitting::Refused(number),
-    }
+    let one = read::read(first)?;
+    fit_second(first, one, second)
 }

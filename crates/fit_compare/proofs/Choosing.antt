@@ -2,18 +2,18 @@
 use mathlib.Core.Path.{◌≡◌, refl, sym, ap, ◌∙◌, subst}
 use mathlib.Core.Logic.{◌⊎◌, inl, inr, ⊎_elim}
 use mathlib.Core.Bool.{Bool, true, false, ◌&&◌, ◌||◌, not, true≢false}
-use mathlib.Core.List.{List, [], ◌∷◌, Memᴰ}
+use mathlib.Core.List.{List, [], ◌∷◌, ◌++◌, Memᴰ}
 use Prim.Native.Nat.{ℕ, zero, suc, ◌+◌, ◌-◌, ◌%◌, ◌<◌, ◌≤◌}
 use native.Mathlib.Omega.{arith}
-use lib.ListN.{length, get_or, take, drop, drop_of_length-le}
-use lib.Seq.{take-take}
+use lib.ListN.{length, get_or, take, drop, drop_of_length-le, length-drop, take-append-drop}
+use lib.Seq.{take_all, length-take-le}
 use borrow.Author.Tests.{eq-eqb, ne_eqb}
 use Rattle.lists.specs.Lists.{all, filter, same}
 use Rattle.lists.proofs.Members.{and-true, and_of, gives, gives_of, not_so, all_true, all_of, same_true, same_of, one_on}
 use Rattle.table_spec.specs.File.{records}
 use Rattle.table_spec.specs.Reading.{is_initial, before, ascend_from, ascend}
 use Rattle.table_spec.proofs.Order.{first_cases, by_first, by_others, before_irreflexive, before-transitive, ascend-rest}
-use Rattle.table_find.proofs.Walks.{records-cons, records_end}
+use Rattle.table_spec.proofs.Chunks.{chunk_on, chunk_end}
 use Rattle.quotient_spec.specs.Quotient.{bit_of}
 use Rattle.fit_spec.specs.Fit.{one_target}
 
@@ -110,59 +110,38 @@ module _ (w : ℕ) where
       go true e false f = absurd (true≢false (sym (of_distinct rs (neighbours_distinct rs a e)) ∙ f))
       go false e true f = absurd (true≢false (sym (distinct_neighbours rs a (distinct_of rs f)) ∙ e))
 
--- ---- the walk: the last record passed ends at `at`
+-- ---- the walk: the last record passed, and those that are left
 
-pub record Neighbouring (w : ℕ) (s : List ℕ) (at : ℕ) : Type 0 where
-  pub behind : w ≤ at
-  pub inside : at ≤ length s
-  pub meets : neighbours (w - 1) (records w s) ≡ neighbours (w - 1) (records w (drop (at - w) s))
+pub record Neighbouring (w : ℕ) (s last rest : List ℕ) : Type 0 where
+  pub long : length last ≡ w
+  pub meets : neighbours (w - 1) (records w s) ≡ neighbours (w - 1) (last ∷ records w rest)
 
 module _ {w : ℕ} (s : List ℕ) (p : 3 ≤ w) where
-  pub neighbouring : w ≤ length s → Neighbouring w s w
-  neighbouring h = let z : 0 ≡ w - w = omega arith in record { behind = omega arith; inside = h; meets = ap (λ i. neighbours (w - 1) (records w (drop i s))) z }
+  pub neighbouring : {rest : List ℕ} → w ≤ length s → rest ≡ take (length s - w) (drop w s) → Neighbouring w s (take w s) rest
+  neighbouring {rest} h e =
+      let l : length (take w s) ≡ w = length-take-le w s h in
+      let d : rest ≡ drop w s = e ∙ take_all (length s - w) (drop w s) (omega (arith, length-drop w s)) in
+      record { long = l; meets = ap (neighbours (w - 1)) (chunk_on s (take w s) rest (omega arith) (sym (take-append-drop w s) ∙ ap (λ r. take w s ++ r) (sym d)) l) }
 
   pub no_neighbour : length s < w → true ≡ one_target (w - 1) (records w s)
-  unfolding one_target all
-  no_neighbour h = sym (ap (one_target (w - 1)) (records_end w s 0 (omega arith)))
+  unfolding one_target
+  no_neighbour h = sym (ap (one_target (w - 1)) (chunk_end s h))
 
-module _ {w : ℕ} {s : List ℕ} {at : ℕ} (p : 3 ≤ w) (a : ascend (records w s) ≡ true) (i : Neighbouring w s at) where
-  last_on : records w (drop (at - w) s) ≡ take w (drop (at - w) s) ∷ records w (drop at s)
-  last_on =
-      let e : at - w + w ≡ at = omega (arith, i) in
-      records-cons w s (at - w) (omega arith) (omega (arith, i)) ∙ ap (λ n. take w (drop (at - w) s) ∷ records w (drop n s)) e
-
-  pub neighbours_done : length s - at < w → true ≡ one_target (w - 1) (records w s)
+module _ {w : ℕ} {s last rest : List ℕ} (p : 3 ≤ w) (a : ascend (records w s) ≡ true) (i : Neighbouring w s last rest) where
+  pub neighbours_done : length rest < w → true ≡ one_target (w - 1) (records w s)
   unfolding neighbours
-  neighbours_done h = sym (sym (neighbours_suffice (w - 1) (records w s) a) ∙ i.meets ∙ ap (neighbours (w - 1)) (last_on ∙ ap (λ rs. take w (drop (at - w) s) ∷ rs) (records_end w s at h)))
+  neighbours_done h = sym (sym (neighbours_suffice (w - 1) (records w s) a) ∙ i.meets ∙ ap (λ rs. neighbours (w - 1) (last ∷ rs)) (chunk_end rest h))
 
-  module _ (h : w ≤ length s - at) where
-    here : records w (drop at s) ≡ take w (drop at s) ∷ records w (drop (at + w) s)
-    here = records-cons w s at (omega arith) (omega arith)
-
-    -- the bytes before the two targets, as the code cuts them
-    abbrev first : List ℕ
-    first = take (at - 1 - (at - w)) (drop (at - w) s)
-
-    abbrev second : List ℕ
-    second = take (at + w - 1 - at) (drop at s)
-
-    key_of : (k : ℕ) (xs : List ℕ) → k ≡ w - 1 → take (w - 1) (take w xs) ≡ take k xs
-    key_of k xs e = take-take (w - 1) w xs (omega arith) ∙ ap (λ n. take n xs) (sym e)
-
-    next_on : (b : Bool) → same first second ≡ b → neighbours (w - 1) (records w s) ≡ (not b && neighbours (w - 1) (records w (drop at s)))
+  module _ (x after : List ℕ) (d : rest ≡ x ++ after) (h : length x ≡ w) where
+    next_on : (b : Bool) → same (take (w - 1) last) (take (w - 1) x) ≡ b → neighbours (w - 1) (records w s) ≡ (not b && neighbours (w - 1) (x ∷ records w after))
     unfolding neighbours
-    next_on b e =
-        i.meets ∙ ap (neighbours (w - 1)) (last_on ∙ ap (λ rs. take w (drop (at - w) s) ∷ rs) here)
-        ∙ (λ j. not (same (key_of (at - 1 - (at - w)) (drop (at - w) s) (omega (arith, i)) j) (key_of (at + w - 1 - at) (drop at s) (omega arith) j)) && neighbours (w - 1) (take w (drop at s) ∷ records w (drop (at + w) s)))
-        ∙ (λ j. not (e j) && neighbours (w - 1) (sym here j))
+    next_on b e = i.meets ∙ ap (λ rs. neighbours (w - 1) (last ∷ rs)) (chunk_on rest x after (omega arith) d h) ∙ ap (λ t. not t && neighbours (w - 1) (x ∷ records w after)) e
 
-    pub neighbours_meet : first ≡ second → false ≡ one_target (w - 1) (records w s)
+    pub neighbours_meet : take (w - 1) last ≡ take (w - 1) x → false ≡ one_target (w - 1) (records w s)
     neighbours_meet e = sym (next_on true (same_of e)) ∙ neighbours_suffice (w - 1) (records w s) a
 
-    pub neighbours_on : (first ≡ second → ⊥) → Neighbouring w s (at + w)
-    neighbours_on n =
-        let z : at ≡ at + w - w = omega arith in
-        record { behind = omega arith; inside = omega (arith, i); meets = next_on false (not_so _ (λ e. n (same_true _ _ e))) ∙ ap (λ j. neighbours (w - 1) (records w (drop j s))) z }
+    pub neighbours_on : (take (w - 1) last ≡ take (w - 1) x → ⊥) → Neighbouring w s x after
+    neighbours_on n = record { long = h; meets = next_on false (not_so _ (λ e. n (same_true _ _ e))) }
 
 -- ---- the initial states: those passed are counted
 

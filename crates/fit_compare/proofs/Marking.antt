@@ -1,7 +1,7 @@
 -- The marks of pairs, as the code has them. Assumes nothing.
 use mathlib.Core.Path.{◌≡◌, refl, sym, ap, ◌∙◌, subst}
 use mathlib.Core.Logic.{◌≢◌}
-use mathlib.Core.Bool.{Bool, true, false, ◌&&◌, ◌||◌}
+use mathlib.Core.Bool.{Bool, true, false, not, ◌&&◌, ◌||◌}
 use mathlib.Core.List.{List, []}
 use Prim.Native.Nat.{ℕ, suc, ◌+◌, ◌*◌, ◌/◌, ◌%◌, ◌^◌, ◌<◌, ◌≤◌}
 use native.Mathlib.Omega.{arith}
@@ -10,6 +10,7 @@ use native.Mathlib.Decide.{ℕ_discrete}
 use lib.ListN.{length, get_or, set, drop, replicate, length-map, length-replicate, get_or-map, drop_of_length-le}
 use lib.Seq.{get_or-set_same, get_or-set_other, ext_get_or}
 use lib.Bits.{bit_or, or_zero_l}
+use lib.Dec.{eqb}
 use borrow.Author.Tests.{eq-eqb, ne_eqb}
 use Rattle.lists.specs.Lists.{any, upto}
 use Rattle.lists.specs.Bits.{has}
@@ -39,6 +40,13 @@ pub first_told : (x y : ℕ) → x / 2 % 2 ≢ 1 → false ≡ is_accepting (pai
 unfolding is_accepting
 first_told x y h = sym (ne_eqb _ _ (λ e. h ((byte_accepting x y).0 e).0))
 
+pub accepts_by : (x y : ℕ) → x / 2 % 2 ≡ 1 → not (eqb (y / 2 % 2) 1) ≡ is_accepting (pair_byte x y)
+accepts_by x y h = go (ℕ_discrete (y / 2 % 2) 1)
+  where
+    go : Dec (y / 2 % 2 ≡ 1) → not (eqb (y / 2 % 2) 1) ≡ is_accepting (pair_byte x y)
+    go (yes e) = ap not (eq-eqb _ _ e) ∙ second_told x y e
+    go (no n) = ap not (ne_eqb _ _ n) ∙ accepts_told x y h n
+
 -- ---- the pairs from u on
 
 abbrev test_at : ℕ → Table → List ℕ → ℕ → Bool
@@ -67,7 +75,6 @@ module _ {first second rows : List ℕ} {u : ℕ} (w : Ending first second rows 
   here :
       (s t : Table) (F : List ℕ)
       → any (test_at (length first * (length second + 1)) (pair_table s t) F) (drop u (upto (length first * (length second + 1)))) ≡ (test_at (length first * (length second + 1)) (pair_table s t) F u || any (test_at (length first * (length second + 1)) (pair_table s t) F) (drop (u + 1) (upto (length first * (length second + 1)))))
-  unfolding any
   here s t F = ap (any (test_at (length first * (length second + 1)) (pair_table s t) F)) (upto_on (length first * (length second + 1)) u l)
 
   module _ {x y : ℕ} (ex : x ≡ get_or first (u / (length second + 1)) 0) (ey : y ≡ get_or second (u % (length second + 1)) 0) where
@@ -91,7 +98,6 @@ module _ {first second rows : List ℕ} {u : ℕ} (w : Ending first second rows 
 pub ending_done :
     {first second rows : List ℕ} {u : ℕ} → Ending first second rows u → length first * (length second + 1) ≤ u → (s t : Table) → s.states ≡ first
     → t.states ≡ second → (F : List ℕ) → Holds rows F → false ≡ ends (length first * suc (length second)) (pair_table s t) F
-unfolding any
 ending_done {first} {second} {rows} {u} w l s t es et F h = sym (w.meets s t es et F h ∙ ap (any (test_at (length first * (length second + 1)) (pair_table s t) F)) (drop_of_length-le (upto (length first * (length second + 1))) {i = u} (omega (arith, length-upto (length first * (length second + 1))))))
 
 -- ---- the initial pairs
@@ -107,6 +113,13 @@ first-not x y h = sym (ne_eqb _ _ (λ e. h ((byte_initial x y).0 e).0))
 pub second-not : (x y : ℕ) → y % 2 ≢ 1 → false ≡ is_initial (pair_byte x y)
 unfolding is_initial
 second-not x y h = sym (ne_eqb _ _ (λ e. h ((byte_initial x y).0 e).1))
+
+pub starts_by : (x y : ℕ) → x % 2 ≡ 1 → eqb (y % 2) 1 ≡ is_initial (pair_byte x y)
+starts_by x y h = go (ℕ_discrete (y % 2) 1)
+  where
+    go : Dec (y % 2 ≡ 1) → eqb (y % 2) 1 ≡ is_initial (pair_byte x y)
+    go (yes e) = eq-eqb _ _ e ∙ starts_told x y h e
+    go (no n) = ne_eqb _ _ n ∙ second-not x y n
 
 pub start_put : (byte u bottom : ℕ) {g : List ℕ} (F : List ℕ) → true ≡ is_initial byte → Holds g (add F u (2 ^ bottom)) → Holds g (start_step byte u bottom F)
 unfolding start_step

@@ -1,16 +1,14 @@
 -- The rounds that the code makes are those of the definitions. Assumes nothing.
 use mathlib.Core.Path.{◌≡◌, refl, sym, ap, ◌∙◌, subst}
-use mathlib.Core.Logic.{◌≢◌}
 use mathlib.Core.Bool.{Bool, true, false, ◌&&◌}
-use mathlib.Core.List.{List}
+use mathlib.Core.List.{List, [], ◌∷◌}
 use Prim.Native.Nat.{ℕ, suc, ◌+◌, ◌-◌, ◌*◌, ◌<◌, ◌≤◌}
 use native.Mathlib.Omega.{arith}
 use native.Mathlib.Nat.{mul-le-mul}
 use native.Mathlib.Numerals.{add-one}
-use lib.ListN.{length, get_or, drop, drop_of_length-le}
-use lib.Seq.{drop-cons}
+use lib.ListN.{length}
 use lib.Dec.{eqb}
-use borrow.Author.Tests.{eq-eqb, ne_eqb}
+use lib.Pointwise.{pointwise}
 use Rattle.lists.specs.Lists.{same}
 use Rattle.lists.proofs.Members.{same_true}
 use Rattle.table_spec.specs.File.{Table, records}
@@ -22,35 +20,14 @@ use Rattle.fit_rounds.specs.declared.pairs.Kind.TheVariants.{Internal, Call}
 use Rattle.fit_rounds.proofs.Holding.{same-held}
 use Rattle.fit_rounds.proofs.Passing.{turns_then, turns_as}
 
--- ---- two lists compared from their starts
+-- ---- two lists compared by the library
 
-pub record Comparing (size : ℕ) (a b : List ℕ) (i : ℕ) : Type 0 where
-  pub inside : i ≤ size
-  pub left : length a ≡ size
-  pub right : length b ≡ size
-  pub meets : same a b ≡ same (drop i a) (drop i b)
-
-pub comparing : (size : ℕ) (a b : List ℕ) → length a ≡ size → length b ≡ size → Comparing size a b 0
-comparing size a b h k = record { inside = omega arith; left = h; right = k; meets = refl }
-
-module _ {size : ℕ} {a b : List ℕ} {i : ℕ} (p : Comparing size a b i) where
-  compare_here : i < size → (t : Bool) → eqb (get_or a i 0) (get_or b i 0) ≡ t → same a b ≡ (t && same (drop (i + 1) a) (drop (i + 1) b))
-  unfolding same
-  compare_here h t e =
-      p.meets
-      ∙ (λ j. same (drop-cons a i 0 (omega (arith, p.left)) j) (drop-cons b i 0 (omega (arith, p.right)) j))
-      ∙ ap (λ u. u && same (drop (suc i) a) (drop (suc i) b)) e
-      ∙ ap (λ n. t && same (drop n a) (drop n b)) (sym (add-one i))
-
-  pub compare_on : i < size → get_or a i 0 ≡ get_or b i 0 → Comparing size a b (i + 1)
-  compare_on h e = record { inside = omega arith; left = p.left; right = p.right; meets = compare_here h true (eq-eqb _ _ e) }
-
-  pub differ : i < size → get_or a i 0 ≢ get_or b i 0 → false ≡ same a b
-  differ h n = sym (compare_here h false (ne_eqb _ _ n))
-
-  pub compared : size ≤ i → true ≡ same a b
-  unfolding same
-  compared h = sym (p.meets ∙ (λ j. same (drop_of_length-le a {i = i} (omega (arith, p.left)) j) (drop_of_length-le b {i = i} (omega (arith, p.right)) j)))
+pub pointwise_same : (a b : List ℕ) → pointwise eqb a b ≡ same a b
+unfolding same
+pointwise_same [] [] = refl
+pointwise_same [] (y ∷ ys) = refl
+pointwise_same (x ∷ xs) [] = refl
+pointwise_same (x ∷ xs) (y ∷ ys) = ap (λ t. eqb x y && t) (pointwise_same xs ys)
 
 -- ---- a round
 
@@ -87,6 +64,10 @@ resting internals calls returns moves pushes pops k n f = record {
   long = λ s t d F h l. l;
   meets = λ s t d F h l. ap (λ i. rounds i (pair_table s t) F) (sym (add-one (k * (n + 1) * (k * (n + 1) + 1)) ∙ ap suc (ap (λ j. k * (n + 1) * j) (add-one (k * (n + 1))) ∙ ap (λ j. k * j * suc (k * j)) (add-one n))));
 }
+
+pub rest_as : {internals calls returns moves pushes pops : List ℕ} {k n : ℕ} {f g : List ℕ} {left left' : ℕ} → left ≡ left' → Resting internals calls returns moves pushes pops k n f g left
+    → Resting internals calls returns moves pushes pops k n f g left'
+rest_as {internals} {calls} {returns} {moves} {pushes} {pops} {k} {n} {f} {g} e w = subst (λ (m : ℕ). Resting internals calls returns moves pushes pops k n f g m) e w
 
 turn : (P : Table) (F : List ℕ) (left : ℕ) → 0 < left → (b : Bool) → same (round P F) F ≡ b → rounds left P F ≡ elim b [ true ↦ F | false ↦ rounds (left - 1) P (round P F) ]
 unfolding rounds

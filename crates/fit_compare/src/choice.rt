@@ -15,12 +15,10 @@ fn initials(states: &[u8]) -> usize
     ensures { result ≡ length (filter is_initial states.now) }
 {
     let mut count: usize = 0;
-    let mut q: usize = 0;
-    'states: while q < states.len() {
-        if states[q] % 2 == 1 {
+    'states: for state in states {
+        if *state % 2 == 1 {
             count += 1;
         }
-        q += 1;
     }
     count
 }
@@ -33,16 +31,12 @@ fn one_target(width: usize, section: &[u8]) -> bool
     if section.len() < width {
         return true;
     }
-    let mut at = width;
-    'records: while width <= section.len() - at {
-        let last = at - width;
-        let end = at - 1;
-        let next = at + width;
-        let target = next - 1;
-        if check::same(&section[last..end], &section[at..target]) {
+    let mut last = &section[..width];
+    'records: for fields in section[width..].chunks_exact(width) {
+        if last[..width - 1] == fields[..width - 1] {
             return false;
         }
-        at = next;
+        last = fields;
     }
     true
 }

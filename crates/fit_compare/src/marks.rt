@@ -10,23 +10,14 @@ use fit_rounds::{held, put};
 fn byte_at(states: &[u8], q: usize) -> u8
     ensures { result ≡ get_or states.now q 0 }
 {
-    if states.len() <= q {
-        return 0;
-    }
-    states[q]
+    states.get(q).copied().unwrap_or(0)
 }
 
 // The first accepts and the second does not.
 fn accepts(first: u8, second: u8) -> bool
     ensures { result ≡ is_accepting (pair_byte first second) }
 {
-    if first / 2 % 2 != 1 {
-        return false;
-    }
-    if second / 2 % 2 == 1 {
-        return false;
-    }
-    true
+    first / 2 % 2 == 1 && second / 2 % 2 != 1
 }
 
 // The pair u of such states has the bottom among its tops.
@@ -47,14 +38,12 @@ pub fn any_ends(first: &[u8], second: &[u8], rows: &[u64; 6000]) -> bool
 {
     let width = second.len() + 1;
     let bottom = first.len() * width;
-    let mut u: usize = 0;
-    'pairs: while u < bottom {
+    'pairs: for u in 0..bottom {
         let p = byte_at(first, u / width);
         let q = byte_at(second, u % width);
         if ends_at(p, q, rows, u, bottom) {
             return true;
         }
-        u += 1;
     }
     false
 }
@@ -63,13 +52,7 @@ pub fn any_ends(first: &[u8], second: &[u8], rows: &[u64; 6000]) -> bool
 fn starts(first: u8, second: u8) -> bool
     ensures { result ≡ is_initial (pair_byte first second) }
 {
-    if first % 2 != 1 {
-        return false;
-    }
-    if second % 2 != 1 {
-        return false;
-    }
-    true
+    first % 2 == 1 && second % 2 == 1
 }
 
 // The pair u of such states gains the bottom.
@@ -89,11 +72,9 @@ pub fn start_rows(first: &[u8], second: &[u8], rows: &mut [u64; 6000])
 {
     let width = second.len() + 1;
     let bottom = first.len() * width;
-    let mut u: usize = 0;
-    'pairs: while u < bottom {
+    'pairs: for u in 0..bottom {
         let p = byte_at(first, u / width);
         let q = byte_at(second, u % width);
         start_at(p, q, u, bottom, rows);
-        u += 1;
     }
 }

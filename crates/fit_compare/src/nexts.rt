@@ -31,11 +31,9 @@ pub fn next_moves(section: &[u8], sink: u8) -> [u8; 800]
     ensures { NextMoves sink (records 3 section.now) result × Nexts sink result }
 {
     let mut next = [0u8; 800];
-    let mut i: usize = 0;
-    'moves: while i < 800 {
+    'moves: for i in 0..800 {
         let wanted = table_find::move_key(narrow(i / 32), narrow(i % 32));
         next[i] = target_of(section, 3, wanted, sink);
-        i += 1;
     }
     next
 }
@@ -46,11 +44,9 @@ pub fn next_returns(section: &[u8], sink: u8) -> [u8; 20000]
     ensures { NextReturns sink (records 4 section.now) result × Nexts sink result }
 {
     let mut next = [0u8; 20000];
-    let mut i: usize = 0;
-    'returns: while i < 20000 {
+    'returns: for i in 0..20000 {
         let wanted = table_find::return_key(narrow(i / 800), narrow(i / 25 % 32), narrow(i % 25));
         next[i] = target_of(section, 4, wanted, sink);
-        i += 1;
     }
     next
 }

@@ -14,17 +14,11 @@ use fit_worklist::quick;
 use table_spec::Starts;
 use table_view::Section;
 
-fn same_rows(a: [u64; 6000], b: [u64; 6000]) -> bool
-    ensures { result ≡ same a b }
+// The same words stand in both.
+fn same_rows(a: &[u64; 6000], b: &[u64; 6000]) -> bool
+    ensures { result ≡ same a.now b.now }
 {
-    let mut i: usize = 0;
-    'words: while i < 6000 {
-        if a[i] != b[i] {
-            return false;
-        }
-        i += 1;
-    }
-    true
+    a == b
 }
 
 // So many rounds are enough, as for the tops of a table.
@@ -44,17 +38,15 @@ fn rest(
         rows.old rows.new }
 {
     let pairs = k * (n + 1);
-    let mut left = pairs * (pairs + 1) + 1;
-    'rounds: while 0 < left {
+    let most = pairs * (pairs + 1) + 1;
+    'rounds: for _round in 0..most {
         let old = *rows;
         by_moves(Kind::Internal, internals, moves, n, rows);
         by_moves(Kind::Call, calls, pushes, n, rows);
         by_returns(returns, pops, n, rows);
-        let new = *rows;
-        if same_rows(new, old) {
+        if same_rows(rows, &old) {
             return;
         }
-        left -= 1;
     }
 }
 

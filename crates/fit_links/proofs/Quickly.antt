@@ -2,21 +2,22 @@
 use mathlib.Core.Path.{◌≡◌, refl, sym, ap, ◌∙◌, subst}
 use mathlib.Core.Logic.{◌≢◌, ◌⊎◌, inl, inr}
 use mathlib.Core.Bool.{Bool, true, false, not, true≢false}
+use mathlib.Core.List.Memᴰ.{not-nil}
 use mathlib.Core.List.Memᴰ
 use mathlib.Core.List.{List, [], ◌∷◌, ◌++◌, append-nil, Memᴰ}
-use mathlib.Core.Option.{Option, none, some}
-use Prim.Native.Nat.{ℕ, suc, ◌+◌, ◌-◌, ◌*◌, ◌/◌, ◌%◌, ◌^◌, ◌<◌, ◌≤◌}
+use mathlib.Core.Option.{Option, some}
+use Prim.Native.Nat.{ℕ, zero, suc, ◌+◌, ◌-◌, ◌*◌, ◌/◌, ◌%◌, ◌^◌, ◌<◌, ◌≤◌}
 use native.Mathlib.Omega.{arith}
 use native.Mathlib.Numerals.{add-one}
 use native.Mathlib.Decide.{ℕ_discrete, dec_lt}
-use native.Mathlib.Nat.{le_refl, add-zero, suc-mul, mod-lt, div-lt_iff_lt-mul}
+use native.Mathlib.Nat.{le_refl, suc-mul, mod-lt, div-lt_iff_lt-mul}
 use lib.ListN.{length, get_or, set, take, drop, replicate, length-map, length-set, length-replicate, length-drop, get_or-eq_default}
-use lib.Seq.{length-take-le, get_or-set_same, get_or-set_other}
+use lib.Seq.{take_all, get_or-set_same, get_or-set_other}
 use lib.Pow.{pow_pos}
 use lib.Bits.{bit_or}
 use lib.Dec.{eqb}
 use borrow.Author.Count.{below_more}
-use borrow.Author.Tests.{eq-eqb, ne_eqb, eqb-false, not-true}
+use borrow.Author.Tests.{eq-eqb, ne_eqb, eqb-true, eqb-false, not-true}
 use Rattle.lists.specs.Lists.{parts}
 use Rattle.lists.specs.Bits.{Bit, has}
 use Rattle.lists.proofs.Members.{get_d_mem}
@@ -30,11 +31,13 @@ use Rattle.table_spec.specs.Reading.{WellFormed}
 use Rattle.table_spec.specs.Language.{count}
 use Rattle.tops_spec.specs.Tops.{top_named, add, rounds, start_words, top_words_at}
 use Rattle.table_spec.proofs.Facts.{internals-fit, calls-fit, returns-fit, three_bytes, four_bytes}
+use Rattle.table_spec.proofs.Chunks.{chunk_on}
+use Rattle.table_find.proofs.Walks.{records-cons, records_end}
+use Rattle.table_find.proofs.Spanning.{record_inside}
 use Rattle.tops_spec.proofs.Walks.{add-bit, add-below, length-add}
 use Rattle.tops_spec.proofs.Bounded.{Bounded}
 use Rattle.tops_spec.proofs.Formed.{bounded}
 use Rattle.tops_spec.proofs.Exact.{start_sound, rounds-alike}
-use Rattle.tops.proofs.Loops.{record_byte}
 use Rattle.fit_spec.specs.Fit.{pair_of, after, pair_move, pair_return, pair_count, pair_table, pair_tops}
 use Rattle.fit_spec.proofs.Numbers.{pair-below}
 use Rattle.fit_spec.proofs.Tables.{count-pairs, pairs_bounded, moves_of, returns_of, internals_sides, calls_sides, returns_sides}
@@ -92,33 +95,39 @@ module _ {s t : Table} where
   pub held_link : {e : List ℕ} {u v : ℕ} → ((F : List ℕ) → Holds e F → true ≡ has F u v) → Links s t e → Follows s t u v
   held_link {u = u} {v = v} h p = p.follow u v (has-true p.words u v (sym (h p.words p.holds)))
 
--- ---- the walk over two rows
+-- ---- the walk over two rows: row v has every bit of row u in the words below k
 
 pub record Covering (u v : ℕ) (f : List ℕ) (k : ℕ) : Type 0 where
   pub few : k ≤ 10
-  pub meets : covered_in 10 u v f ≡ covered_in k u v f
+  pub meets : covered_in k u v f ≡ true
 
-pub covering : (u v : ℕ) (f : List ℕ) → Covering u v f 10
+pub covering : (u v : ℕ) (f : List ℕ) → Covering u v f 0
+unfolding covered_in
 covering u v f = record { few = omega arith; meets = refl }
 
-module _ {u v : ℕ} {f : List ℕ} {k : ℕ} (i : Covering u v f k) (l : 0 < k) where
-  here :
-      (b : Bool) → eqb (bit_or (get_or f (v * 10 + (k - 1)) 0) (get_or f (u * 10 + (k - 1)) 0)) (get_or f (v * 10 + (k - 1)) 0) ≡ b
-      → covered_in 10 u v f ≡ elim b [ true ↦ covered_in (k - 1) u v f | false ↦ false ]
-  unfolding covered_in
-  here b e =
-      let z : k ≡ suc (k - 1) = omega arith in
-      i.meets ∙ ap (λ n. covered_in n u v f) z ∙ ap (λ (c : Bool). elim c as (λ _. Bool) [ true ↦ covered_in (k - 1) u v f | false ↦ false ]) e
-
-  pub cover_on : bit_or (get_or f (v * 10 + (k - 1)) 0) (get_or f (u * 10 + (k - 1)) 0) ≡ get_or f (v * 10 + (k - 1)) 0 → Covering u v f (k - 1)
-  cover_on e = record { few = omega (arith, i.few); meets = here true (eq-eqb _ _ e) }
-
-  pub cover_not : bit_or (get_or f (v * 10 + (k - 1)) 0) (get_or f (u * 10 + (k - 1)) 0) ≢ get_or f (v * 10 + (k - 1)) 0 → false ≡ covered_in 10 u v f
-  cover_not n = sym (here false (ne_eqb _ _ n))
-
-pub covered : {u v : ℕ} {f : List ℕ} {k : ℕ} → Covering u v f k → k ≤ 0 → true ≡ covered_in 10 u v f
+-- no word of ten may differ
+cover_at : (u v : ℕ) (f : List ℕ) (n k : ℕ) → k < n → bit_or (get_or f (v * 10 + k) 0) (get_or f (u * 10 + k) 0) ≢ get_or f (v * 10 + k) 0 → covered_in n u v f ≡ false
 unfolding covered_in
-covered {u} {v} {f} {k} i l = let z : k ≡ 0 = omega arith in sym (i.meets ∙ ap (λ n. covered_in n u v f) z)
+cover_at u v f zero k l d = absurd (omega arith)
+cover_at u v f (suc n) k l d = go (ℕ_discrete k n) (eqb (bit_or (get_or f (v * 10 + n) 0) (get_or f (u * 10 + n) 0)) (get_or f (v * 10 + n) 0)) refl (cover_at u v f n k)
+  where
+    go : Dec (k ≡ n) → (b : Bool) → eqb (bit_or (get_or f (v * 10 + n) 0) (get_or f (u * 10 + n) 0)) (get_or f (v * 10 + n) 0) ≡ b
+        → (k < n → bit_or (get_or f (v * 10 + k) 0) (get_or f (u * 10 + k) 0) ≢ get_or f (v * 10 + k) 0 → covered_in n u v f ≡ false)
+        → ◌≡◌ {A = Bool} (elim b [ true ↦ covered_in n u v f | false ↦ false ]) false
+    go e false g r = refl
+    go (yes e) true g r = absurd (d (subst (λ (i : ℕ). bit_or (get_or f (v * 10 + i) 0) (get_or f (u * 10 + i) 0) ≡ get_or f (v * 10 + i) 0) (sym e) (eqb-true _ _ g)))
+    go (no e) true g r = r (omega arith) d
+
+module _ {u v : ℕ} {f : List ℕ} {k : ℕ} (i : Covering u v f k) (l : k < 10) where
+  pub cover_on : bit_or (get_or f (v * 10 + k) 0) (get_or f (u * 10 + k) 0) ≡ get_or f (v * 10 + k) 0 → Covering u v f (k + 1)
+  unfolding covered_in
+  cover_on e = record { few = omega arith; meets = ap (λ n. covered_in n u v f) (add-one k) ∙ rw (eq-eqb _ _ e, covered_in) i.meets }
+
+  pub cover_not : bit_or (get_or f (v * 10 + k) 0) (get_or f (u * 10 + k) 0) ≢ get_or f (v * 10 + k) 0 → false ≡ covered_in 10 u v f
+  cover_not d = sym (cover_at u v f 10 k l d)
+
+pub covered : {u v : ℕ} {f : List ℕ} {k : ℕ} → Covering u v f k → 10 ≤ k → true ≡ covered_in 10 u v f
+covered {u} {v} {f} {k} i l = let z : 10 ≡ k = omega (arith, i.few) in sym (ap (λ n. covered_in n u v f) z ∙ i.meets)
 
 -- ---- the record at a place
 
@@ -142,27 +151,54 @@ module _ (w : ℕ) (section : List ℕ) {at : ℕ} (pos : 0 < w) (p : Place w se
 pub place-first : (w : ℕ) (section : List ℕ) → Place w section 0
 place-first w section = record { index = 0; whole = omega arith; inside = omega arith }
 
-module _ {section : List ℕ} {at : ℕ} (p : Place 3 section at) (l : 3 ≤ length section - at) {x a y : ℕ} (ex : x ≡ get_or section at 0) (ea : a ≡ get_or section (at + 1) 0) (ey : y ≡ get_or section (at + 2) 0) where
+-- the records that are left are records of the section
+pub record Among (w : ℕ) (section rest : List ℕ) : Type 0 where
+  pub each : (r : List ℕ) → Memᴰ r (records w rest) → Memᴰ r (records w section)
+
+pub among-all : (w : ℕ) (section : List ℕ) {rest : List ℕ} → rest ≡ section → Among w section rest
+among-all w section e = record { each = λ r m. subst (λ (v : List ℕ). Memᴰ r (records w v)) e m }
+
+-- from a place on
+among-by : (w : ℕ) (section : List ℕ) → 0 < w → (fuel at : ℕ) → length section - at ≤ fuel → Place w section at → (r : List ℕ) → Memᴰ r (records w (drop at section)) → Memᴰ r (records w section)
+among-by w section pos zero at h p r m = absurd (not-nil (subst (λ (rs : List (List ℕ)). Memᴰ r rs) (records_end w section at (omega arith)) m))
+among-by w section pos (suc fuel) at h p r m =
+    go (dec_lt (length section - at) w) (λ c. among-by w section pos fuel (at + w) (omega arith) (place_on w section pos p c) r)
+  where
+    step : w ≤ length section - at → Memᴰ r (take w (drop at section) ∷ records w (drop (at + w) section)) → (Memᴰ r (records w (drop (at + w) section)) → Memᴰ r (records w section)) → Memᴰ r (records w section)
+    step c (Memᴰ.head e) f = Memᴰ.cast e (place-mem w section pos p c)
+    step c (Memᴰ.tail n) f = f n
+
+    go : Dec (length section - at < w) → (w ≤ length section - at → Memᴰ r (records w (drop (at + w) section)) → Memᴰ r (records w section)) → Memᴰ r (records w section)
+    go (yes l) f = absurd (not-nil (subst (λ (rs : List (List ℕ)). Memᴰ r rs) (records_end w section at l) m))
+    go (no l) f = let c : w ≤ length section - at = omega arith in step c (subst (λ (rs : List (List ℕ)). Memᴰ r rs) (records-cons w section at pos (omega (arith, p.inside))) m) (f c)
+
+-- a part up to the end
+pub to_the_end : (at : ℕ) (section : List ℕ) → take (length section - at) (drop at section) ≡ drop at section
+to_the_end at section = take_all (length section - at) (drop at section) (omega (arith, length-drop at section))
+
+pub among-place : (w : ℕ) (section : List ℕ) {at : ℕ} {rest : List ℕ} → 0 < w → Place w section at → rest ≡ drop at section → Among w section rest
+among-place w section {at} pos p e = record { each = λ r m. among-by w section pos (length section - at) at (omega arith) p r (subst (λ (v : List ℕ). Memᴰ r (records w v)) e m) }
+
+module _ {w : ℕ} {section rest : List ℕ} (g : Among w section rest) (x after : List ℕ) (pos : 0 < w) (d : rest ≡ x ++ after) (l : length x ≡ w) where
+  left-cons : records w rest ≡ x ∷ records w after
+  left-cons = chunk_on rest x after pos d l
+
+  pub among-here : Memᴰ x (records w section)
+  among-here = g.each x (rw left-cons (Memᴰ.head refl))
+
+  pub among_on : Among w section after
+  among_on = record { each = λ r m. g.each r (rw left-cons (Memᴰ.tail m)) }
+
+module _ (section r : List ℕ) (m : Memᴰ r (records 3 section)) (l : length r ≡ 3) {x a y : ℕ} (ex : x ≡ get_or r 0 0) (ea : a ≡ get_or r 1 0) (ey : y ≡ get_or r 2 0) where
   pub move_there : Memᴰ (x ∷ a ∷ y ∷ []) (records 3 section)
-  move_there =
-      let r = take 3 (drop at section) in
-      let e0 : get_or r 0 0 ≡ x = record_byte 3 section at 0 (omega arith) ∙ ap (λ i. get_or section i 0) (add-zero at) ∙ sym ex in
-      let e1 : get_or r 1 0 ≡ a = record_byte 3 section at 1 (omega arith) ∙ sym ea in
-      let e2 : get_or r 2 0 ≡ y = record_byte 3 section at 2 (omega arith) ∙ sym ey in
-      Memᴰ.cast (sym (three_bytes r (length-take-le 3 (drop at section) (omega (arith, length-drop at section))) ∙ (λ i. e0 i ∷ e1 i ∷ e2 i ∷ []))) (place-mem 3 section (omega arith) p l)
+  move_there = Memᴰ.cast (sym (three_bytes r l ∙ (λ i. sym ex i ∷ sym ea i ∷ sym ey i ∷ []))) m
 
   pub move_small : {k : ℕ} → Named 3 k section → (x < k) × (a < 32) × (y < k)
   move_small h = (h.states _ move_there 0 (λ z. absurd (omega arith)) (omega arith), h.symbols _ move_there, h.states _ move_there 2 (λ z. absurd (omega arith)) (omega arith))
 
-module _ {section : List ℕ} {at : ℕ} (p : Place 4 section at) (l : 4 ≤ length section - at) {x a y z : ℕ} (ex : x ≡ get_or section at 0) (ea : a ≡ get_or section (at + 1) 0) (ey : y ≡ get_or section (at + 2) 0) (ez : z ≡ get_or section (at + 3) 0) where
+module _ (section r : List ℕ) (m : Memᴰ r (records 4 section)) (l : length r ≡ 4) {x a y z : ℕ} (ex : x ≡ get_or r 0 0) (ea : a ≡ get_or r 1 0) (ey : y ≡ get_or r 2 0) (ez : z ≡ get_or r 3 0) where
   pub return-there : Memᴰ (x ∷ a ∷ y ∷ z ∷ []) (records 4 section)
-  return-there =
-      let r = take 4 (drop at section) in
-      let e0 : get_or r 0 0 ≡ x = record_byte 4 section at 0 (omega arith) ∙ ap (λ i. get_or section i 0) (add-zero at) ∙ sym ex in
-      let e1 : get_or r 1 0 ≡ a = record_byte 4 section at 1 (omega arith) ∙ sym ea in
-      let e2 : get_or r 2 0 ≡ y = record_byte 4 section at 2 (omega arith) ∙ sym ey in
-      let e3 : get_or r 3 0 ≡ z = record_byte 4 section at 3 (omega arith) ∙ sym ez in
-      Memᴰ.cast (sym (four_bytes r (length-take-le 4 (drop at section) (omega (arith, length-drop at section))) ∙ (λ i. e0 i ∷ e1 i ∷ e2 i ∷ e3 i ∷ []))) (place-mem 4 section (omega arith) p l)
+  return-there = Memᴰ.cast (sym (four_bytes r l ∙ (λ i. sym ex i ∷ sym ea i ∷ sym ey i ∷ sym ez i ∷ []))) m
 
   pub return-small : {k : ℕ} → Named 4 k section → (x < k) × (a < 32) × (y < k) × (z < k)
   return-small h = (
@@ -228,12 +264,12 @@ module _ {s t : Table} {k n : ℕ} where
 
 -- ---- the loops
 
-pub record PushingOn (p b n : ℕ) (calls pushes f g : List ℕ) (at : ℕ) : Type 0 where
-  pub place : Place 3 calls at
+pub record PushingOn (p b n : ℕ) (calls pushes f g rest : List ℕ) : Type 0 where
+  pub left : Among 3 calls rest
   pub kept : PushesOn p b n calls pushes f g
 
-pub record PoppingOver (p b y n : ℕ) (returns pops f e g h : List ℕ) (at : ℕ) : Type 0 where
-  pub place : Place 4 returns at
+pub record PoppingOver (p b y n : ℕ) (returns pops f e g h rest : List ℕ) : Type 0 where
+  pub left : Among 4 returns rest
   pub kept : PopsOver p b y n returns pops f e g h
 
 -- a record of a table that was read names states below its count
@@ -247,17 +283,17 @@ module _ {s t : Table} {k n : ℕ} where
   return-state : {returns pops : List ℕ} → Popping s t k n returns pops → (r : List ℕ) → Memᴰ r (records 4 returns) → (i : ℕ) → i ≢ 1 → i < 4 → get_or r i 0 < k
   return-state h r m i d l = subst (λ (j : ℕ). get_or r i 0 < j) h.counts.firsts ((returns-fit h.counts.first).states r (subst (λ (rs : List (List ℕ)). Memᴰ r rs) (sym h.are) m) i d l)
 
-pub pushing_first : {p b n : ℕ} {calls pushes f : List ℕ} {at : ℕ} → Place 3 calls at → PushingOn p b n calls pushes f f at
-pushing_first e = record { place = e; kept = λ s t k h o x y. y }
+pub pushing_first : {p b n : ℕ} {calls pushes f rest : List ℕ} → Among 3 calls rest → PushingOn p b n calls pushes f f rest
+pushing_first e = record { left = e; kept = λ s t k h o x y. y }
 
-module _ {p b n : ℕ} {calls pushes f g : List ℕ} {at : ℕ} (w : PushingOn p b n calls pushes f g at) (l : 3 ≤ length calls - at)
-    {a q to u v : ℕ} (ep : p ≡ get_or calls at 0) (ea : a ≡ get_or calls (at + 1) 0) (eq : q ≡ get_or calls (at + 2) 0) (et : to ≡ get_or pushes (b * 32 + a) 0)
+module _ {p b n : ℕ} {calls pushes f g rest : List ℕ} (w : PushingOn p b n calls pushes f g rest) (r after : List ℕ) (is : rest ≡ r ++ after) (l : length r ≡ 3)
+    {a q to u v : ℕ} (ep : p ≡ get_or r 0 0) (ea : a ≡ get_or r 1 0) (eq : q ≡ get_or r 2 0) (et : to ≡ get_or pushes (b * 32 + a) 0)
     (eu : u ≡ p * (n + 1) + b) (ev : v ≡ q * (n + 1) + to) (lb : b ≤ n) (la : a < 32) (lt : to ≤ n) where
-  pub push_on : {h : List ℕ} → ((s t : Table) → v < pair_count s t → u < pair_count s t → PairTop s t v (some u) → SomeTops s t g → SomeTops s t h) → PushingOn p b n calls pushes f h (at + 3)
-  push_on {h} j = record { place = place_on 3 calls (omega arith) w.place l; kept = λ s t k d o x y. go s t k d o x (w.kept s t k d o x y) }
+  pub push_on : {h : List ℕ} → ((s t : Table) → v < pair_count s t → u < pair_count s t → PairTop s t v (some u) → SomeTops s t g → SomeTops s t h) → PushingOn p b n calls pushes f h after
+  push_on {h} j = record { left = among_on w.left r after (omega arith) is l; kept = λ s t k d o x y. go s t k d o x (w.kept s t k d o x y) }
     where
       m : Memᴰ (p ∷ a ∷ q ∷ []) (records 3 calls)
-      m = move_there w.place l ep ea eq
+      m = move_there _ r (among-here w.left r after (omega arith) is l) l ep ea eq
 
       go : (s t : Table) (k : ℕ) → Pushing s t k n calls pushes → (o : Option ℕ) → PairTop s t (p * (n + 1) + b) o → SomeTops s t g → SomeTops s t h
       go s t k d o x y =
@@ -267,48 +303,46 @@ module _ {p b n : ℕ} {calls pushes f g : List ℕ} {at : ℕ} (w : PushingOn p
           (subst (λ (i : ℕ). i < pair_count s t) (sym eu) (pair_inside d.counts (call-state d _ m 0 (λ e. absurd (omega arith)) (omega arith)) lb))
           (subst (λ i. PairTop s t i (some u)) (sym ev) (subst (λ i. PairTop s t (q * (n + 1) + to) (some i)) (sym eu) z)) y
 
-pub popping_first : {p b y n : ℕ} {returns pops f e : List ℕ} {at : ℕ} → Place 4 returns at → PoppingOver p b y n returns pops f e f e at
-popping_first i = record { place = i; kept = λ s t k h l x y. y }
+pub popping_first : {p b y n : ℕ} {returns pops f e rest : List ℕ} → Among 4 returns rest → PoppingOver p b y n returns pops f e f e rest
+popping_first i = record { left = i; kept = λ s t k h l x y. y }
 
-module _ {p b y n : ℕ} {returns pops f e g i : List ℕ} {at : ℕ} (w : PoppingOver p b y n returns pops f e g i at) (l : 4 ≤ length returns - at) where
-  pub pop_past : PoppingOver p b y n returns pops f e g i (at + 4)
-  pop_past = record { place = place_on 4 returns (omega arith) w.place l; kept = w.kept }
+module _ {p b y n : ℕ} {returns pops f e g i rest : List ℕ} (w : PoppingOver p b y n returns pops f e g i rest) (r after : List ℕ) (is : rest ≡ r ++ after) (l : length r ≡ 4) where
+  pub pop_past : PoppingOver p b y n returns pops f e g i after
+  pop_past = record { left = among_on w.left r after (omega arith) is l; kept = w.kept }
 
-  module _ {a z q c to v : ℕ} (ep : p ≡ get_or returns at 0) (ea : a ≡ get_or returns (at + 1) 0) (ez : z ≡ get_or returns (at + 2) 0) (eq : q ≡ get_or returns (at + 3) 0)
+  module _ {a z q c to v : ℕ} (ep : p ≡ get_or r 0 0) (ea : a ≡ get_or r 1 0) (ez : z ≡ get_or r 2 0) (eq : q ≡ get_or r 3 0)
       (ey : z * (n + 1) + c ≡ y) (et : to ≡ get_or pops ((b * 32 + a) * 25 + c) 0) (ev : v ≡ q * (n + 1) + to) (lb : b ≤ n) (la : a < 32) (lc : c ≤ n) (lt : to ≤ n) where
-    pub pop_on : {h j : List ℕ} → ((s t : Table) → y < pair_count s t → v < pair_count s t → Follows s t y v → Linked s t g i → Linked s t h j) → PoppingOver p b y n returns pops f e h j (at + 4)
-    pop_on {h} {j} o = record { place = place_on 4 returns (omega arith) w.place l; kept = λ s t k d ly x r. go s t k d ly x (w.kept s t k d ly x r) }
+    pub pop_on : {h j : List ℕ} → ((s t : Table) → y < pair_count s t → v < pair_count s t → Follows s t y v → Linked s t g i → Linked s t h j) → PoppingOver p b y n returns pops f e h j after
+    pop_on {h} {j} o = record { left = among_on w.left r after (omega arith) is l; kept = λ s t k d ly x o'. go s t k d ly x (w.kept s t k d ly x o') }
       where
         m : Memᴰ (p ∷ a ∷ z ∷ q ∷ []) (records 4 returns)
-        m = return-there w.place l ep ea ez eq
+        m = return-there _ r (among-here w.left r after (omega arith) is l) l ep ea ez eq
 
         go : (s t : Table) (k : ℕ) → Popping s t k n returns pops → y < pair_count s t → PairTop s t (p * (n + 1) + b) (some y) → Linked s t g i → Linked s t h j
-        go s t k d ly x r =
-            let r' = return_follows d m lb la lc et (subst (λ u. PairTop s t (p * (n + 1) + b) (some u)) (sym ey) x) in
+        go s t k d ly x o' =
+            let follows = return_follows d m lb la lc et (subst (λ u. PairTop s t (p * (n + 1) + b) (some u)) (sym ey) x) in
             o s t ly
             (subst (λ (u : ℕ). u < pair_count s t) (sym ev) (pair_inside d.counts (return-state d _ m 3 (λ e. absurd (omega arith)) (omega arith)) lt))
-            (subst (λ u. Follows s t u v) ey (subst (Follows s t (z * (n + 1) + c)) (sym ev) r')) r
+            (subst (λ u. Follows s t u v) ey (subst (Follows s t (z * (n + 1) + c)) (sym ev) follows)) o'
 
 -- ---- places
 
-pub record Placing (w : ℕ) (section places : List ℕ) (at : ℕ) : Type 0 where
-  pub place : Place w section at
+pub record Placing (w : ℕ) (section places : List ℕ) : Type 0 where
   pub places-are : (p : ℕ) → Place w section (get_or places p 0)
 
-pub placing : (w : ℕ) (section : List ℕ) → Placing w section (replicate 24 0) 0
-placing w section = record { place = place-first w section; places-are = λ p. subst (Place w section) (sym (get_d_padded [] 24 p)) (place-first w section) }
+pub placing : (w : ℕ) (section : List ℕ) → Placing w section (replicate 24 0)
+placing w section = record { places-are = λ p. subst (Place w section) (sym (get_d_padded [] 24 p)) (place-first w section) }
 
-module _ {w : ℕ} {section places : List ℕ} {at : ℕ} (pos : 3 ≤ w) (h : Placing w section places at) (l : w ≤ length section - at) where
-  pub placing_on : Placing w section places (at + w)
-  placing_on = record { place = place_on w section (omega arith) h.place l; places-are = h.places-are }
+pub placing_set : {w : ℕ} {section places : List ℕ} → Placing w section places → (k p : ℕ) → k < length section / w → Placing w section (set places p (k * w))
+placing_set {w} {section} {places} h k p l = record { places-are = λ q. go q (ℕ_discrete q p) (dec_lt p (length places)) }
+  where
+    here : Place w section (k * w)
+    here = record { index = k; whole = refl; inside = omega (arith, record_inside w section k l) }
 
-  pub placing_set : (p : ℕ) → Placing w section (set places p at) (at + w)
-  placing_set p = record { place = place_on w section (omega arith) h.place l; places-are = λ q. go q (ℕ_discrete q p) (dec_lt p (length places)) }
-    where
-      go : (q : ℕ) → Dec (q ≡ p) → Dec (p < length places) → Place w section (get_or (set places p at) q 0)
-      go q (no d) e = subst (Place w section) (sym (get_or-set_other places p q at 0 d)) (h.places-are q)
-      go q (yes d) (yes e) = subst (Place w section) (sym (ap (λ i. get_or (set places p at) i 0) d ∙ get_or-set_same places p at 0 e)) h.place
-      go q (yes d) (no e) = subst (Place w section) (sym (get_or-eq_default (set places p at) 0 {n = q} (omega (arith, length-set places p at)))) (place-first w section)
+    go : (q : ℕ) → Dec (q ≡ p) → Dec (p < length places) → Place w section (get_or (set places p (k * w)) q 0)
+    go q (no d) e = subst (Place w section) (sym (get_or-set_other places p q (k * w) 0 d)) (h.places-are q)
+    go q (yes d) (yes e) = subst (Place w section) (sym (ap (λ i. get_or (set places p (k * w)) i 0) d ∙ get_or-set_same places p (k * w) 0 e)) here
+    go q (yes d) (no e) = subst (Place w section) (sym (get_or-eq_default (set places p (k * w)) 0 {n = q} (omega (arith, length-set places p (k * w))))) (place-first w section)
 
 -- ---- tops of a pair, and its links
 
@@ -358,19 +392,19 @@ module _ {p a q n : ℕ} {moves e g : List ℕ} {b : ℕ} (w : Linking p a q n m
           linked j (subst (λ (i : ℕ). i < pair_count s t) (sym eu) (pair_inside d.counts (internal-state d _ m 0 (λ z. absurd (omega arith)) (omega arith)) l))
           (subst (λ i. Follows s t i v) (sym eu) (subst (Follows s t (p * (n + 1) + b)) (sym ev) (internal_follows d m l la et))) x
 
-pub record AllLinking (n : ℕ) (internals moves e g : List ℕ) (at : ℕ) : Type 0 where
-  pub place : Place 3 internals at
+pub record AllLinking (n : ℕ) (internals moves e g rest : List ℕ) : Type 0 where
+  pub left : Among 3 internals rest
   pub kept : AllLinks n internals moves e g
 
-pub all_linking : (n : ℕ) (internals moves e : List ℕ) → AllLinking n internals moves e e 0
-all_linking n internals moves e = record { place = place-first 3 internals; kept = λ s t k h x. x }
+pub all_linking : (n : ℕ) (internals moves e : List ℕ) {rest : List ℕ} → rest ≡ internals → AllLinking n internals moves e e rest
+all_linking n internals moves e d = record { left = among-all 3 internals d; kept = λ s t k h x. x }
 
-module _ {n : ℕ} {internals moves e g : List ℕ} {at : ℕ} (w : AllLinking n internals moves e g at) (l : 3 ≤ length internals - at)
-    {p a q : ℕ} (ep : p ≡ get_or internals at 0) (ea : a ≡ get_or internals (at + 1) 0) (eq : q ≡ get_or internals (at + 2) 0) where
-  pub all_linking_on : {h : List ℕ} → LinksOn p a q n moves g h → AllLinking n internals moves e h (at + 3)
+module _ {n : ℕ} {internals moves e g rest : List ℕ} (w : AllLinking n internals moves e g rest) (r after : List ℕ) (is : rest ≡ r ++ after) (l : length r ≡ 3)
+    {p a q : ℕ} (ep : p ≡ get_or r 0 0) (ea : a ≡ get_or r 1 0) (eq : q ≡ get_or r 2 0) where
+  pub all_linking_on : {h : List ℕ} → LinksOn p a q n moves g h → AllLinking n internals moves e h after
   all_linking_on j = record {
-    place = place_on 3 internals (omega arith) w.place l;
-    kept = λ s t k d x. j s t k internals d (move_there w.place l ep ea eq) (w.kept s t k d x);
+    left = among_on w.left r after (omega arith) is l;
+    kept = λ s t k d x. j s t k internals d (move_there _ r (among-here w.left r after (omega arith) is l) l ep ea eq) (w.kept s t k d x);
   }
 
 -- ---- looks at pairs

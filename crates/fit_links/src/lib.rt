@@ -5,7 +5,6 @@ ghost use Rattle.std.specs.Prelude.{◌≡◌, ◌+◌, ◌*◌, ◌<◌, ◌≤
 ghost use Rattle.fit_rounds.specs.Rows.{Nexts};
 ghost use Rattle.fit_links.specs.Quick.{covered_in, FlowOn, GainOn, LinkOn};
 
-use bits::wide;
 use fit_rounds::{held, join, put};
 
 // Row v has every bit of row u.
@@ -13,9 +12,7 @@ fn covers(rows: &[u64; 6000], u: usize, v: usize) -> bool
     requires { (u < 600) × (v < 600) }
     ensures { result ≡ covered_in 10 u v rows.now }
 {
-    let mut k: usize = 10;
-    'words: while 0 < k {
-        k -= 1;
+    'words: for k in 0..10 {
         let i = v * 10 + k;
         if (rows[i] | rows[u * 10 + k]) != rows[i] {
             return false;
@@ -79,5 +76,5 @@ pub fn after_move(next: &[u8; 800], b: usize, a: usize, n: usize) -> usize
     requires { Nexts n next.now × (b ≤ n) × (a < 32) }
     ensures { (result ≡ get_or next.now (b * 32 + a) 0) × (result ≤ n) }
 {
-    wide(next[b * 32 + a])
+    usize::from(next[b * 32 + a])
 }

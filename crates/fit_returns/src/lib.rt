@@ -5,7 +5,6 @@ ghost use Rattle.std.specs.Prelude.{◌≡◌, ◌+◌, ◌*◌, ◌<◌, ◌≤
 ghost use Rattle.fit_rounds.specs.Rows.{Named, Nexts};
 ghost use Rattle.fit_links.specs.Quick.{Place, PopsOver};
 
-use bits::wide;
 use fit_links::{link, pair};
 
 // Where it goes from b by a return over c.
@@ -13,7 +12,7 @@ fn after_return(next: &[u8; 20000], b: usize, a: usize, c: usize, n: usize) -> u
     requires { Nexts n next.now × (b ≤ n) × (a < 32) × (c ≤ n) }
     ensures { (result ≡ get_or next.now ((b * 32 + a) * 25 + c) 0) × (result ≤ n) }
 {
-    wide(next[(b * 32 + a) * 25 + c])
+    usize::from(next[(b * 32 + a) * 25 + c])
 }
 
 // By the returns of the state p from a place on: where the pair of p and b goes when it pops y is linked with y.
@@ -35,19 +34,16 @@ pub fn pop_over(
     let width = n + 1;
     let under = y / width;
     let c = y % width;
-    let mut at = from;
-    'records: while 4 <= returns.len() - at {
-        if wide(returns[at]) != p {
+    'records: for fields in returns[from..].chunks_exact(4) {
+        if usize::from(fields[0]) != p {
             return;
         }
-        if wide(returns[at + 2]) != under {
-            at += 4;
+        if usize::from(fields[2]) != under {
             continue 'records;
         }
-        let a = wide(returns[at + 1]);
-        let q = wide(returns[at + 3]);
+        let a = usize::from(fields[1]);
+        let q = usize::from(fields[3]);
         let v = pair(q, after_return(pops, b, a, c, n), n);
         link(y, v, rows, links, marks);
-        at += 4;
     }
 }

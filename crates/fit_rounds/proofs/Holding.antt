@@ -1,14 +1,15 @@
 -- What the code does to rows is what the definitions do to words. Assumes nothing.
 use mathlib.Core.Path.{◌≡◌, refl, sym, ap, ◌∙◌, subst}
 use mathlib.Core.Logic.{◌↔◌, ◌≢◌, ◌⊎◌, inl, inr}
-use mathlib.Core.Bool.{Bool, true, false, not, true≢false}
-use mathlib.Core.List.{List}
-use Prim.Native.Nat.{ℕ, zero, suc, ◌+◌, ◌-◌, ◌*◌, ◌/◌, ◌%◌, ◌^◌, ◌<◌, ◌≤◌}
+use mathlib.Core.Bool.{Bool, true, false, ◌||◌, not, true≢false}
+use mathlib.Core.List.{List, [], ◌∷◌}
+use Prim.Native.Nat.{ℕ, zero, suc, ◌+◌, ◌*◌, ◌/◌, ◌%◌, ◌^◌, ◌<◌, ◌≤◌}
 use native.Mathlib.Omega.{arith}
 use native.Mathlib.Nat.{le_refl}
+use native.Mathlib.Numerals.{add-one}
 use native.Mathlib.Decide.{ℕ_discrete, dec_lt}
-use lib.ListN.{length, get_or, set, length-set, get_or-eq_default}
-use lib.Seq.{get_or-set_same, get_or-set_other, ext_get_or}
+use lib.ListN.{length, get_or, set, take, drop, length-set, length-drop, get_or-eq_default}
+use lib.Seq.{take-suc, get_or-drop, get_or-set_same, get_or-set_other, ext_get_or}
 use lib.Pow.{pow-lt, pow_mono}
 use lib.Bits.{bit_or, or_lt}
 use lib.Dec.{eqb}
@@ -16,7 +17,8 @@ use borrow.Author.Tests.{eqb-true, eqb-false, eq-eqb, ne_eqb}
 use Rattle.lists.specs.Bits.{Bit, has, has_bit}
 use Rattle.lists.proofs.Bits.{or-bit, bit-left, bit-right, no_bit, bit-own, bit-pow, some-bit}
 use Rattle.lists.proofs.Lowest.{bit_le}
-use Rattle.lists.specs.Lists.{same}
+use Rattle.std.proofs.lemmas.List.Folds.{list_any-append}
+use Rattle.lists.specs.Lists.{any, same}
 use Rattle.lists.proofs.Words.{bits_equal}
 use Rattle.lists.proofs.Members.{same_true, same_of}
 use Rattle.tops_spec.specs.Tops.{add}
@@ -28,26 +30,26 @@ use Rattle.fit_rounds.specs.Rows.{Holds, joined, any_in, with_bit}
 pub join_long : (k u v : ℕ) (f : List ℕ) → length (joined k u v f) ≡ length f
 unfolding joined
 join_long zero u v f = refl
-join_long (suc k) u v f = join_long k u v _ ∙ length-set f _ _
+join_long (suc k) u v f = length-set (joined k u v f) _ _ ∙ join_long k u v f
 
 join_other : (k u v : ℕ) (f : List ℕ) (i : ℕ) → ((j : ℕ) → j < k → i ≢ v * 10 + j) → get_or (joined k u v f) i 0 ≡ get_or f i 0
 unfolding joined
 join_other zero u v f i h = refl
-join_other (suc k) u v f i h = join_other k u v _ i (λ j l. h j (omega arith)) ∙ get_or-set_other f (v * 10 + k) i _ 0 (h k (omega arith))
-
-abbrev one : ℕ → ℕ → ℕ → List ℕ → List ℕ
-one k u v f = set f (v * 10 + k) (bit_or (get_or f (v * 10 + k) 0) (get_or f (u * 10 + k) 0))
+join_other (suc k) u v f i h = get_or-set_other (joined k u v f) (v * 10 + k) i _ 0 (h k (omega arith)) ∙ join_other k u v f i (λ j l. h j (omega arith))
 
 join_own : (k u v : ℕ) (f : List ℕ) → k ≤ 10 → v * 10 + k ≤ length f → (j : ℕ) → j < k → get_or (joined k u v f) (v * 10 + j) 0 ≡ bit_or (get_or f (v * 10 + j) 0) (get_or f (u * 10 + j) 0)
 unfolding joined
 join_own zero u v f m l j h = absurd (omega arith)
-join_own (suc k) u v f m l j h = go (ℕ_discrete j k) (join_own k u v (one k u v f) (omega arith) (omega (arith, length-set f (v * 10 + k) (bit_or (get_or f (v * 10 + k) 0) (get_or f (u * 10 + k) 0)))) j)
+join_own (suc k) u v f m l j h = go (ℕ_discrete j k) (join_own k u v f (omega arith) (omega arith) j)
   where
-    go :
-        Dec (j ≡ k) → (j < k → get_or (joined k u v (one k u v f)) (v * 10 + j) 0 ≡ bit_or (get_or (one k u v f) (v * 10 + j) 0) (get_or (one k u v f) (u * 10 + j) 0))
-        → get_or (joined k u v (one k u v f)) (v * 10 + j) 0 ≡ bit_or (get_or f (v * 10 + j) 0) (get_or f (u * 10 + j) 0)
-    go (yes e) r = subst (λ (i : ℕ). get_or (joined k u v (one k u v f)) (v * 10 + i) 0 ≡ bit_or (get_or f (v * 10 + i) 0) (get_or f (u * 10 + i) 0)) (sym e) (join_other k u v (one k u v f) (v * 10 + k) (λ i l d. absurd (omega arith)) ∙ get_or-set_same f (v * 10 + k) (bit_or (get_or f (v * 10 + k) 0) (get_or f (u * 10 + k) 0)) 0 (omega arith))
-    go (no e) r = r (omega arith) ∙ (λ i. bit_or (get_or-set_other f (v * 10 + k) (v * 10 + j) (bit_or (get_or f (v * 10 + k) 0) (get_or f (u * 10 + k) 0)) 0 (λ d. e (omega arith)) i) (get_or-set_other f (v * 10 + k) (u * 10 + j) (bit_or (get_or f (v * 10 + k) 0) (get_or f (u * 10 + k) 0)) 0 (λ d. e (omega arith)) i))
+    go : Dec (j ≡ k) → (j < k → get_or (joined k u v f) (v * 10 + j) 0 ≡ bit_or (get_or f (v * 10 + j) 0) (get_or f (u * 10 + j) 0))
+        → get_or (joined (suc k) u v f) (v * 10 + j) 0 ≡ bit_or (get_or f (v * 10 + j) 0) (get_or f (u * 10 + j) 0)
+    go (yes e) r =
+        let g = joined k u v f in
+        subst (λ (i : ℕ). get_or (joined (suc k) u v f) (v * 10 + i) 0 ≡ bit_or (get_or f (v * 10 + i) 0) (get_or f (u * 10 + i) 0)) (sym e)
+        (get_or-set_same g (v * 10 + k) _ 0 (omega (arith, join_long k u v f))
+        ∙ (λ i. bit_or (join_other k u v f (v * 10 + k) (λ i l d. absurd (omega arith)) i) (join_other k u v f (u * 10 + k) (λ i l d. absurd (omega arith)) i)))
+    go (no e) r = get_or-set_other (joined k u v f) (v * 10 + k) (v * 10 + j) _ 0 (λ d. e (omega arith)) ∙ r (omega arith)
 
 -- ---- one word changed
 
@@ -62,7 +64,7 @@ set-small f i w h l j = go (ℕ_discrete j i) (dec_lt i (length f))
 join_small : (k u v : ℕ) (f : List ℕ) → ((i : ℕ) → get_or f i 0 < 2 ^ 64) → (i : ℕ) → get_or (joined k u v f) i 0 < 2 ^ 64
 unfolding joined
 join_small zero u v f h i = h i
-join_small (suc k) u v f h i = join_small k u v (one k u v f) (λ j. set-small f (v * 10 + k) _ h (or_lt 64 _ _ (h (v * 10 + k)) (h (u * 10 + k))) j) i
+join_small (suc k) u v f h i = let g = join_small k u v f h in set-small (joined k u v f) (v * 10 + k) _ g (or_lt 64 _ _ (g (v * 10 + k)) (g (u * 10 + k))) i
 
 -- the word of a bit, and its row
 split : (x : ℕ) → x < 640 → (x / 64 < 10) × (x % 64 < 64)
@@ -71,9 +73,6 @@ split x h = (omega arith, omega arith)
 -- ---- a row joined to another
 
 module _ {f F : List ℕ} (h : Holds f F) where
-  has_here : (u x : ℕ) → u < 600 → x < 640 → Bit (get_or f (u * 10 + x / 64) 0) (x % 64) ↔ Bit (get_or F u 0) x
-  has_here u x l k = h.bits u x l k
-
   -- the bit's test
   pub held_is : (u x : ℕ) → u < 600 → x < 640 → eqb (get_or f (u * 10 + x / 64) 0 / 2 ^ (x % 64) % 2) 1 ≡ has F u x
   unfolding has has_bit
@@ -234,51 +233,43 @@ module _ {f F : List ℕ} (h : Holds f F) where
       go false e true g = refl
       go false e false g = absurd (true≢false (sym ((any_is u l).1 (eqb-false (get_or F u 0) 0 e)) ∙ g))
 
--- ---- the loops over a row's words
+-- ---- the loop over a row's words: those below k are joined
 
--- the words from k on are joined
 pub record Joining (u v : ℕ) (f0 f : List ℕ) (k : ℕ) : Type 0 where
   pub few : k ≤ 10
-  pub meets : joined 10 u v f0 ≡ joined k u v f
+  pub meets : f ≡ joined k u v f0
 
-pub joining : (u v : ℕ) (f : List ℕ) → Joining u v f f 10
+pub joining : (u v : ℕ) (f : List ℕ) → Joining u v f f 0
+unfolding joined
 joining u v f = record { few = omega arith; meets = refl }
 
 module _ {u v : ℕ} {f0 f : List ℕ} {k : ℕ} (p : Joining u v f0 f k) where
-  pub join_on : 0 < k → Joining u v f0 (set f (v * 10 + (k - 1)) (bit_or (get_or f (v * 10 + (k - 1)) 0) (get_or f (u * 10 + (k - 1)) 0))) (k - 1)
+  pub join_on : k < 10 → Joining u v f0 (set f (v * 10 + k) (bit_or (get_or f (v * 10 + k) 0) (get_or f (u * 10 + k) 0))) (k + 1)
   unfolding joined
-  join_on l =
-      let e : k ≡ suc (k - 1) = omega arith in
-      record { few = omega (arith, p.few); meets = p.meets ∙ ap (λ n. joined n u v f) e }
+  join_on l = record { few = omega arith; meets = ap (λ g. set g (v * 10 + k) (bit_or (get_or g (v * 10 + k) 0) (get_or g (u * 10 + k) 0))) p.meets ∙ ap (λ n. joined n u v f0) (sym (add-one k)) }
 
-  pub join_done : k ≤ 0 → f ≡ joined 10 u v f0
-  unfolding joined
-  join_done l = let e : k ≡ 0 = omega arith in sym (p.meets ∙ ap (λ n. joined n u v f) e)
+  pub join_done : 10 ≤ k → f ≡ joined 10 u v f0
+  join_done l = let e : k ≡ 10 = omega (arith, p.few) in p.meets ∙ ap (λ n. joined n u v f0) e
 
--- none of the words from k on has a bit
-pub record Seeking (u : ℕ) (f : List ℕ) (k : ℕ) : Type 0 where
-  pub few : k ≤ 10
-  pub meets : any_in 10 u f ≡ any_in k u f
+-- ---- the words of a row, looked through
 
-pub seeking : (u : ℕ) (f : List ℕ) → Seeking u f 10
-seeking u f = record { few = omega arith; meets = refl }
-
-module _ {u : ℕ} {f : List ℕ} {k : ℕ} (p : Seeking u f k) where
-  here : 0 < k → (t : Bool) → eqb (get_or f (u * 10 + (k - 1)) 0) 0 ≡ t → any_in 10 u f ≡ elim t [ true ↦ any_in (k - 1) u f | false ↦ true ]
-  unfolding any_in
-  here l t g =
-      let e : k ≡ suc (k - 1) = omega arith in
-      p.meets ∙ ap (λ n. any_in n u f) e ∙ ap (λ (s : Bool). elim s as (λ _. Bool) [ true ↦ any_in (k - 1) u f | false ↦ true ]) g
-
-  pub seek_on : 0 < k → get_or f (u * 10 + (k - 1)) 0 ≡ 0 → Seeking u f (k - 1)
-  seek_on l z = record { few = omega (arith, p.few); meets = here l true (eq-eqb _ _ z) }
-
-  pub seek_found : 0 < k → get_or f (u * 10 + (k - 1)) 0 ≢ 0 → true ≡ any_in 10 u f
-  seek_found l z = sym (here l false (ne_eqb _ _ z))
-
-  pub seek_none : k ≤ 0 → false ≡ any_in 10 u f
-  unfolding any_in
-  seek_none l = let e : k ≡ 0 = omega arith in sym (p.meets ∙ ap (λ n. any_in n u f) e)
+pub row_any : (k u : ℕ) (f : List ℕ) → u * 10 + k ≤ length f → any (λ w. not (eqb w 0)) (take k (drop (u * 10) f)) ≡ any_in k u f
+unfolding any_in
+row_any zero u f h = refl
+row_any (suc k) u f h =
+    let r = drop (u * 10) f in
+    let w : get_or r k 0 ≡ get_or f (u * 10 + k) 0 = get_or-drop (u * 10) f k 0 in
+    ap (any (λ w. not (eqb w 0))) (take-suc r k 0 (omega (arith, length-drop (u * 10) f)))
+    ∙ list_any-append (λ w. not (eqb w 0)) (take k r) (get_or r k 0 ∷ [])
+    ∙ ap (λ b. b || (not (eqb (get_or r k 0) 0) || false)) (row_any k u f (omega arith))
+    ∙ ap (λ x. any_in k u f || (not (eqb x 0) || false)) w
+    ∙ last (any_in k u f) (eqb (get_or f (u * 10 + k) 0) 0)
+  where
+    last : (a b : Bool) → (a || (not b || false)) ≡ elim b [ true ↦ a | false ↦ true ]
+    last true true = refl
+    last true false = refl
+    last false true = refl
+    last false false = refl
 
 -- ---- rows are the same where their words are
 

@@ -1,24 +1,21 @@
 -- What the loops of a round do, turn by turn. Assumes nothing.
 use mathlib.Core.Path.{◌≡◌, refl, sym, ap, ◌∙◌, subst}
-use mathlib.Core.Logic.{◌≢◌}
 use mathlib.Core.Bool.{Bool, true, false, not, true≢false}
 use mathlib.Core.List.{List, [], ◌∷◌, ◌++◌, append-nil, map, map-append, Memᴰ}
-use Prim.Native.Nat.{ℕ, suc, ◌+◌, ◌-◌, ◌*◌, ◌^◌, ◌<◌, ◌≤◌}
+use Prim.Native.Nat.{ℕ, suc, ◌+◌, ◌*◌, ◌^◌, ◌<◌, ◌≤◌}
 use native.Mathlib.Omega.{arith}
-use native.Mathlib.Nat.{mul-le-mul, add-zero, suc-mul}
+use native.Mathlib.Nat.{mul-le-mul, suc-mul}
 use native.Mathlib.Numerals.{add-one}
-use lib.ListN.{length, get_or, take, drop, length-drop}
-use lib.Seq.{length-take-le}
+use lib.ListN.{length, get_or}
 use lib.Dec.{eqb}
 use Rattle.lists.specs.Lists.{upto, concat_map}
 use Rattle.lists.specs.Bits.{has}
 use Rattle.lists.proofs.Counts.{concat_map-append}
 use Rattle.table_spec.specs.File.{records}
 use Rattle.table_spec.proofs.Facts.{three_bytes, four_bytes}
-use Rattle.table_find.proofs.Walks.{records-cons, records_end}
+use Rattle.table_spec.proofs.Chunks.{chunk_on, chunk_end}
 use Rattle.tops_spec.specs.Tops.{add, by_internals, by_calls, by_returns, live}
 use Rattle.tops_spec.proofs.Walks.{length-add}
-use Rattle.tops.proofs.Loops.{record_byte}
 use Rattle.fit_spec.specs.Fit.{after, pair_move, pair_moves, pair_return, pair_returns}
 use Rattle.fit_rounds.specs.Rows.{Holds, step_kind, by_kind, step_return, Turns, Named, Nexts, NextMoves, NextReturns}
 use Rattle.fit_rounds.specs.declared.pairs.Kind.{Kind}
@@ -154,61 +151,50 @@ rest_on {S = S} r t e = record { so_far = λ F. S (r.so_far F); turns = turns_th
 rest-done : {k n : ℕ} {f g : List ℕ} {all rest : List ℕ → List ℕ} → Rest k n f g all rest → ((F : List ℕ) → rest F ≡ F) → Turns k n f g all
 rest-done r e = turns_as r.turns (λ F. sym (r.meets F ∙ e (r.so_far F)))
 
-pub record Moving (kind : Kind) (s next : List ℕ) (n : ℕ) (f g : List ℕ) (at : ℕ) : Type 0 where
-  pub inside : at ≤ length s
-  pub turned : (ss : List (List ℕ)) → NextMoves n ss next → (k : ℕ) → Named 3 k s → Rest k n f g (by_kind kind (pair_moves n (records 3 s) ss)) (by_kind kind (pair_moves n (records 3 (drop at s)) ss))
-  pub left : (r : List ℕ) → Memᴰ r (records 3 (drop at s)) → Memᴰ r (records 3 s)
+pub record Moving (kind : Kind) (s next : List ℕ) (n : ℕ) (f g rest : List ℕ) : Type 0 where
+  pub turned : (ss : List (List ℕ)) → NextMoves n ss next → (k : ℕ) → Named 3 k s → Rest k n f g (by_kind kind (pair_moves n (records 3 s) ss)) (by_kind kind (pair_moves n (records 3 rest) ss))
+  pub left : (r : List ℕ) → Memᴰ r (records 3 rest) → Memᴰ r (records 3 s)
 
-pub moving : (kind : Kind) (s next : List ℕ) (n : ℕ) (f : List ℕ) → Moving kind s next n f f 0
-moving kind s next n f = record { inside = omega arith; turned = λ ss m k h. record { so_far = λ F. F; turns = turns_none f; meets = λ F. refl }; left = λ r m. m }
+pub moving : (kind : Kind) (s next : List ℕ) (n : ℕ) (f : List ℕ) {rest : List ℕ} → rest ≡ s → Moving kind s next n f f rest
+moving kind s next n f e = record {
+  turned = λ ss m k h. record { so_far = λ F. F; turns = turns_none f; meets = λ F. ap (λ v. by_kind kind (pair_moves n (records 3 v) ss) F) (sym e) };
+  left = λ r m. subst (λ (v : List ℕ). Memᴰ r (records 3 v)) e m;
+}
 
-module _ {kind : Kind} {s next : List ℕ} {n : ℕ} {f g : List ℕ} {at : ℕ} (w : Moving kind s next n f g at) (l : 3 ≤ length s - at) where
-  here : records 3 (drop at s) ≡ take 3 (drop at s) ∷ records 3 (drop (at + 3) s)
-  here = records-cons 3 s at (omega arith) (omega arith)
+module _ {kind : Kind} {s next : List ℕ} {n : ℕ} {f g rest : List ℕ} (w : Moving kind s next n f g rest) (x after : List ℕ) (d : rest ≡ x ++ after) (l : length x ≡ 3) where
+  here : records 3 rest ≡ x ∷ records 3 after
+  here = chunk_on rest x after (omega arith) d l
 
-  first_of : Memᴰ (take 3 (drop at s)) (records 3 s)
-  first_of = w.left _ (subst (λ (rs : List (List ℕ)). Memᴰ (take 3 (drop at s)) rs) (sym here) (Memᴰ.head refl))
+  first_of : Memᴰ x (records 3 s)
+  first_of = w.left _ (rw here (Memᴰ.head refl))
 
-  byte : (i : ℕ) → i < 3 → get_or (take 3 (drop at s)) i 0 ≡ get_or s (at + i) 0
-  byte i h = record_byte 3 s at i h
-
-  module _ {p a q : ℕ} (ep : p ≡ get_or s at 0) (ea : a ≡ get_or s (at + 1) 0) (eq : q ≡ get_or s (at + 2) 0) where
-    e0 : get_or (take 3 (drop at s)) 0 0 ≡ p
-    e0 = byte 0 (omega arith) ∙ ap (λ i. get_or s i 0) (add-zero at) ∙ sym ep
-
-    e1 : get_or (take 3 (drop at s)) 1 0 ≡ a
-    e1 = byte 1 (omega arith) ∙ sym ea
-
-    e2 : get_or (take 3 (drop at s)) 2 0 ≡ q
-    e2 = byte 2 (omega arith) ∙ sym eq
-
-    is : take 3 (drop at s) ≡ p ∷ a ∷ q ∷ []
-    is = three_bytes (take 3 (drop at s)) (length-take-le 3 (drop at s) (omega (arith, length-drop at s))) ∙ (λ i. e0 i ∷ e1 i ∷ e2 i ∷ [])
+  module _ {p a q : ℕ} (ep : p ≡ get_or x 0 0) (ea : a ≡ get_or x 1 0) (eq : q ≡ get_or x 2 0) where
+    is : x ≡ p ∷ a ∷ q ∷ []
+    is = three_bytes x l ∙ (λ i. sym ep i ∷ sym ea i ∷ sym eq i ∷ [])
 
     pub bytes-named : {k : ℕ} → Named 3 k s → (p < k) × (a < 32) × (q < k)
     bytes-named {k} h = (
-      subst (λ (x : ℕ). x < k) e0 (h.states _ first_of 0 (λ z. absurd (omega arith)) (omega arith)),
-      subst (λ (x : ℕ). x < 32) e1 (h.symbols _ first_of),
-      subst (λ (x : ℕ). x < k) e2 (h.states _ first_of 2 (λ z. absurd (omega arith)) (omega arith)),
+      subst (λ (x : ℕ). x < k) (sym ep) (h.states _ first_of 0 (λ z. absurd (omega arith)) (omega arith)),
+      subst (λ (x : ℕ). x < 32) (sym ea) (h.symbols _ first_of),
+      subst (λ (x : ℕ). x < k) (sym eq) (h.states _ first_of 2 (λ z. absurd (omega arith)) (omega arith)),
     )
 
     pub moving_on :
         {h : List ℕ}
         → ((ss : List (List ℕ)) → NextMoves n ss next → (k : ℕ) → p < k → q < k → Turns k n g h (by_kind kind (map (pair_move n ss (p ∷ a ∷ q ∷ [])) (upto (suc n)))))
-        → Moving kind s next n f h (at + 3)
-    unfolding pair_moves concat_map
+        → Moving kind s next n f h after
+    unfolding pair_moves
     moving_on {h} t = record {
-      inside = omega arith;
       turned = λ ss m k d. let b = bytes-named d in rest_on (w.turned ss m k d) (t ss m k b.0 b.2) (λ F.
-          ap (λ (rs : List (List ℕ)). by_kind kind (pair_moves n rs ss) F) (here ∙ ap (λ (r : List ℕ). r ∷ records 3 (drop (at + 3) s)) is) ∙ kind_append kind (map (pair_move n ss (p ∷ a ∷ q ∷ [])) (upto (suc n))) (pair_moves n (records 3 (drop (at + 3) s)) ss) F);
-      left = λ r m. w.left r (subst (λ (rs : List (List ℕ)). Memᴰ r rs) (sym here) (Memᴰ.tail m));
+          ap (λ (rs : List (List ℕ)). by_kind kind (pair_moves n rs ss) F) (here ∙ ap (λ (r : List ℕ). r ∷ records 3 after) is) ∙ kind_append kind (map (pair_move n ss (p ∷ a ∷ q ∷ [])) (upto (suc n))) (pair_moves n (records 3 after) ss) F);
+      left = λ r m. w.left r (rw here (Memᴰ.tail m));
     }
 
 pub moving_done :
-    {kind : Kind} {s next : List ℕ} {n : ℕ} {f g : List ℕ} {at : ℕ} → Moving kind s next n f g at → length s - at < 3 → (ss : List (List ℕ))
+    {kind : Kind} {s next : List ℕ} {n : ℕ} {f g rest : List ℕ} → Moving kind s next n f g rest → length rest < 3 → (ss : List (List ℕ))
     → NextMoves n ss next → (k : ℕ) → Named 3 k s → Turns k n f g (by_kind kind (pair_moves n (records 3 s) ss))
-unfolding pair_moves concat_map
-moving_done {kind} {s} {next} {n} {f} {g} {at} w l ss m k h = rest-done (w.turned ss m k h) (λ F. ap (λ (rs : List (List ℕ)). by_kind kind (pair_moves n rs ss) F) (records_end 3 s at l) ∙ kind_nil kind F)
+unfolding pair_moves
+moving_done {kind} {n = n} {rest = rest} w l ss m k h = rest-done (w.turned ss m k h) (λ F. ap (λ (rs : List (List ℕ)). by_kind kind (pair_moves n rs ss) F) (chunk_end rest l) ∙ kind_nil kind F)
 
 -- ---- one return
 
@@ -301,11 +287,11 @@ pub record Overs (p a s q n : ℕ) (next f g : List ℕ) (b : ℕ) : Type 0 wher
       → Turns k n f g (by_returns (concat_map (λ b. map (pair_return n ss (p ∷ a ∷ s ∷ q ∷ []) b) (upto (suc n))) (upto b)))
 
 pub overs : (p a s q n : ℕ) (next f : List ℕ) → Overs p a s q n next f f 0
-unfolding upto concat_map
+unfolding upto
 overs p a s q n next f = record { inside = omega arith; turned = λ ss m k lp ls lq. turns_as (turns_none f) (λ F. sym (return-nil F)) }
 
 concat_map-upto : (g : ℕ → List (List ℕ)) (b : ℕ) → concat_map g (upto (b + 1)) ≡ concat_map g (upto b) ++ g b
-unfolding upto concat_map
+unfolding upto
 concat_map-upto g b = ap (λ m. concat_map g (upto m)) (add-one b) ∙ concat_map-append g (upto b) (b ∷ []) ∙ ap (λ (x : List (List ℕ)). concat_map g (upto b) ++ x) (append-nil (g b))
 
 module _ {p a s q n : ℕ} {next f g : List ℕ} {b : ℕ} (w : Overs p a s q n next f g b) where
@@ -332,59 +318,48 @@ module _ {p a s q n : ℕ} {next f g : List ℕ} {b : ℕ} (w : Overs p a s q n 
 
 -- ---- the returns of a section
 
-pub record Returning (s next : List ℕ) (n : ℕ) (f g : List ℕ) (at : ℕ) : Type 0 where
-  pub inside : at ≤ length s
-  pub turned : (ss : List (List ℕ)) → NextReturns n ss next → (k : ℕ) → Named 4 k s → Rest k n f g (by_returns (pair_returns n (records 4 s) ss)) (by_returns (pair_returns n (records 4 (drop at s)) ss))
-  pub left : (r : List ℕ) → Memᴰ r (records 4 (drop at s)) → Memᴰ r (records 4 s)
+pub record Returning (s next : List ℕ) (n : ℕ) (f g rest : List ℕ) : Type 0 where
+  pub turned : (ss : List (List ℕ)) → NextReturns n ss next → (k : ℕ) → Named 4 k s → Rest k n f g (by_returns (pair_returns n (records 4 s) ss)) (by_returns (pair_returns n (records 4 rest) ss))
+  pub left : (r : List ℕ) → Memᴰ r (records 4 rest) → Memᴰ r (records 4 s)
 
-pub returning : (s next : List ℕ) (n : ℕ) (f : List ℕ) → Returning s next n f f 0
-returning s next n f = record { inside = omega arith; turned = λ ss m k h. record { so_far = λ F. F; turns = turns_none f; meets = λ F. refl }; left = λ r m. m }
+pub returning : (s next : List ℕ) (n : ℕ) (f : List ℕ) {rest : List ℕ} → rest ≡ s → Returning s next n f f rest
+returning s next n f e = record {
+  turned = λ ss m k h. record { so_far = λ F. F; turns = turns_none f; meets = λ F. ap (λ v. by_returns (pair_returns n (records 4 v) ss) F) (sym e) };
+  left = λ r m. subst (λ (v : List ℕ). Memᴰ r (records 4 v)) e m;
+}
 
-module _ {s next : List ℕ} {n : ℕ} {f g : List ℕ} {at : ℕ} (w : Returning s next n f g at) (l : 4 ≤ length s - at) where
-  here4 : records 4 (drop at s) ≡ take 4 (drop at s) ∷ records 4 (drop (at + 4) s)
-  here4 = records-cons 4 s at (omega arith) (omega arith)
+module _ {s next : List ℕ} {n : ℕ} {f g rest : List ℕ} (w : Returning s next n f g rest) (x after : List ℕ) (d : rest ≡ x ++ after) (l : length x ≡ 4) where
+  here4 : records 4 rest ≡ x ∷ records 4 after
+  here4 = chunk_on rest x after (omega arith) d l
 
-  first4 : Memᴰ (take 4 (drop at s)) (records 4 s)
-  first4 = w.left _ (subst (λ (rs : List (List ℕ)). Memᴰ (take 4 (drop at s)) rs) (sym here4) (Memᴰ.head refl))
+  first4 : Memᴰ x (records 4 s)
+  first4 = w.left _ (rw here4 (Memᴰ.head refl))
 
-  module _ {p a o q : ℕ} (ep : p ≡ get_or s at 0) (ea : a ≡ get_or s (at + 1) 0) (eo : o ≡ get_or s (at + 2) 0) (eq : q ≡ get_or s (at + 3) 0) where
-    f0 : get_or (take 4 (drop at s)) 0 0 ≡ p
-    f0 = record_byte 4 s at 0 (omega arith) ∙ ap (λ i. get_or s i 0) (add-zero at) ∙ sym ep
-
-    f1 : get_or (take 4 (drop at s)) 1 0 ≡ a
-    f1 = record_byte 4 s at 1 (omega arith) ∙ sym ea
-
-    f2 : get_or (take 4 (drop at s)) 2 0 ≡ o
-    f2 = record_byte 4 s at 2 (omega arith) ∙ sym eo
-
-    f3 : get_or (take 4 (drop at s)) 3 0 ≡ q
-    f3 = record_byte 4 s at 3 (omega arith) ∙ sym eq
-
-    is4 : take 4 (drop at s) ≡ p ∷ a ∷ o ∷ q ∷ []
-    is4 = four_bytes (take 4 (drop at s)) (length-take-le 4 (drop at s) (omega (arith, length-drop at s))) ∙ (λ i. f0 i ∷ f1 i ∷ f2 i ∷ f3 i ∷ [])
+  module _ {p a o q : ℕ} (ep : p ≡ get_or x 0 0) (ea : a ≡ get_or x 1 0) (eo : o ≡ get_or x 2 0) (eq : q ≡ get_or x 3 0) where
+    is4 : x ≡ p ∷ a ∷ o ∷ q ∷ []
+    is4 = four_bytes x l ∙ (λ i. sym ep i ∷ sym ea i ∷ sym eo i ∷ sym eq i ∷ [])
 
     pub returns-named : {k : ℕ} → Named 4 k s → (p < k) × (a < 32) × (o < k) × (q < k)
     returns-named {k} h = (
-      subst (λ (x : ℕ). x < k) f0 (h.states _ first4 0 (λ z. absurd (omega arith)) (omega arith)),
-      subst (λ (x : ℕ). x < 32) f1 (h.symbols _ first4),
-      subst (λ (x : ℕ). x < k) f2 (h.states _ first4 2 (λ z. absurd (omega arith)) (omega arith)),
-      subst (λ (x : ℕ). x < k) f3 (h.states _ first4 3 (λ z. absurd (omega arith)) (omega arith)),
+      subst (λ (x : ℕ). x < k) (sym ep) (h.states _ first4 0 (λ z. absurd (omega arith)) (omega arith)),
+      subst (λ (x : ℕ). x < 32) (sym ea) (h.symbols _ first4),
+      subst (λ (x : ℕ). x < k) (sym eo) (h.states _ first4 2 (λ z. absurd (omega arith)) (omega arith)),
+      subst (λ (x : ℕ). x < k) (sym eq) (h.states _ first4 3 (λ z. absurd (omega arith)) (omega arith)),
     )
 
     pub returning_on :
         {h : List ℕ}
         → ((ss : List (List ℕ)) → NextReturns n ss next → (k : ℕ) → p < k → o < k → q < k → Turns k n g h (by_returns (concat_map (λ b. map (pair_return n ss (p ∷ a ∷ o ∷ q ∷ []) b) (upto (suc n))) (upto (suc n)))))
-        → Returning s next n f h (at + 4)
-    unfolding pair_returns concat_map
+        → Returning s next n f h after
+    unfolding pair_returns
     returning_on {h} t = record {
-      inside = omega arith;
       turned = λ ss m k d. let b = returns-named d in rest_on (w.turned ss m k d) (t ss m k b.0 b.2 b.3) (λ F.
-          ap (λ (rs : List (List ℕ)). by_returns (pair_returns n rs ss) F) (here4 ∙ ap (λ (r : List ℕ). r ∷ records 4 (drop (at + 4) s)) is4) ∙ return-append (concat_map (λ b. map (pair_return n ss (p ∷ a ∷ o ∷ q ∷ []) b) (upto (suc n))) (upto (suc n))) (pair_returns n (records 4 (drop (at + 4) s)) ss) F);
-      left = λ r m. w.left r (subst (λ (rs : List (List ℕ)). Memᴰ r rs) (sym here4) (Memᴰ.tail m));
+          ap (λ (rs : List (List ℕ)). by_returns (pair_returns n rs ss) F) (here4 ∙ ap (λ (r : List ℕ). r ∷ records 4 after) is4) ∙ return-append (concat_map (λ b. map (pair_return n ss (p ∷ a ∷ o ∷ q ∷ []) b) (upto (suc n))) (upto (suc n))) (pair_returns n (records 4 after) ss) F);
+      left = λ r m. w.left r (rw here4 (Memᴰ.tail m));
     }
 
 pub returning-done :
-    {s next : List ℕ} {n : ℕ} {f g : List ℕ} {at : ℕ} → Returning s next n f g at → length s - at < 4 → (ss : List (List ℕ)) → NextReturns n ss next → (k : ℕ)
+    {s next : List ℕ} {n : ℕ} {f g rest : List ℕ} → Returning s next n f g rest → length rest < 4 → (ss : List (List ℕ)) → NextReturns n ss next → (k : ℕ)
     → Named 4 k s → Turns k n f g (by_returns (pair_returns n (records 4 s) ss))
-unfolding pair_returns concat_map
-returning-done {s} {next} {n} {f} {g} {at} w l ss m k h = rest-done (w.turned ss m k h) (λ F. ap (λ (rs : List (List ℕ)). by_returns (pair_returns n rs ss) F) (records_end 4 s at l) ∙ return-nil F)
+unfolding pair_returns
+returning-done {n = n} {rest = rest} w l ss m k h = rest-done (w.turned ss m k h) (λ F. ap (λ (rs : List (List ℕ)). by_returns (pair_returns n rs ss) F) (chunk_end rest l) ∙ return-nil F)

@@ -37,10 +37,11 @@ GainsBit u x f g = (F : List ℕ) → Holds f F → u < length F → Holds g (ad
 abbrev pub GainsRow : ℕ → ℕ → List ℕ → List ℕ → Type 0
 GainsRow u v f g = (F : List ℕ) → Holds f F → u < length F → v < length F → Holds g (add F v (get_or F u 0))
 
--- the first k words of row v gain those of row u
+-- the first k words of row v gain those of row u, from the first on; a row has 10 words, so k is at most 10
 unfoldable pub joined : ℕ → ℕ → ℕ → List ℕ → List ℕ
 joined zero u v f = f
-joined (suc k) u v f = joined k u v (set f (v * 10 + k) (bit_or (get_or f (v * 10 + k) 0) (get_or f (u * 10 + k) 0)))
+joined (suc k) u v f =
+    let g = joined k u v f in set g (v * 10 + k) (bit_or (get_or g (v * 10 + k) 0) (get_or g (u * 10 + k) 0))
 
 -- one of the first k words of row u is not 0
 unfoldable pub any_in : ℕ → ℕ → List ℕ → Bool

@@ -5,7 +5,6 @@ ghost use Rattle.fit_spec.specs.Fit.{pair_return};
 ghost use Rattle.fit_rounds.specs.Rows.{MoveTurn, ReturnTurn, Named, Nexts, MoveTurns, MovesTurn, over_each, ReturnTurns, ReturnsTurn};
 
 use super::rows::{any, held, join, put};
-use bits::wide;
 
 // The moves that push nothing, or one state.
 #[derive(Clone, Copy)]
@@ -45,11 +44,9 @@ fn by_move(
     ensures { MoveTurns kind p a q n next.now rows.old rows.new }
 {
     let width = n + 1;
-    let mut b: usize = 0;
-    'seconds: while b < width {
-        let to = wide(next[b * 32 + a]);
+    'seconds: for b in 0..width {
+        let to = usize::from(next[b * 32 + a]);
         move_pair(kind, p * width + b, q * width + to, rows);
-        b += 1;
     }
 }
 
@@ -58,13 +55,11 @@ pub fn by_moves(kind: Kind, section: &[u8], next: &[u8; 800], n: usize, rows: &m
     requires { Named 3 24 section.now × Nexts n next.now }
     ensures { MovesTurn kind n section.now next.now rows.old rows.new }
 {
-    let mut at: usize = 0;
-    'records: while 3 <= section.len() - at {
-        let p = wide(section[at]);
-        let a = wide(section[at + 1]);
-        let q = wide(section[at + 2]);
+    'records: for fields in section.chunks_exact(3) {
+        let p = usize::from(fields[0]);
+        let a = usize::from(fields[1]);
+        let q = usize::from(fields[2]);
         by_move(kind, p, a, q, next, n, rows);
-        at += 3;
     }
 }
 
@@ -95,11 +90,9 @@ fn by_return_over(
     let width = n + 1;
     let u = p * width + b;
     let base = (b * 32 + a) * 25;
-    let mut c: usize = 0;
-    'unders: while c < width {
-        let to = wide(next[base + c]);
+    'unders: for c in 0..width {
+        let to = usize::from(next[base + c]);
         return_pair(u, s * width + c, q * width + to, rows);
-        c += 1;
     }
 }
 
@@ -116,10 +109,8 @@ fn by_return(
     requires { (p < 24) × (a < 32) × (s < 24) × (q < 24) × Nexts n next.now }
     ensures { ReturnTurns p a s q n next.now (λ ss. over_each n ss (p ∷ a ∷ s ∷ q ∷ [])) rows.old rows.new }
 {
-    let mut b: usize = 0;
-    'seconds: while b <= n {
+    'seconds: for b in 0..n + 1 {
         by_return_over(p, a, b, s, q, next, n, rows);
-        b += 1;
     }
 }
 
@@ -128,13 +119,11 @@ pub fn by_returns(section: &[u8], next: &[u8; 20000], n: usize, rows: &mut [u64;
     requires { Named 4 24 section.now × Nexts n next.now }
     ensures { ReturnsTurn n section.now next.now rows.old rows.new }
 {
-    let mut at: usize = 0;
-    'records: while 4 <= section.len() - at {
-        let p = wide(section[at]);
-        let a = wide(section[at + 1]);
-        let s = wide(section[at + 2]);
-        let q = wide(section[at + 3]);
+    'records: for fields in section.chunks_exact(4) {
+        let p = usize::from(fields[0]);
+        let a = usize::from(fields[1]);
+        let s = usize::from(fields[2]);
+        let q = usize::from(fields[3]);
         by_return(p, a, s, q, next, n, rows);
-        at += 4;
     }
 }

@@ -10,26 +10,31 @@ use native.Mathlib.Omega.{arith}
 use native.Mathlib.Decide.{ℕ_discrete}
 use lib.ListN.{get_or}
 use borrow.Author.Tests.{eqb-true, eq-eqb}
-use Rattle.lists.specs.Lists.{upto}
+use Rattle.std.specs.Prelude.{Result, Ok, Err}
+use Rattle.lists.specs.Lists.{upto, Says}
 use Rattle.lists.specs.Bits.{has}
 use Rattle.lists.proofs.Members.{and-true, and_of, any-true, any_false, upto_of, same_true, same_of}
-use Rattle.lists.proofs.Refusals.{passed, passes, no_test, stage-passes, stage-passed, by_number, told_says, says}
+use Rattle.lists.proofs.Refusals.{passed, passes, no_test, stage-passes, stage-passed, by_number, told_says}
 use Rattle.vpa.specs.Automata.{Tops, Accepts}
 use Rattle.limits.specs.declared.Limits.{Limits}
+use Rattle.refusals.specs.declared.Refusal.{Refusal}
+use Rattle.refusals.specs.declared.Refusal.TheVariants.{Symbols, Choices}
+use Rattle.refusals.specs.Refusals.{refusal, Known, number_in, values_in}
+use Rattle.refusals.proofs.Numbers.{some_number, known_of, failed_known, none_known, answered_says}
 use Rattle.limits.specs.Limits.{standard}
 use Rattle.table_spec.specs.File.{Table, table_of}
 use Rattle.table_spec.specs.Reading.{is_accepting, Readable, WellFormed}
 use Rattle.table_spec.specs.Language.{count, byte_of, automaton, AcceptsWord}
 use Rattle.table_spec.proofs.Facts.{internals-fit, calls-fit, returns-fit}
+use Rattle.table_spec.proofs.Passed.{read-known}
 use Rattle.table_spec.proofs.Bytes.{read_well_formed}
+use Rattle.script_spec.specs.Script.{yes_values}
 use Rattle.tops_spec.specs.Tops.{top_words_at}
 use Rattle.tops_spec.proofs.Bounded.{lawful}
 use Rattle.tops_spec.proofs.Formed.{bounded}
 use Rattle.tops_spec.proofs.Exact.{bottom-has}
-use Rattle.fit_spec.specs.Fit.{first_of, second_of, pair_count, pair_table, ends, fits, no_choice, same_symbols, fit_number, fit_of, fitting_number, fitting_values, FitSays}
+use Rattle.fit_spec.specs.Fit.{first_of, second_of, pair_count, pair_table, ends, fits, no_choice, same_symbols, fit_number, fit_of, FitSays}
 use Rattle.fit_spec.specs.Demands.{OnFitting, IsYes, WithoutChoice, Apart, YesExactly, NoApart}
-use Rattle.fit_spec.specs.declared.Fitting.{Fitting}
-use Rattle.fit_spec.specs.declared.Fitting.TheVariants.{Yes, No, Refused}
 use Rattle.fit_spec.proofs.Pairing.{WordsWithin, Visibly, Paired, reached, within-exact}
 use Rattle.fit_spec.proofs.Tables.{pairs_bounded, sink_dead, pairs-accepting, pairs_paired}
 use Rattle.fit_spec.proofs.Choices.{choice_exact, deterministic}
@@ -164,52 +169,49 @@ module _ (b c : List ℕ) where
         let k = differs_between (read_well_formed standard b p.first) (read_well_formed standard c p.second) p.symbols single_of e in
         record { word = k.word; accepted = k.accepted; missed = k.missed }
 
-  -- the answer by its test, and the number of an answer
-  abbrev told : Bool → Fitting
-  told x = elim x [ true ↦ Yes | false ↦ No ]
-
   -- what an answer is worth
-  abbrev Worth : Fitting → Type 0
+  abbrev Worth : Result Bool Refusal → Type 0
   Worth r = YesExactly b c r × NoApart b c r
 
-  worth : Permitted b c → (x : Bool) → fits (table_of b) (table_of c) ≡ x → Worth (told x)
-  unfolding fitting_number fitting_values
+  worth : Permitted b c → (x : Bool) → fits (table_of b) (table_of c) ≡ x → Worth (Ok x)
   worth p true e = (record { exactly = λ z. (λ y a. a.missed (yes_within p e a.word a.accepted), λ n. refl); every = λ z y. yes_within p e }, λ z y. absurd (omega arith))
   worth p false e = (record { exactly = λ z. (λ y. absurd (omega arith), λ n. absurd (n (no_apart p e))); every = λ z y. absurd (omega arith) }, λ z y. no_apart p e)
 
   pub fit_worth : Worth (fit_of b c)
-  unfolding fit_of fitting_number
-  fit_worth = by_number (fit_number b c) (told (fits (table_of b) (table_of c))) (Refused (fit_number b c)) Worth (λ z. worth (permitted b c z) (fits (table_of b) (table_of c)) refl) (λ n. (record { exactly = λ z. absurd (n z); every = λ z. absurd (n z) }, λ z. absurd (n z)))
+  unfolding fit_of
+  fit_worth =
+      let n = some_number (refusal (fit_number b c)) in
+      by_number (fit_number b c) (Ok (fits (table_of b) (table_of c))) (Err (refusal (fit_number b c))) Worth (λ z. worth (permitted b c z) (fits (table_of b) (table_of c)) refl) (λ _. (record { exactly = λ z. absurd (n z); every = λ z. absurd (n z) }, λ z. absurd (n z)))
+
+  -- it refuses by numbers that are known
+  fit-known : Known (fit_number b c)
+  unfolding fit_number
+  fit-known = failed_known _ _ (read-known standard b) (failed_known _ _ (read-known standard c) (failed_known _ _ (known_of Symbols) (failed_known _ _ (known_of Choices) none_known)))
 
   -- its number and its values
   pub fit_says : FitSays b c (fit_of b c)
-  unfolding fit_of fitting_number fitting_values
-  fit_says = says (fit_number b c) (told (fits (table_of b) (table_of c))) (Refused (fit_number b c)) fitting_number fitting_values (asked (fits (table_of b) (table_of c))) (valued (fits (table_of b) (table_of c))) refl refl
+  unfolding fit_of
+  fit_says = subst (λ (vs : List ℕ). Says (number_in (fit_of b c)) (values_in yes_values (fit_of b c)) (fit_number b c) vs) (valued (fits (table_of b) (table_of c))) (answered_says (fits (table_of b) (table_of c)) yes_values fit-known)
     where
-      asked : (x : Bool) → fitting_number (told x) ≡ 0
-      asked true = refl
-      asked false = refl
-
-      valued : (x : Bool) → fitting_values (told x) ≡ (elim x [ true ↦ 1 | false ↦ 0 ]) ∷ []
+      valued : (x : Bool) → yes_values x ≡ (elim x [ true ↦ 1 | false ↦ 0 ]) ∷ []
       valued true = refl
       valued false = refl
 
   -- an answer that is no refusal is given to tables that are permitted, and only to them
-  pub number_of : fitting_number (fit_of b c) ≡ fit_number b c
+  pub number_of : number_in (fit_of b c) ≡ fit_number b c
   number_of = fit_says.numbered
 
   -- "does the second accept every word of the first?"
   pub fit-one : ((w : List ℕ) → AcceptsWord b w → AcceptsWord c w) → OnFitting (fit_of b c) (λ y. y ≡ 1)
   fit-one h z = (fit_worth.0.exactly z).1 (λ a. a.missed (h a.word a.accepted))
 
-  pub fit_yes : fitting_number (fit_of b c) ≡ 0 → ((w : List ℕ) → AcceptsWord b w → AcceptsWord c w) → IsYes (fit_of b c)
-  unfolding fitting_number fitting_values
+  pub fit_yes : number_in (fit_of b c) ≡ 0 → ((w : List ℕ) → AcceptsWord b w → AcceptsWord c w) → IsYes (fit_of b c)
   fit_yes z h = by (fit_of b c) z (fit-one h z)
     where
-      by : (r : Fitting) → fitting_number r ≡ 0 → get_or (fitting_values r) 0 0 ≡ 1 → IsYes r
-      by Yes z y = told_says _ refl
-      by No z y = absurd (omega arith)
-      by (Refused k) z y = absurd (omega arith)
+      by : (r : Result Bool Refusal) → number_in r ≡ 0 → get_or (values_in yes_values r) 0 0 ≡ 1 → IsYes r
+      by (Ok true) z y = told_says _ refl
+      by (Ok false) z y = absurd (omega arith)
+      by (Err r) z y = absurd (some_number r z)
 
   pub yes_permitted : IsYes (fit_of b c) → Permitted b c
   yes_permitted e = permitted b c (sym number_of ∙ e.numbered)

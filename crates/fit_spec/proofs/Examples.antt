@@ -2,7 +2,7 @@
 use mathlib.Core.Path.{◌≡◌, refl}
 use mathlib.Core.List.{List, [], ◌∷◌, map}
 use Prim.Native.Nat.{ℕ}
-use Rattle.lists.specs.Lists.{any, all, filter, parts, concat_map, upto, same, first_failed}
+use Rattle.lists.specs.Lists.{filter, parts, upto, same, first_failed}
 use Rattle.lists.specs.Bits.{has_bit, has}
 use Rattle.limits.specs.Limits.{limits_fit}
 use Rattle.table_spec.specs.Limits.{longest}
@@ -11,8 +11,11 @@ use Rattle.table_spec.specs.Reading.{length_fits, version_fits, distances_fit, c
 use Rattle.table_spec.specs.Language.{targets}
 use Rattle.tops_spec.specs.Tops.{add, by_internals, by_calls, live, by_returns, round, rounds, start_words, top_words_at}
 use Rattle.quotient_spec.specs.Quotient.{bit_of}
-use Rattle.fit_spec.specs.declared.Fitting.{Fitting}
-use Rattle.fit_spec.specs.Fit.{after, pair_move, pair_moves, pair_return, pair_returns, pair_byte, pair_table, ends, fits, one_target, one_initial, no_choice, same_symbols, fit_number, fit_of, fitting_number, fitting_values}
+use Rattle.refusals.specs.declared.Refusal.{Refusal}
+use Rattle.refusals.specs.Refusals.{every, first_with, refusal, number_in, values_in}
+use Rattle.script_spec.specs.Script.{yes_values}
+use Rattle.std.specs.Prelude.{Bool, Result}
+use Rattle.fit_spec.specs.Fit.{after, pair_move, pair_moves, pair_return, pair_returns, pair_byte, pair_table, ends, fits, one_target, one_initial, no_choice, same_symbols, fit_number, fit_of}
 
 -- "Table T", and its quotient by 0 1 1 2
 abbrev T : List ℕ
@@ -41,7 +44,7 @@ F = 0 ∷ 1 ∷ 2 ∷ 3 ∷ 0 ∷ 1 ∷ 0 ∷ 1 ∷ 0 ∷ 1 ∷ 1 ∷ 1 ∷ 2 �
 abbrev S : List ℕ
 S = 0 ∷ 1 ∷ 2 ∷ 3 ∷ 0 ∷ 0 ∷ 1 ∷ 1 ∷ 1 ∷ 2 ∷ 0 ∷ 0 ∷ 12 ∷ 0 ∷ 9 ∷ 0 ∷ 7 ∷ 0 ∷ 7 ∷ 0 ∷ 4 ∷ 0 ∷ 1 ∷ 0 ∷ []
 
-abbrev answers : List Fitting
+abbrev answers : List (Result Bool Refusal)
 answers =
     -- a table with itself, with its quotient, and back
     fit_of T T
@@ -63,10 +66,10 @@ answers =
     ∷ fit_of S F
     ∷ []
 
-values : map fitting_values answers ≡ (1 ∷ []) ∷ (1 ∷ []) ∷ (1 ∷ []) ∷ (1 ∷ []) ∷ (0 ∷ []) ∷ (0 ∷ []) ∷ (1 ∷ []) ∷ [] ∷ [] ∷ [] ∷ [] ∷ [] ∷ (0 ∷ []) ∷ (1 ∷ []) ∷ []
-unfolding any all filter parts concat_map upto same first_failed has_bit has longest word16 trailer distance version start records table_of limits_fit length_fits version_fits distances_fit counts_fit state_byte_most bytes_fit is_initial is_accepting start_fits record_fits records_fit before ascend_from ascend order_fits table_tests read_number targets add by_internals by_calls live by_returns round rounds start_words top_words_at bit_of after pair_move pair_moves pair_return pair_returns pair_byte pair_table ends fits one_target one_initial no_choice same_symbols fit_number fit_of fitting_values
+values : map (values_in yes_values) answers ≡ (1 ∷ []) ∷ (1 ∷ []) ∷ (1 ∷ []) ∷ (1 ∷ []) ∷ (0 ∷ []) ∷ (0 ∷ []) ∷ (1 ∷ []) ∷ [] ∷ [] ∷ [] ∷ [] ∷ [] ∷ (0 ∷ []) ∷ (1 ∷ []) ∷ []
+unfolding filter parts upto same first_failed has_bit has longest word16 trailer distance version start records table_of limits_fit length_fits version_fits distances_fit counts_fit state_byte_most bytes_fit is_initial is_accepting start_fits record_fits records_fit before ascend_from ascend order_fits table_tests read_number targets add by_internals by_calls live by_returns round rounds start_words top_words_at bit_of after pair_move pair_moves pair_return pair_returns pair_byte pair_table ends fits one_target one_initial no_choice same_symbols fit_number fit_of every first_with refusal
 values = refl
 
-numbers : map fitting_number answers ≡ 0 ∷ 0 ∷ 0 ∷ 0 ∷ 0 ∷ 0 ∷ 0 ∷ 1 ∷ 1 ∷ 37 ∷ 38 ∷ 38 ∷ 0 ∷ 0 ∷ []
-unfolding any all filter parts concat_map upto same first_failed has_bit has longest word16 trailer distance version start records table_of limits_fit length_fits version_fits distances_fit counts_fit state_byte_most bytes_fit is_initial is_accepting start_fits record_fits records_fit before ascend_from ascend order_fits table_tests read_number targets add by_internals by_calls live by_returns round rounds start_words top_words_at bit_of after pair_move pair_moves pair_return pair_returns pair_byte pair_table ends fits one_target one_initial no_choice same_symbols fit_number fit_of fitting_number
+numbers : map number_in answers ≡ 0 ∷ 0 ∷ 0 ∷ 0 ∷ 0 ∷ 0 ∷ 0 ∷ 1 ∷ 1 ∷ 37 ∷ 38 ∷ 38 ∷ 0 ∷ 0 ∷ []
+unfolding filter parts upto same first_failed has_bit has longest word16 trailer distance version start records table_of limits_fit length_fits version_fits distances_fit counts_fit state_byte_most bytes_fit is_initial is_accepting start_fits record_fits records_fit before ascend_from ascend order_fits table_tests read_number targets add by_internals by_calls live by_returns round rounds start_words top_words_at bit_of after pair_move pair_moves pair_return pair_returns pair_byte pair_table ends fits one_target one_initial no_choice same_symbols fit_number fit_of every first_with refusal
 numbers = refl

@@ -10,12 +10,14 @@ use Rattle.check_spec.specs.Check.{check_number}
 use Rattle.check_spec.proofs.Accepted.{accepted}
 use Rattle.quotient_spec.specs.Quotient.{quotient_bytes}
 use Rattle.quotient_spec.proofs.Theorems.{keeps-words, is_quotient}
-use Rattle.fit_spec.specs.declared.Fitting.{Fitting}
-use Rattle.fit_spec.specs.Fit.{no_choice, fit_number, fit_of, fitting_number, FitSays}
+use Rattle.refusals.specs.declared.Refusal.{Refusal}
+use Rattle.refusals.specs.Refusals.{number_in}
+use Rattle.std.specs.Prelude.{Bool, Result}
+use Rattle.fit_spec.specs.Fit.{no_choice, fit_number, fit_of, FitSays}
 use Rattle.fit_spec.specs.Demands.{OnFitting, IsYes, YesExactly, NoApart, FitsQuotient, FitsOn}
 use Rattle.fit_spec.proofs.Exact.{permits, fit_worth, fit_says, number_of, fit-one, fit_yes, yes_permitted, yes_every}
 
-pub fits-itself : (b : List ℕ) → fitting_number (fit_of b b) ≡ 0 → IsYes (fit_of b b)
+pub fits-itself : (b : List ℕ) → number_in (fit_of b b) ≡ 0 → IsYes (fit_of b b)
 fits-itself b z = fit_yes b b z (λ w h. h)
 
 -- "Fitting is transitive where all the comparisons are permitted."
@@ -43,7 +45,7 @@ quotient-taken b m e s =
 
 -- ---- what an answer of the operation promises
 
-pub promised : (b c : List ℕ) {r : Fitting} → r ≡ fit_of b c → (r ≡ fit_of b c) × (FitSays b c r × (YesExactly b c r × (NoApart b c r × (FitsQuotient b c r × FitsOn b c r))))
+pub promised : (b c : List ℕ) {r : Result Bool Refusal} → r ≡ fit_of b c → (r ≡ fit_of b c) × (FitSays b c r × (YesExactly b c r × (NoApart b c r × (FitsQuotient b c r × FitsOn b c r))))
 promised b c {r} e = (e, rw e (fit_says b c, (kept.0, (kept.1.0, (kept.1.1.0, kept.1.1.1)))))
   where
     kept : YesExactly b c (fit_of b c) × (NoApart b c (fit_of b c) × (FitsQuotient b c (fit_of b c) × FitsOn b c (fit_of b c)))

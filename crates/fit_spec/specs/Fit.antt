@@ -1,15 +1,16 @@
 -- Two tables compared (document 02, request (xi)): the table of pairs of their states, the refusals in their order, and the answer. Assumes nothing.
-use Rattle.std.specs.Prelude.{Bool, true, false, ◌&&◌, ◌||◌, not, List, [], ◌∷◌, map, ℕ, suc, ◌+◌, ◌*◌, ◌/◌, ◌%◌, length, get_or, take, eqb}
+use Rattle.std.specs.Prelude.{Bool, true, false, ◌&&◌, ◌||◌, not, Result, List, [], ◌∷◌, map, ℕ, suc, ◌+◌, ◌*◌, ◌/◌, ◌%◌, length, get_or, take, eqb}
 use Rattle.lists.specs.Lists.{any, all, filter, concat_map, upto, same, first_failed, stage, Says}
 use Rattle.lists.specs.Bits.{has}
 use Rattle.limits.specs.Limits.{standard}
+use Rattle.refusals.specs.declared.Refusal.{Refusal}
+use Rattle.refusals.specs.Refusals.{answered, number_in, values_in}
 use Rattle.table_spec.specs.File.{Table, table_of}
 use Rattle.table_spec.specs.Reading.{is_initial, is_accepting, read_number}
 use Rattle.table_spec.specs.Language.{count, byte_of, targets}
+use Rattle.script_spec.specs.Script.{yes_values}
 use Rattle.tops_spec.specs.Tops.{top_words_at}
 use Rattle.quotient_spec.specs.Quotient.{bit_of}
-use Rattle.fit_spec.specs.declared.Fitting.{Fitting}
-use Rattle.fit_spec.specs.declared.Fitting.TheVariants.{Yes, No, Refused}
 
 -- ---- the pairs: a state p of the first with a state b of the second, or with n, the number past its states, once it has no move
 
@@ -105,23 +106,9 @@ fit_number b c =
 
 -- ---- the operation: no buffer is lent for writing
 
-unfoldable pub fit_of : List ℕ → List ℕ → Fitting
-fit_of b c = elim (eqb (fit_number b c) 0) [
-  | true ↦ elim (fits (table_of b) (table_of c)) [ true ↦ Yes | false ↦ No ]
-  | false ↦ Refused (fit_number b c)
-]
+unfoldable pub fit_of : List ℕ → List ℕ → Result Bool Refusal
+fit_of b c = answered (fit_number b c) (fits (table_of b) (table_of c))
 
--- an answer's number, 0 where it is none, and its values: 1 for yes, 0 for no
-unfoldable pub fitting_number : Fitting → ℕ
-fitting_number (Yes) = 0
-fitting_number (No) = 0
-fitting_number (Refused k) = k
-
-unfoldable pub fitting_values : Fitting → List ℕ
-fitting_values (Yes) = 1 ∷ []
-fitting_values (No) = 0 ∷ []
-fitting_values (Refused k) = []
-
--- the answer by its number and its values
-abbrev pub FitSays : List ℕ → List ℕ → Fitting → Type 0
-FitSays b c r = Says (fitting_number r) (fitting_values r) (fit_number b c) ((elim (fits (table_of b) (table_of c)) [ true ↦ 1 | false ↦ 0 ]) ∷ [])
+-- the answer by its number and its value: 1 for yes, 0 for no
+abbrev pub FitSays : List ℕ → List ℕ → Result Bool Refusal → Type 0
+FitSays b c r = Says (number_in r) (values_in yes_values r) (fit_number b c) ((elim (fits (table_of b) (table_of c)) [ true ↦ 1 | false ↦ 0 ]) ∷ [])

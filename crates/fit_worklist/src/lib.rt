@@ -6,10 +6,21 @@ ghost use Rattle.std.specs.Prelude.{◌<◌, ◌≤◌};
 ghost use Rattle.fit_rounds.specs.Rows.{Named, Nexts};
 ghost use Rattle.fit_links.specs.Quick.{AddsTops, Place, Places, WorklistInput, PushesOn, PopsOn, SpreadOn, LooksOn, LinksOn, AllLinks, AnyMarked};
 
-use bits::wide;
 use fit_links::{after_move, flow, gain, pair};
 use fit_returns::pop_over;
 use fit_rounds::{any, held, put};
+
+// What the walk reads: the calls and returns of the first table, where the second goes by a call and by a return, and how many states the two have.
+#[derive(Clone, Copy)]
+struct Input<'a> {
+    calls: &'a [u8],
+    returns: &'a [u8],
+    pushes: &'a [u8; 800],
+    pops: &'a [u8; 20000],
+    k: usize,
+    n: usize,
+    ghost reads: { WorklistInput calls.now returns.now pushes.now pops.now k n },
+}
 
 // The place of the first record of each state, or some other place where a state has none.
 pub fn firsts(section: &[u8], width: usize) -> [usize; 24]
@@ -18,18 +29,16 @@ pub fn firsts(section: &[u8], width: usize) -> [usize; 24]
 {
     let mut places = [0usize; 24];
     let mut last: usize = 24;
-    let mut at: usize = 0;
-    'records: while width <= section.len() - at {
-        let p = wide(section[at]);
+    'records: for k in 0..section.len() / width {
+        let at = k * width;
+        let p = usize::from(section[at]);
         if p == last {
-            at += width;
             continue 'records;
         }
         if p < 24 {
             places[p] = at;
         }
         last = p;
-        at += width;
     }
     places
 }
@@ -49,16 +58,14 @@ fn push_all(
     ensures { PushesOn p b n calls.now pushes.now rows.old rows.new }
 {
     let u = pair(p, b, n);
-    let mut at = from;
-    'records: while 3 <= calls.len() - at {
-        if wide(calls[at]) != p {
+    'records: for fields in calls[from..].chunks_exact(3) {
+        if usize::from(fields[0]) != p {
             return;
         }
-        let a = wide(calls[at + 1]);
-        let q = wide(calls[at + 2]);
+        let a = usize::from(fields[1]);
+        let q = usize::from(fields[2]);
         let v = pair(q, after_move(pushes, b, a, n), n);
         gain(v, u, rows, marks);
-        at += 3;
     }
 }
 
@@ -132,82 +139,66 @@ fn spread(
 fn look(
     p: usize,
     b: usize,
-    calls: &[u8],
-    returns: &[u8],
-    pushes: &[u8; 800],
-    pops: &[u8; 20000],
+    input: Input,
     pushing: usize,
     popping: usize,
-    k: usize,
-    n: usize,
     rows: &mut [u64; 6000],
     links: &mut [u64; 6000],
     popped: &mut [u64; 6000],
     marks: &mut [u8; 600],
 )
-    requires { WorklistInput calls.now returns.now pushes.now pops.now k n × Place 3 calls.now pushing × Place 4 returns.now popping × (p < k) × (b ≤ n) }
-    ensures { LooksOn calls.now returns.now pushes.now pops.now k n
+    requires { Place 3 input.calls.now pushing × Place 4 input.returns.now popping × (p < input.k) × (b ≤ input.n) }
+    ensures { LooksOn input.entry.calls.now input.entry.returns.now input.entry.pushes.now input.entry.pops.now input.entry.k input.entry.n
         rows.old links.old rows.new links.new }
 {
+    let k = input.k;
+    let n = input.n;
     let u = pair(p, b, n);
     if !any(rows, u) {
         return;
     }
-    push_all(pushing, p, b, calls, pushes, n, rows, marks);
+    push_all(pushing, p, b, input.calls, input.pushes, n, rows, marks);
     pop_all(
-        popping, p, b, returns, pops, k, n, rows, links, popped, marks,
+        popping,
+        p,
+        b,
+        input.returns,
+        input.pops,
+        k,
+        n,
+        rows,
+        links,
+        popped,
+        marks,
     );
     spread(u, k * (n + 1), rows, links, marks);
 }
 
 // One look at every pair that is marked.
 fn pass(
-    calls: &[u8],
-    returns: &[u8],
-    pushes: &[u8; 800],
-    pops: &[u8; 20000],
+    input: Input,
     pushing: &[usize; 24],
     popping: &[usize; 24],
-    k: usize,
-    n: usize,
     rows: &mut [u64; 6000],
     links: &mut [u64; 6000],
     popped: &mut [u64; 6000],
     marks: &mut [u8; 600],
 )
-    requires { WorklistInput calls.now returns.now pushes.now pops.now k n × Places 3 calls.now pushing.now × Places 4 returns.now popping.now }
-    ensures { LooksOn calls.now returns.now pushes.now pops.now k n
+    requires { Places 3 input.calls.now pushing.now × Places 4 input.returns.now popping.now }
+    ensures { LooksOn input.entry.calls.now input.entry.returns.now input.entry.pushes.now input.entry.pops.now input.entry.k input.entry.n
         rows.old links.old rows.new links.new }
 {
-    let width = n + 1;
-    let pairs = k * width;
-    let mut u: usize = 0;
-    'pairs: while u < pairs {
+    let width = input.n + 1;
+    let pairs = input.k * width;
+    'pairs: for u in 0..pairs {
         if marks[u] == 0 {
-            u += 1;
             continue 'pairs;
         }
         marks[u] = 0;
         let p = u / width;
         let at = pushing[p];
         let from = popping[p];
-        look(
-            p,
-            u % width,
-            calls,
-            returns,
-            pushes,
-            pops,
-            at,
-            from,
-            k,
-            n,
-            rows,
-            links,
-            popped,
-            marks,
-        );
-        u += 1;
+        look(p, u % width, input, at, from, rows, links, popped, marks);
     }
 }
 
@@ -216,12 +207,10 @@ fn any_marked(marks: &[u8; 600], pairs: usize) -> bool
     requires { pairs ≤ 600 }
     ensures { AnyMarked marks.now pairs result }
 {
-    let mut u: usize = 0;
-    'pairs: while u < pairs {
+    'pairs: for u in 0..pairs {
         if marks[u] != 0 {
             return true;
         }
-        u += 1;
     }
     false
 }
@@ -231,12 +220,10 @@ fn inner_link(p: usize, a: usize, q: usize, moves: &[u8; 800], n: usize, links: 
     requires { (p < 24) × (a < 32) × (q < 24) × Nexts n moves.now }
     ensures { LinksOn p a q n moves.now links.old links.new }
 {
-    let mut b: usize = 0;
-    'seconds: while b <= n {
+    'seconds: for b in 0..n + 1 {
         let u = pair(p, b, n);
         let v = pair(q, after_move(moves, b, a, n), n);
         put(links, u, v);
-        b += 1;
     }
 }
 
@@ -245,56 +232,37 @@ fn inner_links(internals: &[u8], moves: &[u8; 800], n: usize, links: &mut [u64; 
     requires { Named 3 24 internals.now × Nexts n moves.now }
     ensures { AllLinks n internals.now moves.now links.old links.new }
 {
-    let mut at: usize = 0;
-    'records: while 3 <= internals.len() - at {
-        let p = wide(internals[at]);
-        let a = wide(internals[at + 1]);
-        let q = wide(internals[at + 2]);
+    'records: for fields in internals.chunks_exact(3) {
+        let p = usize::from(fields[0]);
+        let a = usize::from(fields[1]);
+        let q = usize::from(fields[2]);
         inner_link(p, a, q, moves, n, links);
-        at += 3;
     }
 }
 
 // Looks until no pair is marked, so many passes at most.
-fn looks(
-    calls: &[u8],
-    returns: &[u8],
-    pushes: &[u8; 800],
-    pops: &[u8; 20000],
-    k: usize,
-    n: usize,
-    rows: &mut [u64; 6000],
-    links: &mut [u64; 6000],
-)
-    requires { WorklistInput calls.now returns.now pushes.now pops.now k n }
-    ensures { LooksOn calls.now returns.now pushes.now pops.now k n
+fn looks(input: Input, rows: &mut [u64; 6000], links: &mut [u64; 6000])
+    ensures { LooksOn input.entry.calls.now input.entry.returns.now input.entry.pushes.now input.entry.pops.now input.entry.k input.entry.n
         rows.old links.old rows.new links.new }
 {
-    let pushing = firsts(calls, 3);
-    let popping = firsts(returns, 4);
-    let pairs = k * (n + 1);
+    let pushing = firsts(input.calls, 3);
+    let popping = firsts(input.returns, 4);
+    let pairs = input.k * (input.n + 1);
     let mut popped = [0u64; 6000];
     let mut marks = [1u8; 600];
-    let mut left: usize = 360601;
-    'passes: while 0 < left {
+    'passes: for _ in 0..360601 {
         if !any_marked(&marks, pairs) {
             return;
         }
         pass(
-            calls,
-            returns,
-            pushes,
-            pops,
+            input,
             &pushing,
             &popping,
-            k,
-            n,
             rows,
             links,
             &mut popped,
             &mut marks,
         );
-        left -= 1;
     }
 }
 
@@ -316,5 +284,13 @@ pub fn quick(
 {
     let mut links = [0u64; 6000];
     inner_links(internals, moves, n, &mut links);
-    looks(calls, returns, pushes, pops, k, n, rows, &mut links);
+    let input = Input {
+        calls,
+        returns,
+        pushes,
+        pops,
+        k,
+        n,
+    };
+    looks(input, rows, &mut links);
 }

@@ -1,14 +1,12 @@
 -- The draws: the walk that collects what is present of possible records. Assumes nothing.
-use Rattle.std.proofs.Common.{◌≡◌, ℕ, ◌+◌, ◌/◌, ◌<◌, ◌≤◌, true, false, List, [], ◌∷◌, ◌++◌, length, get_or, take, drop, set, sym, refl, ap, ◌∙◌, subst, append-nil, add-one, arith, length-append, length-set, drop_of_length-le, length-take-le, take_all, drop-cons, take-suc-set, take_at, le-leb, leb-true}
+use Rattle.std.proofs.Common.{◌≡◌, ℕ, ◌+◌, ◌/◌, ◌<◌, ◌≤◌, List, [], ◌∷◌, ◌++◌, length, get_or, take, drop, set, sym, refl, ap, ◌∙◌, subst, append-nil, add-one, arith, length-append, length-set, drop_of_length-le, length-take-le, drop-cons, take-suc-set}
 use lib.ListN.{length-map}
 use lib.Seq.{append_snoc}
-use borrow.Author.Tests.{lt-leb}
 use Rattle.table_find.specs.Keys.{key}
-use Rattle.table_write.specs.Keys.{keys_of, Holds}
+use Rattle.table_write.specs.Keys.{keys_of}
 use Rattle.generate_spec.specs.Loads.{draw, present, after}
 use Rattle.generate_spec.proofs.Present.{present_in, present-out}
-use Rattle.generate.specs.Draws.{record_at, Draws}
-use Rattle.generate.specs.declared.draws.Drawn.{Drawn}
+use Rattle.generate.specs.Draws.{record_at, Drew}
 
 -- ---- the walk that collects the keys
 
@@ -56,24 +54,14 @@ module _ {d s₀ : ℕ} {rs : List (List ℕ)} {room : ℕ} {keys : List ℕ} {s
       }
 
       -- one more than there is room for
-      pub over-full : count ≡ length keys → Draws d s₀ rs room (record { fits = false; count = count; s = s₀ }) keys
-      over-full l = record {
-        fits = sym (lt-leb (length (present d s₀ rs)) room (omega (arith, sym (length-map (present d s₀ rs) key) ∙ ap length there ∙ length-append (take count keys) (record_at rs next ∷ keys_of (present d t (drop (next + 1) rs))), length-take-le count keys w.few, w.same-room)));
-        holds = record { count = sym (ap length first ∙ long); same = sym first };
-        last = refl;
-      }
-        where
-          long : length (take count keys) ≡ count
-          long = length-take-le count keys w.few
+      pub over-full : count ≡ length keys → room < length (present d s₀ rs)
+      over-full l = omega (arith, sym (length-map (present d s₀ rs) key) ∙ ap length there ∙ length-append (take count keys) (record_at rs next ∷ keys_of (present d t (drop (next + 1) rs))), length-take-le count keys w.few, w.same-room)
 
-          first : take room (keys_of (present d s₀ rs)) ≡ take count keys
-          first = ap (take room) there ∙ take_at (take count keys) (record_at rs next ∷ keys_of (present d t (drop (next + 1) rs))) room (long ∙ l ∙ w.same-room)
-
-  pub all_drawn : length rs ≤ next → Draws d s₀ rs room (record { fits = true; count = count; s = s }) keys
+  pub all_drawn : length rs ≤ next → Drew d s₀ rs room (record { count = count; s = s }) keys
   unfolding present after
   all_drawn h = record {
-    fits = sym (le-leb (length (present d s₀ rs)) room (omega (arith, counted, length-map (present d s₀ rs) key, w.same-room, w.few)));
-    holds = record { count = counted ∙ ap length (sym all); same = sym (all ∙ listed) };
+    few = omega (arith, counted, length-map (present d s₀ rs) key, w.same-room, w.few);
+    holds = record { count = counted; same = sym listed };
     last = sym (w.seeded ∙ ap (after s) done);
   }
     where
@@ -85,18 +73,3 @@ module _ {d s₀ : ℕ} {rs : List (List ℕ)} {room : ℕ} {keys : List ℕ} {s
 
       counted : count ≡ length (keys_of (present d s₀ rs))
       counted = sym (ap length listed ∙ length-take-le count keys w.few)
-
-      all : take room (keys_of (present d s₀ rs)) ≡ keys_of (present d s₀ rs)
-      all = take_all room (keys_of (present d s₀ rs)) (omega (arith, counted, w.few, w.same-room))
-
--- ---- where all that are present have room
-
-module _ {d s room : ℕ} {rs : List (List ℕ)} {r : Drawn} {keys : List ℕ} (w : Draws d s rs room r keys) (f : r.fits ≡ true) where
-  pub held-few : length (present d s rs) ≤ room
-  held-few = leb-true (length (present d s rs)) room (sym w.fits ∙ f)
-
-  pub held_all : Holds keys r.count (keys_of (present d s rs))
-  held_all = subst (Holds keys r.count) (take_all room (keys_of (present d s rs)) (omega (arith, held-few, length-map (present d s rs) key))) w.holds
-
-  pub last_drawn : r.s ≡ after s rs
-  last_drawn = w.last ∙ rw f

@@ -2,12 +2,16 @@
 use Rattle.std.proofs.Common.{◌≡◌, ℕ, ◌+◌, ◌*◌, ◌<◌, ◌≤◌, Bool, true, false, leb, List, length, take, drop, sym, refl, ap, ◌∙◌, arith, take_at, le-leb}
 use borrow.Author.Tests.{lt-leb}
 use Rattle.lists.specs.Lists.{over}
-use Rattle.lists.proofs.Refusals.{passes, fails, no_test, refuses, not_refused}
+use Rattle.lists.proofs.Refusals.{passes, fails, no_test, not_refused}
 use Rattle.limits.specs.declared.Limits.{Limits}
 use Rattle.limits.specs.Limits.{limits_fit}
 use Rattle.limits.proofs.Within.{limits-within}
 use Rattle.table_spec.specs.File.{bytes_of}
-use Rattle.quotient_spec.specs.declared.Written.TheVariants.{Length, Refused}
+use Rattle.std.specs.Prelude.{Ok, Err}
+use Rattle.refusals.specs.declared.Refusal.{Refusal}
+use Rattle.refusals.specs.declared.Refusal.TheVariants.{LimitsRange, OutputLength, Load as LoadSizes, LoadRecords}
+use Rattle.refusals.specs.Refusals.{number_of}
+use Rattle.refusals.proofs.Numbers.{refuses_by}
 use Rattle.table_write.specs.Keys.{Holds}
 use Rattle.table_write.specs.Tables.{keyed_table, written_for}
 use Rattle.table_write.proofs.Whole.{bytes-long}
@@ -33,7 +37,7 @@ module _ (n i c k : ℕ) (xs ys zs : List ℕ) where
   whole : length keyed ≡ size
   whole = omega (arith, bytes-long 1 (symbol_bytes i c k) (state_bytes n) xs ys zs, length_symbols i c k, length-states n)
 
-  pub short : (out : List ℕ) → length out < size → record { answer = Refused 21; out = out } ≡ written_for keyed out
+  pub short : (out : List ℕ) → length out < size → record { answer = Err OutputLength; out = out } ≡ written_for keyed out
   unfolding written_for
   short out h = sym (rw (lt-leb (length keyed) (length out) (omega (arith, whole)), written_for))
 
@@ -44,9 +48,9 @@ module _ (n i c k : ℕ) (xs ys zs : List ℕ) where
     pub room : length (bytes_of (keyed_table 1 (take k us) (take n vs) xs ys zs)) ≤ length out
     room = omega (arith, ap length same_bytes, whole)
 
-    pub put : {out' : List ℕ} → out' ≡ over (bytes_of (keyed_table 1 (take k us) (take n vs) xs ys zs)) out → record { answer = Length size; out = out' } ≡ written_for keyed out
+    pub put : {out' : List ℕ} → out' ≡ over (bytes_of (keyed_table 1 (take k us) (take n vs) xs ys zs)) out → record { answer = Ok size; out = out' } ≡ written_for keyed out
     unfolding written_for
-    put p = sym (rw (le-leb (length keyed) (length out) (omega (arith, whole)), written_for) (λ j. record { answer = Length (whole j); out = sym (p ∙ ap (λ x. over x out) same_bytes) j }))
+    put p = sym (rw (le-leb (length keyed) (length out) (omega (arith, whole)), written_for) (λ j. record { answer = Ok (whole j); out = sym (p ∙ ap (λ x. over x out) same_bytes) j }))
 
 -- ---- the operation
 
@@ -57,18 +61,18 @@ module _ (L : Limits) (g : Load) (out : List ℕ) where
   abbrev symbols : ℕ
   symbols = g.internals + (g.calls + g.returns)
 
-  refused : {k : ℕ} → generate_number L g out ≡ k → (k ≡ 0 → ⊥) → record { answer = Refused k; out = out } ≡ generate_of L g out
+  refused : {r : Refusal} → generate_number L g out ≡ number_of r → record { answer = Err r; out = out } ≡ generate_of L g out
   unfolding generate_of
-  refused e h = refuses (generate_number L g out) _ (λ k. record { answer = Refused k; out = out }) e h
+  refused e = refuses_by (λ r. record { answer = Err r; out = out }) _ e
 
-  pub no_limits : limits_fit L ≡ false → record { answer = Refused 39; out = out } ≡ generate_of L g out
+  pub no_limits : limits_fit L ≡ false → record { answer = Err LimitsRange; out = out } ≡ generate_of L g out
   unfolding generate_number
-  no_limits e = refused (fails 39 _ e) (λ z. omega (arith, z))
+  no_limits e = refused (fails 39 _ e)
 
   module _ (l : limits_fit L ≡ true) where
-    pub no_sizes : sizes_fit L g.states symbols g.density ≡ false → record { answer = Refused 35; out = out } ≡ generate_of L g out
+    pub no_sizes : sizes_fit L g.states symbols g.density ≡ false → record { answer = Err LoadSizes; out = out } ≡ generate_of L g out
     unfolding generate_number
-    no_sizes e = refused (passes 39 _ l ∙ fails 35 _ e) (λ z. omega (arith, z))
+    no_sizes e = refused (passes 39 _ l ∙ fails 35 _ e)
 
     module _ (z : sizes_fit L g.states symbols g.density ≡ true) where
       pub small : Counts g.states symbols
@@ -79,9 +83,9 @@ module _ (L : Limits) (g : Load) (out : List ℕ) where
       last true true e f =
           rw (e, f, drawn_for, written_for) (not_refused (generate_number L g out) _ _ (passes 39 _ l ∙ passes 35 _ z ∙ passes 36 _ e ∙ passes 21 _ f ∙ no_test))
       last true false e f =
-          rw (e, f, drawn_for, written_for) (refused (passes 39 _ l ∙ passes 35 _ z ∙ passes 36 _ e ∙ fails 21 _ f) (λ z. omega (arith, z)))
+          rw (e, f, drawn_for, written_for) (refused {r = OutputLength} (passes 39 _ l ∙ passes 35 _ z ∙ passes 36 _ e ∙ fails 21 _ f))
       last false s e f =
-          rw (e, drawn_for) (refused (passes 39 _ l ∙ passes 35 _ z ∙ fails 36 _ e) (λ z. omega (arith, z)))
+          rw (e, drawn_for) (refused {r = LoadRecords} (passes 39 _ l ∙ passes 35 _ z ∙ fails 36 _ e))
 
       pub drawn : drawn_for g out ≡ generate_of L g out
       drawn = last few (leb (length (described_bytes g)) (length out)) refl refl

@@ -1,9 +1,9 @@
 -- What the functions of src/ are stated with. Assumes nothing.
-use Rattle.std.specs.Prelude.{ℕ, ◌≤◌, true, false, List, length}
+use Rattle.std.specs.Prelude.{ℕ, ◌≤◌, true, false, Err, List, length}
 use Rattle.limits.specs.Limits.{state_most, symbol_most}
 use Rattle.table_spec.specs.Limits.{move_limit, return_limit}
 use Rattle.quotient_spec.specs.Quotient.{QuotientDone}
-use Rattle.quotient_spec.specs.declared.Written.TheVariants.{Refused}
+use Rattle.refusals.specs.declared.Refusal.TheVariants.{LoadRecords}
 use Rattle.table_write.specs.Tables.{written_for}
 use Rattle.generate_spec.specs.Loads.{Load, records_few, described, described_bytes}
 
@@ -21,4 +21,4 @@ pub record FewKeys (internals calls returns : List ℕ) : Type 0 where
 
 -- 36 and 21: the answer and the output where 39 and 35 do not apply
 unfoldable pub drawn_for : Load → List ℕ → QuotientDone
-drawn_for g out = elim (records_few (described g)) [ true ↦ written_for (described_bytes g) out | false ↦ record { answer = Refused 36; out = out } ]
+drawn_for g out = elim (records_few (described g)) [ true ↦ written_for (described_bytes g) out | false ↦ record { answer = Err LoadRecords; out = out } ]

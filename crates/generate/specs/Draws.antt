@@ -1,5 +1,5 @@
 -- What the functions of src/ are stated with: the possible records of a section by number, and what the draws for them give. Assumes nothing.
-use Rattle.std.specs.Prelude.{◌≡◌, ℕ, ◌+◌, ◌-◌, ◌≤◌, true, false, ◌⊎◌, List, [], length, take, replicate, nat_le, slice_index_or}
+use Rattle.std.specs.Prelude.{◌≡◌, ℕ, ◌+◌, ◌-◌, ◌<◌, ◌≤◌, ◌⊎◌, Option, MatchOption, List, [], length, replicate, slice_index_or}
 use Rattle.lists.specs.Lists.{upto}
 use Rattle.limits.specs.Limits.{state_most, symbol_most}
 use Rattle.table_find.specs.Keys.{key}
@@ -21,9 +21,12 @@ tails w n = length (tuples (replicate (w - 2) (upto n)))
 unfoldable pub record_at : List (List ℕ) → ℕ → ℕ
 record_at rs i = key (slice_index_or rs i [])
 
--- what the draws for records give, from s on, with room for so many: the keys of the first records present, as many as there is room for, and the
--- last s, or the first where the records do not fit
-pub record Draws (density s : ℕ) (rs : List (List ℕ)) (room : ℕ) (r : Drawn) (keys : List ℕ) : Type 0 where
-  pub fits : r.fits ≡ nat_le (length (present density s rs)) room
-  pub holds : Holds keys r.count (take room (keys_of (present density s rs)))
-  pub last : r.s ≡ (elim r.fits [ true ↦ after s rs | false ↦ s ])
+-- what the draws for records give, from s on, where there is room for all that are present: their keys, and the last s
+pub record Drew (density s : ℕ) (rs : List (List ℕ)) (room : ℕ) (r : Drawn) (keys : List ℕ) : Type 0 where
+  pub few : length (present density s rs) ≤ room
+  pub holds : Holds keys r.count (keys_of (present density s rs))
+  pub last : r.s ≡ after s rs
+
+-- .. and nothing where there is not
+abbrev pub Draws : ℕ → ℕ → List (List ℕ) → ℕ → Option Drawn → List ℕ → Type 0
+Draws density s rs room r keys = MatchOption r (room < length (present density s rs)) (λ x. Drew density s rs room x keys)

@@ -3,10 +3,9 @@ ghost use Rattle.std.specs.Prelude.{◌≡◌, ◌*◌, ◌%◌, ◌^◌, ◌<�
 ghost use Rattle.generate_spec.specs.Loads.{draw, possible};
 ghost use Rattle.generate.specs.Draws.{Shape, tails, record_at, Draws};
 
-// What the draws of a section give: whether the records present fit, how many of them have room, and the last s, or the first where they do not fit.
+// What the draws of a section give where the records present fit: how many there are, and the last s.
 #[derive(Clone, Copy)]
 pub struct Drawn {
-    pub fits: bool,
     pub count: usize,
     pub s: u32,
 }
@@ -53,7 +52,7 @@ fn key_at(width: usize, states: usize, from: usize, symbols: usize, at: usize) -
     ((both * 256 + tail / states) * 256 + tail % states) as u32
 }
 
-// The records of a section that are present, as keys: each possible record, in file order, takes one draw.
+// The records of a section that are present, as keys: each possible record, in file order, takes one draw. Nothing where there is no room for all of them.
 pub fn collect(
     width: usize,
     states: usize,
@@ -62,34 +61,23 @@ pub fn collect(
     density: u32,
     seed: u32,
     keys: &mut [u32],
-) -> Drawn
+) -> Option<Drawn>
     requires { Shape width states from symbols }
     ensures { Draws density seed (possible width states from symbols) (length keys.old) result keys.new }
 {
     let all = states * (symbols * tails_of(width, states));
     let mut s = seed;
     let mut count: usize = 0;
-    let mut next: usize = 0;
-    'records: while next < all {
+    'records: for next in 0..all {
         s = step(s);
-        let at = next;
-        next += 1;
         if density <= s / 65536 {
             continue 'records;
         }
         if count == keys.len() {
-            return Drawn {
-                fits: false,
-                count,
-                s: seed,
-            };
+            return None;
         }
-        keys[count] = key_at(width, states, from, symbols, at);
+        keys[count] = key_at(width, states, from, symbols, next);
         count += 1;
     }
-    Drawn {
-        fits: true,
-        count,
-        s,
-    }
+    Some(Drawn { count, s })
 }

@@ -9,7 +9,7 @@ ghost use Rattle.generate.specs.Counts.{Counts, drawn_for};
 
 use draws::collect;
 use limits::Limits;
-use quotient_spec::Written;
+use refusals::Refusal;
 
 mod draws;
 mod write;
@@ -54,26 +54,23 @@ fn write_drawn(
     returns: usize,
     density: u32,
     out: &mut [u8],
-) -> Written
+) -> Result<usize, Refusal>
     requires { Counts states (internals + (calls + returns)) }
     ensures { record { answer = result; out = out.new } ≡ drawn_for (load_of seed states internals calls returns density) out.old }
 {
     let mut internal_keys = [0u32; 1024];
-    let i = collect(3, states, 0, internals, density, seed, &mut internal_keys);
-    if !i.fits {
-        return Written::Refused(36);
-    }
+    let Some(i) = collect(3, states, 0, internals, density, seed, &mut internal_keys) else {
+        return Err(Refusal::LoadRecords);
+    };
     let mut call_keys = [0u32; 1024];
-    let c = collect(3, states, internals, calls, density, i.s, &mut call_keys);
-    if !c.fits {
-        return Written::Refused(36);
-    }
+    let Some(c) = collect(3, states, internals, calls, density, i.s, &mut call_keys) else {
+        return Err(Refusal::LoadRecords);
+    };
     let from = internals + calls;
     let mut return_keys = [0u32; 4096];
-    let r = collect(4, states, from, returns, density, c.s, &mut return_keys);
-    if !r.fits {
-        return Written::Refused(36);
-    }
+    let Some(r) = collect(4, states, from, returns, density, c.s, &mut return_keys) else {
+        return Err(Refusal::LoadRecords);
+    };
     write_keys(
         states,
         internals,
@@ -96,16 +93,16 @@ pub fn generate_within(
     returns: usize,
     density: u32,
     out: &mut [u8],
-) -> Written
+) -> Result<usize, Refusal>
     ensures answers { record { answer = result; out = out.new } ≡ generate_of limits (load_of seed states internals calls returns density) out.old }
     ensures number { GenerateSays limits (load_of seed states internals calls returns density) out.old result }
     ensures promises { Promises limits (load_of seed states internals calls returns density) result out.new }
 {
     if !limits::limits_fit(limits) {
-        return Written::Refused(39);
+        return Err(Refusal::LimitsRange);
     }
     if !sizes_fit(limits, states, internals, calls, returns, density) {
-        return Written::Refused(35);
+        return Err(Refusal::Load);
     }
     write_drawn(seed, states, internals, calls, returns, density, out)
 }
@@ -119,7 +116,7 @@ pub fn generate(
     returns: usize,
     density: u32,
     out: &mut [u8],
-) -> Written
+) -> Result<usize, Refusal>
     ensures answers { record { answer = result; out = out.new } ≡ generate_of standard (load_of seed states internals calls returns density) out.old }
     ensures number { GenerateSays standard (load_of seed states internals calls returns density) out.old result }
     ensures promises { Promises standard (load_of seed states internals calls returns density) result out.new }

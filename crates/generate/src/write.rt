@@ -6,7 +6,7 @@ ghost use Rattle.table_write.specs.Tables.{keyed_table, written_for};
 ghost use Rattle.generate_spec.specs.Loads.{kind_of, symbol_bytes, state_byte, state_bytes};
 ghost use Rattle.generate.specs.Counts.{Counts, FewKeys};
 
-use quotient_spec::Written;
+use refusals::Refusal;
 
 // The byte of a symbol: "numbered in that order".
 fn kind_of(internals: usize, calls: usize, symbol: usize) -> u8
@@ -27,10 +27,8 @@ fn put_symbols(internals: usize, calls: usize, symbols: usize, out: &mut [u8])
     requires { (internals + calls ≤ 64) × (symbols ≤ length out.old) }
     ensures { out.new ≡ over (symbol_bytes internals calls symbols) out.old }
 {
-    let mut a: usize = 0;
-    'symbols: while a < symbols {
+    'symbols: for a in 0..symbols {
         out[a] = kind_of(internals, calls, a);
-        a += 1;
     }
 }
 
@@ -56,10 +54,8 @@ fn put_states(states: usize, out: &mut [u8])
     requires { states ≤ length out.old }
     ensures { out.new ≡ over (state_bytes states) out.old }
 {
-    let mut q: usize = 0;
-    'states: while q < states {
+    'states: for q in 0..states {
         out[q] = state_byte(states, q);
-        q += 1;
     }
 }
 
@@ -76,7 +72,7 @@ pub(crate) fn write_keys(
     pushes: &[u32],
     pops: &[u32],
     out: &mut [u8],
-) -> Written
+) -> Result<usize, Refusal>
     requires { Counts states symbols × (internals + calls ≤ symbols) × FewKeys moves.now pushes.now pops.now }
     ensures { record { answer = result; out = out.new }
         ≡ written_for
@@ -86,7 +82,7 @@ pub(crate) fn write_keys(
     let records = 3 * moves.len() + 3 * pushes.len() + 4 * pops.len();
     let length = symbols + states + records + 12;
     if out.len() < length {
-        return Written::Refused(21);
+        return Err(Refusal::OutputLength);
     }
     let mut symbol_bytes = [0u8; 64];
     put_symbols(internals, calls, symbols, &mut symbol_bytes);
@@ -101,5 +97,5 @@ pub(crate) fn write_keys(
         pops,
         out,
     );
-    Written::Length(length)
+    Ok(length)
 }

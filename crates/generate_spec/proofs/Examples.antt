@@ -12,7 +12,7 @@ use Rattle.generate_spec.specs.Loads.{Load, load_of, draw, kind_of, symbol_bytes
 
 -- two states and a symbol of each kind, drawn from seed 0: the first draw is 1,013,904,223, above 15,470 times 65,536
 pub drawn : described_bytes (load_of 0 2 1 1 1 20000) ≡ 0 ∷ 1 ∷ 2 ∷ 1 ∷ 2 ∷ 0 ∷ 0 ∷ 0 ∷ 0 ∷ 0 ∷ 1 ∷ 1 ∷ 2 ∷ 1 ∷ 0 ∷ 15 ∷ 0 ∷ 12 ∷ 0 ∷ 10 ∷ 0 ∷ 4 ∷ 0 ∷ 4 ∷ 0 ∷ 1 ∷ 0 ∷ []
-unfolding concat_map upto concat bytes16 from_returns from_calls from_internals from_states from_symbols trailer_of bytes_of bit_of draw kind_of symbol_bytes state_byte state_bytes tuples span possible present after possible_internals possible_calls possible_returns seed_calls seed_returns described described_bytes
+unfolding upto bytes16 from_returns from_calls from_internals from_states from_symbols trailer_of bytes_of bit_of draw kind_of symbol_bytes state_byte state_bytes tuples span possible present after possible_internals possible_calls possible_returns seed_calls seed_returns described described_bytes
 drawn = refl
 
 -- the limits, the load, and room for so many bytes
@@ -40,5 +40,5 @@ loads =
     ∷ []
 
 pub numbers : map number_for loads ≡ 0 ∷ 21 ∷ 35 ∷ 35 ∷ 35 ∷ 35 ∷ 36 ∷ 0 ∷ 39 ∷ []
-unfolding concat_map upto concat bytes16 from_returns from_calls from_internals from_states from_symbols trailer_of bytes_of bit_of draw kind_of symbol_bytes state_byte state_bytes tuples span possible present after possible_internals possible_calls possible_returns seed_calls seed_returns described described_bytes first_failed limits_fit sizes_fit records_few generate_number
+unfolding upto bytes16 from_returns from_calls from_internals from_states from_symbols trailer_of bytes_of bit_of draw kind_of symbol_bytes state_byte state_bytes tuples span possible present after possible_internals possible_calls possible_returns seed_calls seed_returns described described_bytes first_failed limits_fit sizes_fit records_few generate_number
 numbers = refl

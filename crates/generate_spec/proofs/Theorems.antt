@@ -12,7 +12,11 @@ use Rattle.table_spec.specs.File.{table_of}
 use Rattle.table_spec.specs.Reading.{Readable}
 use Rattle.quotient_spec.specs.Quotient.{QuotientDone}
 use Rattle.quotient_spec.specs.Demands.{OnWriting}
-use Rattle.quotient_spec.specs.declared.Written.{Written}
+use Rattle.refusals.specs.declared.Refusal.{Refusal}
+use Rattle.refusals.specs.declared.Refusal.TheVariants.{LimitsRange, Load as Load_refused, LoadRecords, OutputLength}
+use Rattle.refusals.specs.Refusals.{Known}
+use Rattle.refusals.proofs.Numbers.{known_of, failed_known, none_known}
+use Rattle.std.specs.Prelude.{Result}
 use Rattle.quotient_spec.proofs.Writing.{on_writing, says_length}
 use Rattle.generate_spec.specs.Loads.{Load, described, described_bytes, sizes_fit, records_few, generate_number, generate_of, GenerateSays}
 use Rattle.generate_spec.specs.Demands.{Promises}
@@ -39,11 +43,15 @@ module _ (L : Limits) (g : Load) (out : List ℕ) where
     described = writes (λ b. table_of b ≡ described g) (λ l z f. described_table g L l z f);
   }
 
+  generate-known : Known (generate_number L g out)
+  unfolding generate_number
+  generate-known = failed_known _ _ (known_of LimitsRange) (failed_known _ _ (known_of Load_refused) (failed_known _ _ (known_of LoadRecords) (failed_known _ _ (known_of OutputLength) none_known)))
+
   numbered : GenerateSays L g out (generate_of L g out).answer
   unfolding generate_of
-  numbered = says_length (generate_number L g out) (described_bytes g) out
+  numbered = says_length (generate_number L g out) (described_bytes g) out generate-known
 
   -- the contract, from its equation
-  pub generated : {r : Written} {now : List ℕ} → record { answer = r; out = now } ≡ generate_of L g out
+  pub generated : {r : Result ℕ Refusal} {now : List ℕ} → record { answer = r; out = now } ≡ generate_of L g out
       → (record { answer = r; out = now } ≡ generate_of L g out) × (GenerateSays L g out r × Promises L g r now)
   generated e = (e, subst (λ (d : QuotientDone). GenerateSays L g out d.answer × Promises L g d.answer d.out) (sym e) (numbered, promises))

@@ -27,13 +27,13 @@ module _ (xss : List (List ℕ)) where
   rest = length (tuples xss)
 
   pub length-tuples : (xs : List ℕ) → length (tuples (xs ∷ xss)) ≡ length xs * rest
-  unfolding tuples concat_map
+  unfolding tuples
   length-tuples [] = sym (zero-mul rest)
   length-tuples (x ∷ xs) =
       omega (arith, length-append (map (λ r. x ∷ r) (tuples xss)) (tuples (xs ∷ xss)), length-map (tuples xss) (λ r. x ∷ r), length-tuples xs, suc-mul (length xs) rest)
 
   at_place : (xs : List ℕ) (j i : ℕ) → j < length xs → i < rest → get_or (tuples (xs ∷ xss)) (j * rest + i) [] ≡ get_or xs j 0 ∷ get_or (tuples xss) i []
-  unfolding tuples concat_map
+  unfolding tuples
   at_place [] j i h k = absurd (omega arith)
   at_place (x ∷ xs) zero i h k =
       let e : zero * rest + i ≡ i = omega (arith, zero-mul rest) in
@@ -107,7 +107,7 @@ rising-first : {x : ℕ} {xs : List ℕ} → Rising (x ∷ xs) → (y : ℕ) →
 rising-first {x} {xs} h y d = let (i, l, e) = mem_index y xs d in subst (λ (z : ℕ). x < z) e (h.rises 0 (suc i) (omega arith) (omega arith))
 
 pub tuples-ascend : (xss : List (List ℕ)) → ((xs : List ℕ) → Memᴰ xs xss → Rising xs) → ascend (tuples xss) ≡ true
-unfolding tuples concat_map ascend ascend_from
+unfolding tuples ascend ascend_from
 tuples-ascend [] h = refl
 tuples-ascend (xs ∷ xss) h = go xs (h xs (Memᴰ.head refl)) (tuples-ascend xss (λ ys d. h ys (Memᴰ.tail d)))
   where
@@ -161,7 +161,7 @@ pub record StateList (n m : ℕ) (qs : List ℕ) : Type 0 where
   pub below : all (λ q. ltb q n) qs ≡ true
 
 state-list : (n m : ℕ) (qs : List ℕ) → Memᴰ qs (tuples (replicate m (upto n))) → StateList n m qs
-unfolding tuples all
+unfolding tuples
 state-list n zero qs (Memᴰ.head e) = record { long = ap length e; below = ap (all (λ q. ltb q n)) e }
 state-list n zero qs (Memᴰ.tail d) = absurd (not-nil d)
 state-list n (suc m) qs d = let t = tuple_of (upto n) (replicate m (upto n)) qs d in go t (state-list n m t.others t.others_in)

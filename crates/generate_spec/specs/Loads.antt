@@ -1,13 +1,13 @@
 -- A load that can be made again (document 02, request (x)). Assumes nothing.
-use Rattle.std.specs.Prelude.{Bool, true, false, ◌&&◌, List, [], ◌∷◌, map, ℕ, ◌+◌, ◌-◌, ◌*◌, ◌/◌, ◌%◌, ◌^◌, length, replicate, eqb, ltb, leb}
+use Rattle.std.specs.Prelude.{Bool, true, false, ◌&&◌, Result, Ok, Err, List, [], ◌∷◌, map, ℕ, ◌+◌, ◌-◌, ◌*◌, ◌/◌, ◌%◌, ◌^◌, length, replicate, eqb, ltb, leb}
 use Rattle.lists.specs.Lists.{concat_map, upto, over, first_failed, Says}
 use Rattle.limits.specs.declared.Limits.{Limits}
+use Rattle.refusals.specs.declared.Refusal.{Refusal}
+use Rattle.refusals.specs.Refusals.{refusal, number_in, one_value, values_in}
 use Rattle.limits.specs.Limits.{limits_fit}
 use Rattle.table_spec.specs.Limits.{move_limit, return_limit}
 use Rattle.table_spec.specs.File.{Table, bytes_of}
-use Rattle.quotient_spec.specs.Quotient.{bit_of, QuotientDone, written_number, written_values}
-use Rattle.quotient_spec.specs.declared.Written.{Written}
-use Rattle.quotient_spec.specs.declared.Written.TheVariants.{Length, Refused}
+use Rattle.quotient_spec.specs.Quotient.{bit_of, QuotientDone}
 
 -- "a seed of 32 bits"; "Given are the state count, the counts of internal, call and return symbols .. and a density"
 pub record Load : Type 0 where
@@ -117,10 +117,10 @@ generate_number L g out =
 -- the operation: "The answer is its length; later bytes keep their content."
 unfoldable pub generate_of : Limits → Load → List ℕ → QuotientDone
 generate_of L g out = elim (eqb (generate_number L g out) 0) [
-  | true ↦ record { answer = Length (length (described_bytes g)); out = over (described_bytes g) out }
-  | false ↦ record { answer = Refused (generate_number L g out); out = out }
+  | true ↦ record { answer = Ok (length (described_bytes g)); out = over (described_bytes g) out }
+  | false ↦ record { answer = Err (refusal (generate_number L g out)); out = out }
 ]
 
 -- the answer by its number and its values
-abbrev pub GenerateSays : Limits → Load → List ℕ → Written → Type 0
-GenerateSays L g out r = Says (written_number r) (written_values r) (generate_number L g out) (length (described_bytes g) ∷ [])
+abbrev pub GenerateSays : Limits → Load → List ℕ → Result ℕ Refusal → Type 0
+GenerateSays L g out r = Says (number_in r) (values_in one_value r) (generate_number L g out) (length (described_bytes g) ∷ [])

@@ -25,24 +25,3 @@ limits-within e =
 pub standard-fits : limits_fit standard ≡ true
 unfolding limits_fit
 standard-fits = refl
-
--- ---- as the code tests them
-
-module _ (L : Limits) where
-  pub no_state : L.states < 1 → false ≡ limits_fit L
-  unfolding limits_fit
-  no_state h = sym (rw (lt-leb _ _ h, limits_fit))
-
-  module _ (p1 : 1 ≤ L.states) where
-    pub many_states : state_most < L.states → false ≡ limits_fit L
-    unfolding limits_fit
-    many_states h = sym (rw (le-leb _ _ p1, lt-leb _ _ h, limits_fit))
-
-    module _ (p2 : L.states ≤ state_most) where
-      pub no_symbol : L.symbols < 1 → false ≡ limits_fit L
-      unfolding limits_fit
-      no_symbol h = sym (rw (le-leb _ _ p1, le-leb _ _ p2, lt-leb _ _ h, limits_fit))
-
-      pub by_symbols : 1 ≤ L.symbols → leb L.symbols symbol_most ≡ limits_fit L
-      unfolding limits_fit
-      by_symbols p3 = sym (rw (le-leb _ _ p1, le-leb _ _ p2, le-leb _ _ p3, limits_fit))

@@ -13,6 +13,10 @@ state_most = 40
 abbrev pub symbol_most : ℕ
 symbol_most = 64
 
+-- the limits that permit every table: "The program uses 40 and 64."
+abbrev pub widest : Limits
+widest = record { states = state_most; symbols = symbol_most }
+
 -- 39: "a limit of zero or past its maximum"
 unfoldable pub limits_fit : Limits → Bool
 limits_fit L = leb 1 L.states && leb L.states state_most && leb 1 L.symbols && leb L.symbols symbol_most

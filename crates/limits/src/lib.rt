@@ -5,7 +5,7 @@ ghost use Rattle.std.specs.Prelude.{◌≡◌};
 ghost use Rattle.limits.specs.Limits.{standard, limits_fit};
 
 // How many states and symbols a table may have.
-#[derive(Clone, Copy)]
+#[derive(Clone, Copy, Debug, PartialEq, Eq)]
 pub struct Limits {
     pub states: usize,
     pub symbols: usize,
@@ -15,6 +15,14 @@ pub struct Limits {
 pub const STATES: usize = 24;
 
 pub const SYMBOLS: usize = 32;
+
+impl Default for Limits {
+    ghost is_default = { λ r. r ≡ standard };
+
+    fn default() -> Limits {
+        standard()
+    }
+}
 
 // The limits of such a caller.
 pub fn standard() -> Limits
@@ -27,17 +35,9 @@ pub fn standard() -> Limits
 }
 
 // 39: no limit is zero or past its maximum.
+#[tactic(auto, unfolding(crate::specs::Limits::limits_fit))]
 pub fn limits_fit(limits: Limits) -> bool
     ensures { result ≡ limits_fit limits }
 {
-    if limits.states < 1 {
-        return false;
-    }
-    if 40 < limits.states {
-        return false;
-    }
-    if limits.symbols < 1 {
-        return false;
-    }
-    limits.symbols <= 64
+    1 <= limits.states && limits.states <= 40 && 1 <= limits.symbols && limits.symbols <= 64
 }

@@ -65,7 +65,6 @@ filter_map {A} {B} f g (x ∷ xs) = go (f (g x)) (filter_map f g xs)
     go false e = e
 
 pub concat_map-append : {A B : Type 0} (f : A → List B) (xs ys : List A) → concat_map f (xs ++ ys) ≡ concat_map f xs ++ concat_map f ys
-unfolding concat_map
 concat_map-append f [] ys = refl
 concat_map-append f (x ∷ xs) ys = ap (λ zs. f x ++ zs) (concat_map-append f xs ys) ∙ sym (append_assoc (f x) (concat_map f xs) (concat_map f ys))
 
@@ -79,7 +78,7 @@ unfoldable pub grid : List ℕ → List ℕ → List (ℕ × ℕ)
 grid rows columns = concat_map (λ q. map (λ x. (q, x)) columns) rows
 
 pub length_grid : (rows columns : List ℕ) → length (grid rows columns) ≡ length rows * length columns
-unfolding grid concat_map
+unfolding grid
 length_grid [] columns = sym (zero-mul (length columns))
 length_grid (q ∷ rows) columns =
     let e = length-append (map (λ x. (q, x)) columns) (grid rows columns) in

@@ -87,7 +87,6 @@ one_on xs i h = rw add-one (drop-cons xs i 0 h)
 
 module _ {A : Type 0} (f : A → Bool) where
   pub any-true : (xs : List A) → any f xs ≡ true → (x : A) × Memᴰ x xs × (f x ≡ true)
-  unfolding any
   any-true [] e = absurd (true≢false (sym e))
   any-true (x ∷ xs) e = go (f x) refl e (any-true xs)
     where
@@ -96,7 +95,6 @@ module _ {A : Type 0} (f : A → Bool) where
       go false p q rest = let r = rest q in (r.0, Memᴰ.tail r.1, r.2)
 
   pub any_false : (xs : List A) → any f xs ≡ false → (y : A) → Memᴰ y xs → f y ≡ false
-  unfolding any
   any_false (x ∷ xs) e y m = go (f x) refl e m (any_false xs)
     where
       go : (t : Bool) → f x ≡ t → (t || any f xs) ≡ false → Memᴰ y (x ∷ xs) → (any f xs ≡ false → (y : A) → Memᴰ y xs → f y ≡ false) → f y ≡ false
@@ -106,7 +104,6 @@ module _ {A : Type 0} (f : A → Bool) where
   any_false [] e y m = elim m [ ]
 
   pub any_of : (xs : List A) (y : A) → Memᴰ y xs → f y ≡ true → any f xs ≡ true
-  unfolding any
   any_of [] y m e = elim m [ ]
   any_of (x ∷ xs) y m e = go (f x) refl m (λ k. any_of xs y k e)
     where
@@ -116,13 +113,11 @@ module _ {A : Type 0} (f : A → Bool) where
       go false p (Memᴰ.tail m) ih = ih m
 
   pub all_true : (xs : List A) → all f xs ≡ true → (y : A) → Memᴰ y xs → f y ≡ true
-  unfolding all
   all_true (x ∷ xs) e y (Memᴰ.head h) = ap f h ∙ (and-true (f x) (all f xs) e).0
   all_true (x ∷ xs) e y (Memᴰ.tail m) = all_true xs (and-true (f x) (all f xs) e).1 y m
   all_true [] e y m = elim m [ ]
 
   pub all_of : (xs : List A) → ((y : A) → Memᴰ y xs → f y ≡ true) → all f xs ≡ true
-  unfolding all
   all_of [] h = refl
   all_of (x ∷ xs) h = and_of (h x (Memᴰ.head refl)) (all_of xs (λ y m. h y (Memᴰ.tail m)))
 
@@ -179,7 +174,6 @@ filter-filter {A} f g (x ∷ xs) = go (f x) (g x) refl refl (filter-filter f g x
 -- ---- gather
 
 pub concat_map-mem : {A B : Type 0} (f : A → List B) (xs : List A) (y : B) → Memᴰ y (concat_map f xs) → (x : A) × Memᴰ x xs × Memᴰ y (f x)
-unfolding concat_map
 concat_map-mem f [] y m = absurd (not-nil m)
 concat_map-mem {A} f (x ∷ xs) y m = go (append_cases (f x) m) (concat_map-mem f xs y)
   where
@@ -192,7 +186,6 @@ pub concat_map-all : {A B : Type 0} (f : A → List B) (xs : List A) (P : B → 
 concat_map-all f xs P h y m = let r = concat_map-mem f xs y m in h r.0 r.1 y r.2
 
 pub concat_map_of : {A B : Type 0} (f : A → List B) (xs : List A) (x : A) (y : B) → Memᴰ x xs → Memᴰ y (f x) → Memᴰ y (concat_map f xs)
-unfolding concat_map
 concat_map_of f [] x y m h = absurd (not-nil m)
 concat_map_of {A} f (z ∷ xs) x y m h = go (cases_cons m) (λ k. concat_map_of f xs x y k h)
   where
@@ -256,7 +249,7 @@ unfolding mem
 mem-false x xs e y m = eqb-false x y (any_false (eqb x) xs e y m)
 
 pub mem-snoc : (x y : ℕ) (xs : List ℕ) → mem x (xs ++ (y ∷ [])) ≡ (mem x xs || eqb x y)
-unfolding mem any
+unfolding mem
 mem-snoc x y [] = or-none (eqb x y)
 mem-snoc x y (z ∷ xs) = ap (λ t. eqb x z || t) (mem-snoc x y xs) ∙ sym (or_assoc (eqb x z) (mem x xs) (eqb x y))
 

@@ -31,19 +31,18 @@ parts-wide (suc k) w xs h r (Memᴰ.tail m) = parts-wide k w (drop w xs) (omega 
 
 -- cut and put together
 pub concat-parts : (k w : ℕ) (xs : List ℕ) → length xs ≡ k * w → concat (parts k w xs) ≡ xs
-unfolding parts concat
+unfolding parts
 concat-parts zero w [] h = refl
 concat-parts zero w (x ∷ xs) h = absurd (omega (arith, zero-mul w))
 concat-parts (suc k) w xs h = ap (λ ys. take w xs ++ ys) (concat-parts k w (drop w xs) (omega (arith, suc-mul k w, length-drop w xs))) ∙ take-append-drop w xs
 
 pub length-concat : (w : ℕ) (rs : List (List ℕ)) → ((r : List ℕ) → Memᴰ r rs → length r ≡ w) → length (concat rs) ≡ length rs * w
-unfolding concat
 length-concat w [] h = sym (zero-mul w)
 length-concat w (r ∷ rs) h = omega (arith, length-append r (concat rs), h r (Memᴰ.head refl), length-concat w rs (λ s m. h s (Memᴰ.tail m)), suc-mul (length rs) w)
 
 -- put together and cut
 pub parts-concat : (w : ℕ) (rs : List (List ℕ)) → ((r : List ℕ) → Memᴰ r rs → length r ≡ w) → parts (length rs) w (concat rs) ≡ rs
-unfolding parts concat
+unfolding parts
 parts-concat w [] h = refl
 parts-concat w (r ∷ rs) h =
     let e = h r (Memᴰ.head refl) in

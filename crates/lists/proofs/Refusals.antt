@@ -89,15 +89,15 @@ pub refused_says : {j k : ℕ} (listed : List ℕ) → k ≡ j → j ≢ 0 → S
 refused_says {j} {k} listed e n = record { numbered = sym e; valued = refuses k listed (λ _. []) e n }
 
 -- an answer that is made by its number
-pub says : {A : Type 0} (k : ℕ) (x y : A) (number : A → ℕ) (values : A → List ℕ) {listed : List ℕ} → number x ≡ 0 → values x ≡ listed → number y ≡ k → values y ≡ []
+pub says : {A : Type 0} (k : ℕ) (x y : A) (number : A → ℕ) (values : A → List ℕ) {listed : List ℕ} → number x ≡ 0 → values x ≡ listed → (k ≢ 0 → number y ≡ k) → values y ≡ []
     → (let r : A = elim (eqb k 0) as (λ _. A) [ true ↦ x | false ↦ y ] in Says (number r) (values r) k listed)
-says k x y number values {listed} e f g h = by_number k x y (λ r. Says (number r) (values r) k listed) (λ z. rw (e, f) (told_says listed z)) (λ n. rw (g, h) (refused_says listed refl n))
+says k x y number values {listed} e f g h = by_number k x y (λ r. Says (number r) (values r) k listed) (λ z. rw (e, f) (told_says listed z)) (λ n. rw (g n, h) (refused_says listed refl n))
 
 -- of an answer that is not refused: so nothing is, and the values are those listed
 pub said : {number k : ℕ} {values listed : List ℕ} → Says number values k listed → number ≡ 0 → (k ≡ 0) × (values ≡ listed)
 said {number} {k} {values} {listed} s e = let z : k ≡ 0 = sym s.numbered ∙ e in (z, s.valued ∙ sym (not_refused k listed [] z))
 
 -- what holds of the values of x, where the number is 0, is said of the answer
-pub on_values : {A : Type 0} (k : ℕ) (x y : A) (number : A → ℕ) (values : A → List ℕ) (P : A → (ℕ → ℕ) → Type 0) → (k ≡ 0 → P x (λ i. get_or (values x) i 0)) → number y ≡ k
+pub on_values : {A : Type 0} (k : ℕ) (x y : A) (number : A → ℕ) (values : A → List ℕ) (P : A → (ℕ → ℕ) → Type 0) → (k ≡ 0 → P x (λ i. get_or (values x) i 0)) → number y ≢ 0
     → (let r : A = elim (eqb k 0) as (λ _. A) [ true ↦ x | false ↦ y ] in OnValues (number r) (values r) (P r))
-on_values k x y number values P h e = by_number k x y (λ r. OnValues (number r) (values r) (P r)) (λ z _. h z) (λ n f. absurd (n (sym e ∙ f)))
+on_values k x y number values P h e = by_number k x y (λ r. OnValues (number r) (values r) (P r)) (λ z _. h z) (λ n f. absurd (e f))

@@ -24,25 +24,19 @@ upto_end n i h = drop_of_length-le (upto n) {i = i} (omega (arith, length-upto n
 
 module _ (g : ℕ → Bool) {n i : ℕ} where
   pub all-passed : Counting (all g) n i → i < n → g i ≡ true → Counting (all g) n (i + 1)
-  unfolding all
   all-passed w h e = record { inside = omega arith; meets = w.meets ∙ rw (upto_on n i h, e) }
 
   pub all_failed : Counting (all g) n i → i < n → g i ≡ false → false ≡ all g (upto n)
-  unfolding all
   all_failed w h e = sym (w.meets ∙ rw (upto_on n i h, e))
 
   pub all_done : Counting (all g) n i → n ≤ i → true ≡ all g (upto n)
-  unfolding all
   all_done w h = sym (w.meets ∙ rw (upto_end n i h))
 
   pub any-passed : Counting (any g) n i → i < n → g i ≡ false → Counting (any g) n (i + 1)
-  unfolding any
   any-passed w h e = record { inside = omega arith; meets = w.meets ∙ rw (upto_on n i h, e) }
 
   pub any_found : Counting (any g) n i → i < n → g i ≡ true → true ≡ any g (upto n)
-  unfolding any
   any_found w h e = sym (w.meets ∙ rw (upto_on n i h, e))
 
   pub any-done : Counting (any g) n i → n ≤ i → false ≡ any g (upto n)
-  unfolding any
   any-done w h = sym (w.meets ∙ rw (upto_end n i h))

@@ -155,11 +155,11 @@ module _ (k : ℕ) (ws : List ℕ) where
   set_cell c = has ws c.0 c.1
 
   row : (q : ℕ) → ones_over k (get_or ws q 0 ∷ []) ≡ length (filter set_cell (grid (q ∷ []) (upto k)))
-  unfolding ones_over grid concat_map has
+  unfolding ones_over grid has
   row q = rw append-nil (omega (arith, ones_filter k (get_or ws q 0), filter_map set_cell (λ x. (q, x)) (upto k)))
 
   rows : (n : ℕ) → n ≤ length ws → ones_over k (take n ws) ≡ length (filter set_cell (grid (upto n) (upto k)))
-  unfolding upto ones_over filter grid concat_map
+  unfolding upto ones_over filter grid
   rows zero h = refl
   rows (suc n) h =
       let e = ap (ones_over k) (take-suc ws n 0 h) ∙ over-append k (take n ws) (get_or ws n 0 ∷ []) in

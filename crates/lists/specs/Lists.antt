@@ -1,16 +1,15 @@
 -- Walks over lists that the definitions of the other crates are written with, and how a call is refused. Assumes nothing.
 use Rattle.std.specs.Prelude.{◌≡◌, Bool, true, false, ◌&&◌, ◌||◌, List, [], ◌∷◌, ◌++◌, ℕ, zero, suc, ◌+◌, ◌<◌, length, get_or, take, drop, eqb}
+use Rattle.std.specs.List.{list_all, list_any, flat_map, concat as std_concat}
 
 module _ {A : Type 0} where
   -- some element passes
-  unfoldable pub any : (A → Bool) → List A → Bool
-  any f [] = false
-  any f (x ∷ xs) = f x || any f xs
+  abbrev pub any : (A → Bool) → List A → Bool
+  any = list_any
 
   -- every element passes
-  unfoldable pub all : (A → Bool) → List A → Bool
-  all f [] = true
-  all f (x ∷ xs) = f x && all f xs
+  abbrev pub all : (A → Bool) → List A → Bool
+  all = list_all
 
   -- the elements that pass, in their order
   unfoldable pub filter : (A → Bool) → List A → List A
@@ -18,9 +17,8 @@ module _ {A : Type 0} where
   filter f (x ∷ xs) = elim (f x) [ true ↦ x ∷ filter f xs | false ↦ filter f xs ]
 
 -- the lists that the elements give, one after the other
-unfoldable pub concat_map : {A B : Type 0} → (A → List B) → List A → List B
-concat_map f [] = []
-concat_map f (x ∷ xs) = f x ++ concat_map f xs
+abbrev pub concat_map : {A B : Type 0} → (A → List B) → List A → List B
+concat_map = flat_map
 
 -- the numbers below n, ascending
 unfoldable pub upto : ℕ → List ℕ
@@ -48,9 +46,8 @@ parts zero w xs = []
 parts (suc k) w xs = take w xs ∷ parts k w (drop w xs)
 
 -- the lists, one after the other
-unfoldable pub concat : List (List ℕ) → List ℕ
-concat [] = []
-concat (x ∷ xs) = x ++ concat xs
+abbrev pub concat : List (List ℕ) → List ℕ
+concat = std_concat
 
 -- numbers added up
 unfoldable pub sum : List ℕ → ℕ

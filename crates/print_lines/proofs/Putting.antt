@@ -6,7 +6,6 @@ use native.Mathlib.Omega.{arith}
 use lib.ListN.{length, take, drop, length-append, length-drop}
 use lib.Seq.{take_at, length-take-le}
 use Rattle.lists.specs.Lists.{over}
-use Rattle.lists.proofs.Copying.{copied}
 use Rattle.table_write.proofs.Writing.{part_put}
 use Rattle.io.specs.Counts.{IsPrefixLen}
 use Rattle.print_spec.specs.Lines.{Put, hex_text}
@@ -38,11 +37,6 @@ pub put_part :
     (x old : List ℕ) (at : ℕ) {ys : List ℕ} → at + length x ≤ length old → ys ≡ over x (take (length old - at) (drop at old))
     → Put x at old (at + length x) (take at old ++ (ys ++ drop (length old - at) (drop at old)))
 put_part x old at h e = put_over x old at h (part_put x old at e)
-
-pub put_copied :
-    (x old : List ℕ) (at : ℕ) {ys : List ℕ} → at + length x ≤ length old → ys ≡ take (length x) x ++ drop (length x) (take (length old - at) (drop at old))
-    → Put x at old (at + length x) (take at old ++ (ys ++ drop (length old - at) (drop at old)))
-put_copied x old at h e = put_part x old at h (copied x _ e)
 
 pub put_hexed : (bytes old : List ℕ) (at : ℕ) {ys : List ℕ} → at + 3 * length bytes ≤ length old → ys ≡ over (hex_text bytes) (take (length old - at) (drop at old))
     → Put (hex_text bytes) at old (at + 3 * length bytes) (take at old ++ (ys ++ drop (length old - at) (drop at old)))

@@ -41,13 +41,10 @@ pub fn put_hex(bytes: &[u8], text: &mut [u8])
     requires { 3 * length bytes.now ≤ length text.old }
     ensures { text.new ≡ over (hex_text bytes.now) text.old }
 {
-    let mut i: usize = 0;
-    'bytes: while i < bytes.len() {
+    'bytes: for (i, b) in bytes.iter().enumerate() {
         let at = 3 * i;
-        let b = bytes[i];
         text[at] = 32;
-        text[at + 1] = digit(b / 16);
-        text[at + 2] = digit(b % 16);
-        i += 1;
+        text[at + 1] = digit(*b / 16);
+        text[at + 2] = digit(*b % 16);
     }
 }

@@ -55,10 +55,8 @@ pub fn put_map(map: &[u8], text: &mut [u8], at: usize) -> usize
     ensures few { result ≤ at + 21 * length map.now + 4 }
 {
     let mut to = put(b"map", text, at);
-    let mut q: usize = 0;
-    'states: while q < map.len() {
-        to = put_number(b" ", bits::long(map[q]), text, to);
-        q += 1;
+    'states: for class in map {
+        to = put_number(b" ", u64::from(*class), text, to);
     }
     put(b"\n", text, to)
 }

@@ -8,6 +8,7 @@ use native.Mathlib.Omega.{arith}
 use lib.ListN.{length, get_or, drop, length-map}
 use lib.Dec.{eqb}
 use borrow.Author.Tests.{eq-eqb, ne_eqb}
+use Rattle.std.specs.Int.{from_bool}
 use Rattle.lists.specs.Lists.{any, upto}
 use Rattle.lists.proofs.Members.{get_d_map, length-upto, get_d_upto}
 use Rattle.lists.proofs.Upto.{Counting, counting, upto_on, upto_end, any-passed, any_found, any-done}
@@ -89,6 +90,12 @@ module _ (t : Table) (m : List ℕ) (c : ℕ) where
       → i + 2 * a + 4 * k ≡ class_byte t m c
   unfolding class_byte
   byte_made d e f g h = λ j. (e ∙ ap bit_of (d ∙ initially)) j + 2 * (g ∙ ap bit_of (f ∙ finally)) j + 4 * h j
+
+-- a bool as a number
+pub as_bit : (b : Bool) → from_bool b ≡ bit_of b
+unfolding bit_of
+as_bit true = refl
+as_bit false = refl
 
 -- ---- all of them
 

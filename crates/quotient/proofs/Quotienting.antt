@@ -14,8 +14,13 @@ use borrow.Author.Tests.{le-leb, lt-leb}
 use Rattle.lists.specs.Lists.{filter, upto, parts, over}
 use Rattle.lists.proofs.Members.{filter-mem}
 use Rattle.lists.proofs.Counts.{filter-le, filter-every}
-use Rattle.lists.proofs.Refusals.{passes, fails, no_test, stage-passes, stage_fails, refuses, not_refused}
+use Rattle.lists.proofs.Refusals.{passes, fails, no_test, stage-passes, stage_fails, not_refused}
 use Rattle.limits.specs.declared.Limits.{Limits}
+use Rattle.refusals.specs.declared.Refusal.{Refusal}
+use Rattle.refusals.specs.declared.Refusal.TheVariants.{OutputLength}
+use Rattle.refusals.specs.Refusals.{number_of}
+use Rattle.refusals.proofs.Numbers.{some_number, refuses_by}
+use Rattle.std.specs.Prelude.{Result, Ok, Err}
 use Rattle.limits.specs.Limits.{symbol_most}
 use Rattle.limits.proofs.Within.{limits-within}
 use Rattle.table_spec.specs.File.{Table, trailer, version, records, table_of, bytes_of, of_states}
@@ -35,7 +40,6 @@ use Rattle.check_matching.proofs.Matched.{move_kept, return_kept}
 use Rattle.quotient_spec.specs.Quotient.{image, images, member_has, class_mark, class_byte, quotient_table, quotient_bytes, quotient_number, quotient_of}
 use Rattle.table_find.specs.Keys.{key}
 use Rattle.table_find.proofs.Keys.{part_bytes}
-use Rattle.quotient_spec.specs.declared.Written.TheVariants.{Length, Refused}
 use Rattle.quotient_spec.proofs.Image.{images-mem, images-length, image-length}
 use Rattle.table_write.specs.Keys.{record_of, Holds}
 use Rattle.table_write.specs.Tables.{keyed_table, written_for}
@@ -85,7 +89,7 @@ module _ (v : ℕ) (y s i c r f m : List ℕ) {k a b d : ℕ} {ks ls ms : List �
   whole : length (bytes_of (parted_quotient v y s i c r f m)) ≡ length y + k + 3 * a + 3 * b + 4 * d + 12
   whole = omega (arith, bytes-long v y (class_bytes (of_states s) m (classes m)) (image_keys 3 i f m) (image_keys 3 c f m) (image_keys 4 r f m), length-bytes (of_states s) m (classes m), e, h.count, l.count, g.count)
 
-  pub short : (out : List ℕ) → length out < length y + k + 3 * a + 3 * b + 4 * d + 12 → record { answer = Refused 21; out = out } ≡ written_for (bytes_of (parted_quotient v y s i c r f m)) out
+  pub short : (out : List ℕ) → length out < length y + k + 3 * a + 3 * b + 4 * d + 12 → record { answer = Err OutputLength; out = out } ≡ written_for (bytes_of (parted_quotient v y s i c r f m)) out
   unfolding written_for
   short out n = sym (rw (lt-leb (length (bytes_of (parted_quotient v y s i c r f m))) (length out) (omega (arith, whole)), written_for))
 
@@ -99,9 +103,9 @@ module _ (v : ℕ) (y s i c r f m : List ℕ) {k a b d : ℕ} {ks ls ms : List �
       fits = omega (arith, ap length same_bytes, whole)
 
       pub put : {out' : List ℕ} → out' ≡ over (bytes_of (keyed_table v y (take k vs) (take a ks) (take b ls) (take d ms))) out
-          → record { answer = Length (length y + k + 3 * a + 3 * b + 4 * d + 12); out = out' } ≡ written_for (bytes_of (parted_quotient v y s i c r f m)) out
+          → record { answer = Ok (length y + k + 3 * a + 3 * b + 4 * d + 12); out = out' } ≡ written_for (bytes_of (parted_quotient v y s i c r f m)) out
       unfolding written_for
-      put {out'} p = sym (rw (le-leb (length (bytes_of (parted_quotient v y s i c r f m))) (length out) (omega (arith, whole)), written_for) (λ j. record { answer = Length (whole j); out = sym (p ∙ ap (λ x. over x out) same_bytes) j }))
+      put {out'} p = sym (rw (le-leb (length (bytes_of (parted_quotient v y s i c r f m))) (length out) (omega (arith, whole)), written_for) (λ j. record { answer = Ok (whole j); out = sym (p ∙ ap (λ x. over x out) same_bytes) j }))
 
 -- ---- the keys of images give the images back
 
@@ -216,9 +220,9 @@ module _ {b f : List ℕ} {s : Starts} (k : Known b s f) {symbols states interna
 -- ---- the answer
 
 module _ (L : Limits) (b m out : List ℕ) where
-  pub quotient_refused : {k : ℕ} → check_number L b m ≡ k → (k ≡ 0 → ⊥) → record { answer = Refused k; out = out } ≡ quotient_of L b m out
+  pub quotient_refused : {r : Refusal} {x : Result ℕ Refusal} → x ≡ Err r → check_number L b m ≡ number_of r → record { answer = x; out = out } ≡ quotient_of L b m out
   unfolding quotient_of quotient_number
-  quotient_refused e n = refuses (quotient_number L b m out) _ (λ k. record { answer = Refused k; out = out }) (stage_fails _ _ e n) n
+  quotient_refused {r} p e = (λ i. record { answer = p i; out = out }) ∙ refuses_by (λ s. record { answer = Err s; out = out }) _ (stage_fails _ _ e (some_number r))
 
   pub quotient-written : check_number L b m ≡ 0 → written_for (quotient_bytes b m) out ≡ quotient_of L b m out
   unfolding quotient_of quotient_number written_for
@@ -226,4 +230,4 @@ module _ (L : Limits) (b m out : List ℕ) where
     where
       go : (t : Bool) → leb (length (quotient_bytes b m)) (length out) ≡ t → written_for (quotient_bytes b m) out ≡ quotient_of L b m out
       go true p = rw (p, written_for) (not_refused (quotient_number L b m out) _ _ (stage-passes _ _ e ∙ passes 21 _ p ∙ no_test))
-      go false p = rw (p, written_for) (refuses (quotient_number L b m out) _ (λ k. record { answer = Refused k; out = out }) (stage-passes _ _ e ∙ fails 21 _ p) (λ z. omega (arith, z)))
+      go false p = rw (p, written_for) (refuses_by (λ s. record { answer = Err s; out = out }) _ (stage-passes _ _ e ∙ fails 21 _ p))

@@ -4,6 +4,7 @@ use Rattle.lists.specs.Lists.{filter}
 use Rattle.limits.specs.Limits.{symbol_most}
 use Rattle.table_spec.specs.File.{Table, records, of_states}
 use Rattle.table_spec.specs.Maps.{classes}
+use Rattle.table_view.specs.declared.Sections.{Sections}
 use Rattle.check_matching.specs.Matching.{kept}
 use Rattle.quotient_spec.specs.Quotient.{images}
 use Rattle.quotient.specs.Classes.{class_bytes}
@@ -25,3 +26,10 @@ image_keys w s f m = keys_of (images m (filter (kept f) (records w s)))
 abbrev pub parted_quotient : ℕ → List ℕ → List ℕ → List ℕ → List ℕ → List ℕ → List ℕ → List ℕ → Table
 parted_quotient version symbols states internals calls returns f m =
     keyed_table version symbols (class_bytes (of_states states) m (classes m)) (image_keys 3 internals f m) (image_keys 3 calls f m) (image_keys 4 returns f m)
+
+-- the same of the sections of a table
+abbrev pub SizedSections : Sections → Type 0
+SizedSections s = Sized s.symbols.now s.internals.now s.calls.now s.returns.now
+
+abbrev pub section_quotient : ℕ → Sections → List ℕ → List ℕ → Table
+section_quotient version s = parted_quotient version s.symbols.now s.states.now s.internals.now s.calls.now s.returns.now

@@ -9,7 +9,13 @@ use Rattle.vpa.specs.Automata.{Lawful, Accepts, EndsIn}
 use Rattle.vpa.specs.Quotients.{quotient}
 use Rattle.vpa.proofs.Correspondence.{quotient-words, quotient-marks, every-step}
 use Rattle.vpa.proofs.Equal.{Same, same-words, same-marks}
+use Rattle.std.specs.Prelude.{Result}
 use Rattle.limits.specs.declared.Limits.{Limits}
+use Rattle.refusals.specs.declared.Refusal.{Refusal}
+use Rattle.refusals.specs.declared.Refusal.TheVariants.{OutputLength}
+use Rattle.refusals.specs.Refusals.{Known}
+use Rattle.refusals.proofs.Numbers.{known_of, failed_known, none_known}
+use Rattle.check_spec.proofs.Answers.{check-known}
 use Rattle.table_spec.specs.File.{Table, table_of}
 use Rattle.table_spec.specs.Reading.{Readable, WellFormed}
 use Rattle.table_spec.specs.Language.{count, automaton, automaton_of, SameWords, SameMarks, OpenByNeither}
@@ -26,7 +32,6 @@ use Rattle.script_spec.specs.Demands.{SameScripts}
 use Rattle.script_spec.proofs.Promises.{scripts-same}
 use Rattle.quotient_spec.specs.Quotient.{quotient_table, quotient_bytes, quotient_number, QuotientDone, quotient_of, QuotientSays}
 use Rattle.quotient_spec.specs.Demands.{IsQuotient, ShowsSteps, OnWriting, Promises}
-use Rattle.quotient_spec.specs.declared.Written.{Written}
 use Rattle.quotient_spec.proofs.States.{count-classes}
 use Rattle.quotient_spec.proofs.Automaton.{quotient-initial, quotient-accepting, quotient-mark, quotient-internal, quotient-call, quotient-return}
 use Rattle.quotient_spec.proofs.Table.{quotient_well_formed}
@@ -142,11 +147,15 @@ module _ (L : Limits) (b m : List ℕ) where
     same = writes (SameScripts L b) keeps-scripts out;
   }
 
+  pub quotient-known : (out : List ℕ) → Known (quotient_number L b m out)
+  unfolding quotient_number
+  quotient-known out = failed_known _ _ (check-known L b m) (failed_known _ _ (known_of OutputLength) none_known)
+
   numbered : (out : List ℕ) → QuotientSays L b m out (quotient_of L b m out).answer
   unfolding quotient_of
-  numbered out = says_length (quotient_number L b m out) (quotient_bytes b m) out
+  numbered out = says_length (quotient_number L b m out) (quotient_bytes b m) out (quotient-known out)
 
   -- the contract, from its equation
-  pub promised : (out : List ℕ) {r : Written} {now : List ℕ} → record { answer = r; out = now } ≡ quotient_of L b m out
+  pub promised : (out : List ℕ) {r : Result ℕ Refusal} {now : List ℕ} → record { answer = r; out = now } ≡ quotient_of L b m out
       → (record { answer = r; out = now } ≡ quotient_of L b m out) × (QuotientSays L b m out r × Promises L b m r now)
   promised out e = (e, subst (λ (d : QuotientDone). QuotientSays L b m out d.answer × Promises L b m d.answer d.out) (sym e) (numbered out, promises out))

@@ -1,15 +1,15 @@
 -- The quotient as a table and as bytes (document 01, "Check and quotient"; document 02, (v)). Assumes nothing.
-use Rattle.std.specs.Prelude.{Bool, true, false, ◌&&◌, List, [], ◌∷◌, map, ℕ, ◌+◌, ◌*◌, length, get_or, eqb, leb}
+use Rattle.std.specs.Prelude.{Bool, true, false, ◌&&◌, Result, Ok, Err, List, [], ◌∷◌, map, ℕ, ◌+◌, ◌*◌, length, get_or, eqb, leb}
 use Rattle.lists.specs.Lists.{any, upto, over, first_failed, stage, Says}
 use Rattle.limits.specs.declared.Limits.{Limits}
+use Rattle.refusals.specs.declared.Refusal.{Refusal}
+use Rattle.refusals.specs.Refusals.{refusal, number_in, one_value, values_in}
 use Rattle.table_spec.specs.File.{Table, table_of, bytes_of}
 use Rattle.table_spec.specs.Reading.{before, is_initial, is_accepting}
 use Rattle.table_spec.specs.Language.{count, byte_of, mark_of}
 use Rattle.table_spec.specs.Maps.{class_of, classes}
 use Rattle.tops_spec.specs.Tops.{live_returns}
 use Rattle.check_spec.specs.Check.{check_number}
-use Rattle.quotient_spec.specs.declared.Written.{Written}
-use Rattle.quotient_spec.specs.declared.Written.TheVariants.{Length, Refused}
 
 -- the image of a record: each state's class, and the symbol
 unfoldable pub image : List ℕ → List ℕ → List ℕ
@@ -72,25 +72,16 @@ quotient_number L b m out = first_failed (stage (check_number L b m) ∷ (21, le
 
 -- the answer, and the output at exit
 pub record QuotientDone : Type 0 where
-  pub answer : Written
+  pub answer : Result ℕ Refusal
   pub out : List ℕ
 
 -- the operation: "The answer is the length; later bytes keep their content."
 unfoldable pub quotient_of : Limits → List ℕ → List ℕ → List ℕ → QuotientDone
 quotient_of L b m out = elim (eqb (quotient_number L b m out) 0) [
-  | true ↦ record { answer = Length (length (quotient_bytes b m)); out = over (quotient_bytes b m) out }
-  | false ↦ record { answer = Refused (quotient_number L b m out); out = out }
+  | true ↦ record { answer = Ok (length (quotient_bytes b m)); out = over (quotient_bytes b m) out }
+  | false ↦ record { answer = Err (refusal (quotient_number L b m out)); out = out }
 ]
 
--- an answer's number, 0 where it is none, and its values
-unfoldable pub written_number : Written → ℕ
-written_number (Length n) = 0
-written_number (Refused k) = k
-
-unfoldable pub written_values : Written → List ℕ
-written_values (Length n) = n ∷ []
-written_values (Refused k) = []
-
 -- the answer by its number and its values
-abbrev pub QuotientSays : Limits → List ℕ → List ℕ → List ℕ → Written → Type 0
-QuotientSays L b m out r = Says (written_number r) (written_values r) (quotient_number L b m out) (length (quotient_bytes b m) ∷ [])
+abbrev pub QuotientSays : Limits → List ℕ → List ℕ → List ℕ → Result ℕ Refusal → Type 0
+QuotientSays L b m out r = Says (number_in r) (values_in one_value r) (quotient_number L b m out) (length (quotient_bytes b m) ∷ [])

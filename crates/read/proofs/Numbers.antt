@@ -1,5 +1,5 @@
 -- The numbers that reading answers, one law for each way to a return of src/. Assumes nothing.
-use mathlib.Core.Path.{◌≡◌, refl, sym, ap, ◌∙◌}
+use mathlib.Core.Path.{◌≡◌, sym, ap, subst, ◌∙◌}
 use mathlib.Core.Bool.{true, false, ◌&&◌}
 use mathlib.Core.List.{List}
 use Prim.Native.Nat.{ℕ, ◌+◌, ◌-◌, ◌*◌, ◌%◌, ◌≤◌, ◌<◌}
@@ -8,20 +8,23 @@ use native.Mathlib.Omega.{arith}
 use lib.ListN.{length, take, drop}
 use lib.Seq.{slice}
 use lib.Dec.{eqb, leb}
-use borrow.Author.Tests.{lt-leb, le-leb, eq-eqb, ne_eqb, eqb-false}
+use borrow.Author.Tests.{lt-leb, le-leb, eq-eqb, ne_eqb}
+use Rattle.std.specs.Prelude.{Ok, Err}
 use Rattle.lists.specs.Lists.{first_failed}
 use Rattle.lists.proofs.Members.{and_of}
 use Rattle.lists.proofs.Refusals.{passes, fails}
 use Rattle.limits.specs.Limits.{limits_fit}
 use Rattle.limits.proofs.Within.{limits-within}
 use Rattle.limits.specs.declared.Limits.{Limits}
+use Rattle.refusals.specs.declared.Refusal.{Refusal}
+use Rattle.refusals.specs.declared.Refusal.TheVariants.{Length, Version, Distances, LimitsRange}
+use Rattle.refusals.specs.Refusals.{number_of, Known, tested}
+use Rattle.refusals.proofs.Numbers.{refused_by, ok_by, was_ok, was_refused}
 use Rattle.table_spec.specs.Limits.{longest}
 use Rattle.table_spec.specs.File.{Table, word16, trailer, distance, version, start, table_of}
 use Rattle.table_spec.specs.Reading.{length_fits, version_fits, distances_fit, table_tests, read_number, starts_of, read_of}
 use Rattle.table_spec.specs.declared.Starts.{Starts}
-use Rattle.table_spec.specs.declared.Reading.{Reading}
-use Rattle.table_spec.specs.declared.Reading.TheVariants.{Sections, Refused}
-use Rattle.table_spec.proofs.Passed.{distances_framed}
+use Rattle.table_spec.proofs.Passed.{distances_framed, read-known}
 use Rattle.table_view.specs.Sections.{sectioned}
 use Rattle.table_view.proofs.Parts.{part}
 
@@ -54,7 +57,7 @@ pub record Words (b : List ℕ) (end d0 d1 d2 d3 d4 : ℕ) : Type 0 where
   pub word_4 : d4 ≡ word16 b (end + 8)
 
 module _ {b : List ℕ} {end d0 d1 d2 d3 d4 : ℕ} (w : Words b end d0 d1 d2 d3 d4) where
-  distances : distances_fit b ≡ eqb d0 end && leb d1 d0 && leb d2 d1 && leb d3 d2 && leb d4 d3 && eqb ((d2 - d3) % 3) 0 && eqb ((d3 - d4) % 3) 0 && eqb (d4 % 4) 0
+  pub distances : distances_fit b ≡ eqb d0 end && leb d1 d0 && leb d2 d1 && leb d3 d2 && leb d4 d3 && eqb ((d2 - d3) % 3) 0 && eqb ((d3 - d4) % 3) 0 && eqb (d4 % 4) 0
   unfolding distances_fit
   distances =
       let e0 = distance-first b end w.at_end ∙ sym w.word_0 in
@@ -64,36 +67,6 @@ module _ {b : List ℕ} {end d0 d1 d2 d3 d4 : ℕ} (w : Words b end d0 d1 d2 d3 
       let e4 = distance-at b end w.at_end 4 ∙ sym w.word_4 in
       let t = trailer_end b end w.at_end in
       λ i. eqb (e0 i) (t i) && leb (e1 i) (e0 i) && leb (e2 i) (e1 i) && leb (e3 i) (e2 i) && leb (e4 i) (e3 i) && eqb ((e2 i - e3 i) % 3) 0 && eqb ((e3 i - e4 i) % 3) 0 && eqb (e4 i % 4) 0
-
-  pub not-whole : (d0 ≡ end → ⊥) → false ≡ distances_fit b
-  not-whole h = sym (distances ∙ rw (ne_eqb _ _ h))
-
-  module _ (p0 : d0 ≡ end) where
-    pub rises_1 : d0 < d1 → false ≡ distances_fit b
-    rises_1 h = sym (distances ∙ rw (eq-eqb _ _ p0, lt-leb _ _ h))
-
-    module _ (p1 : d1 ≤ d0) where
-      pub rises_2 : d1 < d2 → false ≡ distances_fit b
-      rises_2 h = sym (distances ∙ rw (eq-eqb _ _ p0, le-leb _ _ p1, lt-leb _ _ h))
-
-      module _ (p2 : d2 ≤ d1) where
-        pub rises_3 : d2 < d3 → false ≡ distances_fit b
-        rises_3 h = sym (distances ∙ rw (eq-eqb _ _ p0, le-leb _ _ p1, le-leb _ _ p2, lt-leb _ _ h))
-
-        module _ (p3 : d3 ≤ d2) where
-          pub rises_4 : d3 < d4 → false ≡ distances_fit b
-          rises_4 h = sym (distances ∙ rw (eq-eqb _ _ p0, le-leb _ _ p1, le-leb _ _ p2, le-leb _ _ p3, lt-leb _ _ h))
-
-          module _ (p4 : d4 ≤ d3) where
-            pub part_2 : ((d2 - d3) % 3 ≡ 0 → ⊥) → false ≡ distances_fit b
-            part_2 h = sym (distances ∙ rw (eq-eqb _ _ p0, le-leb _ _ p1, le-leb _ _ p2, le-leb _ _ p3, le-leb _ _ p4, ne_eqb _ _ h))
-
-            module _ (p5 : (d2 - d3) % 3 ≡ 0) where
-              pub part_3 : ((d3 - d4) % 3 ≡ 0 → ⊥) → false ≡ distances_fit b
-              part_3 h = sym (distances ∙ rw (eq-eqb _ _ p0, le-leb _ _ p1, le-leb _ _ p2, le-leb _ _ p3, le-leb _ _ p4, eq-eqb _ _ p5, ne_eqb _ _ h))
-
-              pub by_fours : (d3 - d4) % 3 ≡ 0 → eqb (d4 % 4) 0 ≡ distances_fit b
-              by_fours p6 = sym (distances ∙ rw (eq-eqb _ _ p0, le-leb _ _ p1, le-leb _ _ p2, le-leb _ _ p3, le-leb _ _ p4, eq-eqb _ _ p5, eq-eqb _ _ p6))
 
 -- ---- the starts
 
@@ -179,16 +152,9 @@ sections_are b s end h d e {v} g = parts ∙ (λ i. at-starts (g i) (e i) (sym (
 
 -- ---- the answer
 
-answer : Starts → ℕ → Reading
-answer s k = elim (eqb k 0) [ true ↦ Sections s | false ↦ Refused k ]
-
-answered : (L : Limits) (b : List ℕ) (k : ℕ) → read_number L b ≡ k → read_of L b ≡ answer (starts_of b) k
-unfolding read_of answer
-answered L b k e = ap (answer (starts_of b)) e
-
-refused : (L : Limits) (b : List ℕ) (k : ℕ) → read_number L b ≡ k → (k ≡ 0 → ⊥) → Refused k ≡ read_of L b
-unfolding answer
-refused L b k e h = sym (answered L b k e ∙ rw (ne_eqb _ _ h, answer))
+refused : (L : Limits) (b : List ℕ) {r : Refusal} → read_number L b ≡ number_of r → Err r ≡ read_of L b
+unfolding read_of
+refused L b e = refused_by (starts_of b) e
 
 -- the longest file, as the code sums it up
 pub long_file : (L : Limits) → L.symbols + L.states + 22540 ≡ longest L
@@ -198,42 +164,45 @@ long_file L = omega arith
 pub file_within : (L : Limits) → limits_fit L ≡ true → L.symbols + L.states ≤ 104
 file_within L e = omega (arith, limits-within e)
 
-pub limits_refused : (L : Limits) (b : List ℕ) → limits_fit L ≡ false → Refused 39 ≡ read_of L b
+pub limits_refused : (L : Limits) (b : List ℕ) → limits_fit L ≡ false → Err LimitsRange ≡ read_of L b
 unfolding read_number
-limits_refused L b h = refused L b 39 (fails 39 _ h) (eqb-false 39 0 refl)
+limits_refused L b h = refused L b (fails 39 _ h)
 
 module _ (L : Limits) (fit : limits_fit L ≡ true) (b : List ℕ) where
-  pub file_short : length b < 12 → Refused 1 ≡ read_of L b
+  pub file_short : length b < 12 → Err Length ≡ read_of L b
   unfolding read_number length_fits
-  file_short h = refused L b 1 (passes 39 _ fit ∙ fails 1 _ (rw (lt-leb _ _ h))) (eqb-false 1 0 refl)
+  file_short h = refused L b (passes 39 _ fit ∙ fails 1 _ (rw (lt-leb _ _ h)))
 
   module _ (p : 12 ≤ length b) where
-    pub file_long : longest L < length b → Refused 1 ≡ read_of L b
+    pub file_long : longest L < length b → Err Length ≡ read_of L b
     unfolding read_number length_fits
-    file_long h = refused L b 1 (passes 39 _ fit ∙ fails 1 _ (rw (le-leb _ _ p, lt-leb _ _ h))) (eqb-false 1 0 refl)
+    file_long h = refused L b (passes 39 _ fit ∙ fails 1 _ (rw (le-leb _ _ p, lt-leb _ _ h)))
 
     module _ (q : length b ≤ longest L) where
       length-passes : length_fits L b ≡ true
       unfolding length_fits
       length-passes = and_of (le-leb _ _ p) (le-leb _ _ q)
 
-      pub file_version : version_fits (version b) ≡ false → Refused 2 ≡ read_of L b
+      pub file_version : version_fits (version b) ≡ false → Err Version ≡ read_of L b
       unfolding read_number
-      file_version h = refused L b 2 (passes 39 _ fit ∙ passes 1 _ length-passes ∙ fails 2 _ h) (eqb-false 2 0 refl)
+      file_version h = refused L b (passes 39 _ fit ∙ passes 1 _ length-passes ∙ fails 2 _ h)
 
       module _ (v : version_fits (version b) ≡ true) where
-        pub file_distances : distances_fit b ≡ false → Refused 3 ≡ read_of L b
+        pub file_distances : distances_fit b ≡ false → Err Distances ≡ read_of L b
         unfolding read_number
-        file_distances h = refused L b 3 (passes 39 _ fit ∙ passes 1 _ length-passes ∙ passes 2 _ v ∙ fails 3 _ h) (eqb-false 3 0 refl)
+        file_distances h = refused L b (passes 39 _ fit ∙ passes 1 _ length-passes ∙ passes 2 _ v ∙ fails 3 _ h)
 
         module _ (d : distances_fit b ≡ true) where
           table_decides : read_number L b ≡ first_failed (table_tests L (table_of b))
           unfolding read_number
           table_decides = passes 39 _ fit ∙ passes 1 _ length-passes ∙ passes 2 _ v ∙ passes 3 _ d
 
-          pub table_refused : (k : ℕ) → k ≡ first_failed (table_tests L (table_of b)) → (k ≡ 0 → ⊥) → Refused k ≡ read_of L b
-          table_refused k e h = refused L b k (table_decides ∙ sym e) h
+          table-known : Known (first_failed (table_tests L (table_of b)))
+          table-known = subst Known table_decides (read-known L b)
 
-          pub table_read : (k : ℕ) (s : Starts) → k ≡ first_failed (table_tests L (table_of b)) → k ≡ 0 → s ≡ starts_of b → Sections s ≡ read_of L b
-          unfolding answer
-          table_read k s e z f = ap Sections f ∙ sym (answered L b 0 (table_decides ∙ sym e ∙ z))
+          pub table_refused : {r : Refusal} → tested (first_failed (table_tests L (table_of b))) ≡ Err r → Err r ≡ read_of L b
+          table_refused e = refused L b (table_decides ∙ was_refused tt table-known e)
+
+          pub table_read : {s : Starts} → tested (first_failed (table_tests L (table_of b))) ≡ Ok tt → s ≡ starts_of b → Ok s ≡ read_of L b
+          unfolding read_of
+          table_read e f = ap (λ (s : Starts). Ok s) f ∙ ok_by (starts_of b) (table_decides ∙ (was_ok tt e).0)

@@ -7,9 +7,13 @@ use native.Mathlib.Numerals.{add-one}
 use lib.ListN.{length}
 use lib.Dec.{leb, ltb, leb-suc-suc}
 use borrow.Author.Tests.{lt-leb, le-leb}
+use Rattle.std.specs.Prelude.{Ok, Err}
 use Rattle.lists.specs.Lists.{any, all, first_failed}
 use Rattle.lists.proofs.Refusals.{passes, fails, no_test}
 use Rattle.limits.specs.declared.Limits.{Limits}
+use Rattle.refusals.specs.declared.Refusal.TheVariants.{Counts, Bytes, NoInitial, Records, Order}
+use Rattle.refusals.specs.Refusals.{tested}
+use Rattle.refusals.proofs.Numbers.{refused_by, ok_by}
 use Rattle.table_spec.specs.File.{records}
 use Rattle.table_spec.specs.Reading.{counts_fit, state_byte_most, bytes_fit, is_initial, start_fits, record_fits, records_fit, ascend, order_fits, table_tests}
 use Rattle.table_spec.proofs.Bytes.{length-records}
@@ -19,49 +23,10 @@ use Rattle.read_contents.proofs.Fits.{fits_by}
 -- ---- 4: counts
 
 module _ (L : Limits) (a b c d e : List ℕ) where
-  counts : counts_fit L (sectioned 0 a b c d e)
+  pub counts : counts_fit L (sectioned 0 a b c d e)
       ≡ leb (length a) L.symbols && leb 1 (length b) && leb (length b) L.states && leb (length c / 3) 1024 && leb (length d / 3) 1024 && leb (length e / 4) 4096
   unfolding counts_fit sectioned
   counts = λ i. leb (length a) L.symbols && leb 1 (length b) && leb (length b) L.states && leb (length-records 3 c i) 1024 && leb (length-records 3 d i) 1024 && leb (length-records 4 e i) 4096
-
-  pub symbols_many : L.symbols < length a → false ≡ counts_fit L (sectioned 0 a b c d e)
-  symbols_many h = sym (counts ∙ rw (lt-leb _ _ h))
-
-  module _ (p1 : length a ≤ L.symbols) where
-    pub states-none : length b < 1 → false ≡ counts_fit L (sectioned 0 a b c d e)
-    states-none h = sym (counts ∙ rw (le-leb _ _ p1, lt-leb _ _ h))
-
-    module _ (p2 : 1 ≤ length b) where
-      pub states_many : L.states < length b → false ≡ counts_fit L (sectioned 0 a b c d e)
-      states_many h = sym (counts ∙ rw (le-leb _ _ p1, le-leb _ _ p2, lt-leb _ _ h))
-
-      module _ (p3 : length b ≤ L.states) where
-        pub internals_many : 1024 < length c / 3 → false ≡ counts_fit L (sectioned 0 a b c d e)
-        internals_many h = sym (counts ∙ rw (le-leb _ _ p1, le-leb _ _ p2, le-leb _ _ p3, lt-leb _ _ h))
-
-        module _ (p4 : length c / 3 ≤ 1024) where
-          pub calls_many : 1024 < length d / 3 → false ≡ counts_fit L (sectioned 0 a b c d e)
-          calls_many h = sym (counts ∙ rw (le-leb _ _ p1, le-leb _ _ p2, le-leb _ _ p3, le-leb _ _ p4, lt-leb _ _ h))
-
-          pub by_returns_lem : length d / 3 ≤ 1024 → leb (length e / 4) 4096 ≡ counts_fit L (sectioned 0 a b c d e)
-          by_returns_lem p5 = sym (counts ∙ rw (le-leb _ _ p1, le-leb _ _ p2, le-leb _ _ p3, le-leb _ _ p4, le-leb _ _ p5))
-
--- ---- two or three tests in a row
-
-pub first_of-two : {x : Bool} (y : Bool) → x ≡ false → false ≡ x && y
-first_of-two y p = sym (rw p)
-
-pub last_of-two : {x : Bool} (y : Bool) → x ≡ true → y ≡ x && y
-last_of-two y p = sym (rw p)
-
-pub first_of_three : {x : Bool} (y z : Bool) → x ≡ false → false ≡ x && y && z
-first_of_three y z p = sym (rw p)
-
-pub second_of_three : {x y : Bool} (z : Bool) → x ≡ true → y ≡ false → false ≡ x && y && z
-second_of_three z p q = sym (rw (p, q))
-
-pub last_of_three : {x y : Bool} (z : Bool) → x ≡ true → y ≡ true → z ≡ x && y && z
-last_of_three z p q = sym (rw (p, q))
 
 -- ---- 5: bytes
 
@@ -97,24 +62,24 @@ module _ (L : Limits) (v : ℕ) (a b c d e : List ℕ) where
   unfolding table_tests counts_fit bytes_fit start_fits order_fits sectioned
   tests = ap (λ r. first_failed ((4, counts_fit L (sectioned 0 a b c d e)) ∷ (5, bytes_fit (sectioned v a b [] [] [])) ∷ (6, any is_initial b) ∷ (7, r) ∷ (8, order_fits (sectioned 0 [] [] c d e)) ∷ [])) (fitting v a b c d e ∙ sym (fitting 0 a b c d e))
 
-  pub number_4 : counts_fit L (sectioned 0 a b c d e) ≡ false → 4 ≡ first_failed (table_tests L (sectioned v a b c d e))
-  number_4 h = sym (tests ∙ fails 4 _ h)
+  pub number_4 : counts_fit L (sectioned 0 a b c d e) ≡ false → Err Counts ≡ tested (first_failed (table_tests L (sectioned v a b c d e)))
+  number_4 h = refused_by tt (tests ∙ fails 4 _ h)
 
   module _ (p4 : counts_fit L (sectioned 0 a b c d e) ≡ true) where
-    pub number_5 : bytes_fit (sectioned v a b [] [] []) ≡ false → 5 ≡ first_failed (table_tests L (sectioned v a b c d e))
-    number_5 h = sym (tests ∙ passes 4 _ p4 ∙ fails 5 _ h)
+    pub number_5 : bytes_fit (sectioned v a b [] [] []) ≡ false → Err Bytes ≡ tested (first_failed (table_tests L (sectioned v a b c d e)))
+    number_5 h = refused_by tt (tests ∙ passes 4 _ p4 ∙ fails 5 _ h)
 
     module _ (p5 : bytes_fit (sectioned v a b [] [] []) ≡ true) where
-      pub number_6 : any is_initial b ≡ false → 6 ≡ first_failed (table_tests L (sectioned v a b c d e))
-      number_6 h = sym (tests ∙ passes 4 _ p4 ∙ passes 5 _ p5 ∙ fails 6 _ h)
+      pub number_6 : any is_initial b ≡ false → Err NoInitial ≡ tested (first_failed (table_tests L (sectioned v a b c d e)))
+      number_6 h = refused_by tt (tests ∙ passes 4 _ p4 ∙ passes 5 _ p5 ∙ fails 6 _ h)
 
       module _ (p6 : any is_initial b ≡ true) where
-        pub number_7 : records_fit (sectioned 0 a b c d e) ≡ false → 7 ≡ first_failed (table_tests L (sectioned v a b c d e))
-        number_7 h = sym (tests ∙ passes 4 _ p4 ∙ passes 5 _ p5 ∙ passes 6 _ p6 ∙ fails 7 _ h)
+        pub number_7 : records_fit (sectioned 0 a b c d e) ≡ false → Err Records ≡ tested (first_failed (table_tests L (sectioned v a b c d e)))
+        number_7 h = refused_by tt (tests ∙ passes 4 _ p4 ∙ passes 5 _ p5 ∙ passes 6 _ p6 ∙ fails 7 _ h)
 
         module _ (p7 : records_fit (sectioned 0 a b c d e) ≡ true) where
-          pub number_8 : order_fits (sectioned 0 [] [] c d e) ≡ false → 8 ≡ first_failed (table_tests L (sectioned v a b c d e))
-          number_8 h = sym (tests ∙ passes 4 _ p4 ∙ passes 5 _ p5 ∙ passes 6 _ p6 ∙ passes 7 _ p7 ∙ fails 8 _ h)
+          pub number_8 : order_fits (sectioned 0 [] [] c d e) ≡ false → Err Order ≡ tested (first_failed (table_tests L (sectioned v a b c d e)))
+          number_8 h = refused_by tt (tests ∙ passes 4 _ p4 ∙ passes 5 _ p5 ∙ passes 6 _ p6 ∙ passes 7 _ p7 ∙ fails 8 _ h)
 
-          pub number_0 : order_fits (sectioned 0 [] [] c d e) ≡ true → 0 ≡ first_failed (table_tests L (sectioned v a b c d e))
-          number_0 h = sym (tests ∙ passes 4 _ p4 ∙ passes 5 _ p5 ∙ passes 6 _ p6 ∙ passes 7 _ p7 ∙ passes 8 _ h ∙ no_test)
+          pub number_0 : order_fits (sectioned 0 [] [] c d e) ≡ true → Ok tt ≡ tested (first_failed (table_tests L (sectioned v a b c d e)))
+          number_0 h = ok_by tt (tests ∙ passes 4 _ p4 ∙ passes 5 _ p5 ∙ passes 6 _ p6 ∙ passes 7 _ p7 ∙ passes 8 _ h ∙ no_test)

@@ -3,12 +3,13 @@
 
 ghost use Rattle.std.specs.Prelude.{◌≡◌, [], ◌≤◌, ◌<◌, length, ltb};
 ghost use Rattle.lists.specs.Lists.{any, all, first_failed};
+ghost use Rattle.refusals.specs.Refusals.{tested};
 ghost use Rattle.table_spec.specs.File.{records};
 ghost use Rattle.table_spec.specs.Reading.{counts_fit, state_byte_most, bytes_fit, is_initial, record_fits, records_fit, ascend, order_fits, table_tests};
 ghost use Rattle.table_view.specs.Sections.{sectioned};
 
-use bits::wide;
 use limits::Limits;
+use refusals::Refusal;
 use table_find::number_at;
 
 // "At most 1,024" internals and calls, "At most 4,096" returns
@@ -20,28 +21,15 @@ const RETURNS: usize = 4096;
 fn all_below(bytes: &[u8], limit: usize) -> bool
     ensures { result ≡ all (λ x. ltb x limit) bytes.now }
 {
-    let mut i: usize = 0;
-    'bytes: while i < bytes.len() {
-        if limit <= wide(bytes[i]) {
-            return false;
-        }
-        i += 1;
-    }
-    true
+    bytes.iter().all(|x| usize::from(*x) < limit)
 }
 
 // Some state is initial.
+#[tactic(auto, unfolding(table_spec::specs::Reading::is_initial))]
 fn any_initial(states: &[u8]) -> bool
     ensures { result ≡ any is_initial states.now }
 {
-    let mut i: usize = 0;
-    'states: while i < states.len() {
-        if states[i] % 2 == 1 {
-            return true;
-        }
-        i += 1;
-    }
-    false
+    states.iter().any(|byte| *byte % 2 == 1)
 }
 
 // One record of any width: its state, its symbol and the symbol's kind, and its further states.
@@ -51,10 +39,10 @@ fn record_fits(symbols: &[u8], states: &[u8], kind: u8, fields: &[u8]) -> bool
     if fields.len() < 2 {
         return false;
     }
-    if states.len() <= wide(fields[0]) {
+    if states.len() <= usize::from(fields[0]) {
         return false;
     }
-    let symbol = wide(fields[1]);
+    let symbol = usize::from(fields[1]);
     if symbols.len() <= symbol {
         return false;
     }
@@ -69,13 +57,10 @@ fn records_fit(symbols: &[u8], states: &[u8], kind: u8, width: usize, section: &
     requires { 0 < width }
     ensures { result ≡ all (record_fits (sectioned 0 symbols.now states.now [] [] []) kind) (records width section.now) }
 {
-    let mut at: usize = 0;
-    'records: while width <= section.len() - at {
-        let next = at + width;
-        if !record_fits(symbols, states, kind, &section[at..next]) {
+    'records: for fields in section.chunks_exact(width) {
+        if !record_fits(symbols, states, kind, fields) {
             return false;
         }
-        at = next;
     }
     true
 }
@@ -89,19 +74,18 @@ fn ascends(width: usize, section: &[u8]) -> bool
         return true;
     }
     let mut last = number_at(section, width, 0);
-    let mut at = width;
-    'records: while width <= section.len() - at {
-        let number = number_at(section, width, at);
+    'records: for fields in section[width..].chunks_exact(width) {
+        let number = number_at(fields, width, 0);
         if number <= last {
             return false;
         }
         last = number;
-        at += width;
     }
     true
 }
 
 // 4: the counts.
+#[tactic(auto, using(crate::proofs::Numbers::counts))]
 fn counts_fit(
     limits: Limits,
     symbols: &[u8],
@@ -112,25 +96,16 @@ fn counts_fit(
 ) -> bool
     ensures { result ≡ counts_fit limits (sectioned 0 symbols.now states.now internals.now calls.now returns.now) }
 {
-    if limits.symbols < symbols.len() {
-        return false;
-    }
-    if states.len() < 1 {
-        return false;
-    }
-    if limits.states < states.len() {
-        return false;
-    }
-    if MOVES < internals.len() / 3 {
-        return false;
-    }
-    if MOVES < calls.len() / 3 {
-        return false;
-    }
-    returns.len() / 4 <= RETURNS
+    symbols.len() <= limits.symbols
+        && 1 <= states.len()
+        && states.len() <= limits.states
+        && internals.len() / 3 <= MOVES
+        && calls.len() / 3 <= MOVES
+        && returns.len() / 4 <= RETURNS
 }
 
 // The version's limit of a state byte: "3", or "63".
+#[tactic(auto, unfolding(table_spec::specs::Reading::state_byte_most))]
 fn state_byte_most(version: usize) -> usize
     ensures { result ≡ state_byte_most version }
 {
@@ -138,16 +113,15 @@ fn state_byte_most(version: usize) -> usize
 }
 
 // 5: the bytes of the symbols and the states.
+#[tactic(auto, using(crate::proofs::Numbers::bytes, table_spec::proofs::Versions::byte_most))]
 fn bytes_fit(version: usize, symbols: &[u8], states: &[u8]) -> bool
     ensures { result ≡ bytes_fit (sectioned version symbols.now states.now [] [] []) }
 {
-    if !all_below(symbols, 3) {
-        return false;
-    }
-    all_below(states, state_byte_most(version) + 1)
+    all_below(symbols, 3) && all_below(states, state_byte_most(version) + 1)
 }
 
 // 7: the records of the three sections, each of its kind and width.
+#[tactic(auto, using(crate::proofs::Numbers::fitting))]
 fn sections_fit(
     symbols: &[u8],
     states: &[u8],
@@ -157,30 +131,21 @@ fn sections_fit(
 ) -> bool
     ensures { result ≡ records_fit (sectioned 0 symbols.now states.now internals.now calls.now returns.now) }
 {
-    if !records_fit(symbols, states, 0, 3, internals) {
-        return false;
-    }
-    if !records_fit(symbols, states, 1, 3, calls) {
-        return false;
-    }
-    records_fit(symbols, states, 2, 4, returns)
+    records_fit(symbols, states, 0, 3, internals)
+        && records_fit(symbols, states, 1, 3, calls)
+        && records_fit(symbols, states, 2, 4, returns)
 }
 
 // 8: the order of the three sections.
+#[tactic(auto, using(crate::proofs::Numbers::ordered))]
 fn sections_ascend(internals: &[u8], calls: &[u8], returns: &[u8]) -> bool
     ensures { result ≡ order_fits (sectioned 0 [] [] internals.now calls.now returns.now) }
 {
-    if !ascends(3, internals) {
-        return false;
-    }
-    if !ascends(3, calls) {
-        return false;
-    }
-    ascends(4, returns)
+    ascends(3, internals) && ascends(3, calls) && ascends(4, returns)
 }
 
-// The first of 4 to 8 that applies to five sections of a version, or 0.
-pub fn table_number(
+// 4 to 8, of five sections of a version: the first that applies is the refusal.
+pub fn test_contents(
     limits: Limits,
     version: usize,
     symbols: &[u8],
@@ -188,24 +153,24 @@ pub fn table_number(
     internals: &[u8],
     calls: &[u8],
     returns: &[u8],
-) -> u8
+) -> Result<(), Refusal>
     ensures { result
-        ≡ first_failed (table_tests limits (sectioned version symbols.now states.now internals.now calls.now returns.now)) }
+        ≡ tested (first_failed (table_tests limits (sectioned version symbols.now states.now internals.now calls.now returns.now))) }
 {
     if !counts_fit(limits, symbols, states, internals, calls, returns) {
-        return 4;
+        return Err(Refusal::Counts);
     }
     if !bytes_fit(version, symbols, states) {
-        return 5;
+        return Err(Refusal::Bytes);
     }
     if !any_initial(states) {
-        return 6;
+        return Err(Refusal::NoInitial);
     }
     if !sections_fit(symbols, states, internals, calls, returns) {
-        return 7;
+        return Err(Refusal::Records);
     }
     if !sections_ascend(internals, calls, returns) {
-        return 8;
+        return Err(Refusal::Order);
     }
-    0
+    Ok(())
 }

@@ -1,20 +1,18 @@
 -- The parts of a table that was read, under a map that the check accepts: they fit, and their marks are the table's. Assumes nothing.
 use mathlib.Core.Path.{◌≡◌, refl, sym, ap, ◌∙◌, subst}
-use mathlib.Core.Logic.{◌≢◌}
 use mathlib.Core.Bool.{Bool, true, false}
-use mathlib.Core.List.{List, [], ◌++◌, Memᴰ}
-use Prim.Native.Nat.{ℕ, ◌≤◌, ◌<◌}
+use mathlib.Core.List.{List, ◌++◌, Memᴰ}
+use Prim.Native.Nat.{ℕ, ◌≤◌}
 use native.Mathlib.Omega.{arith}
-use lib.ListN.{length, get_or}
+use lib.ListN.{length}
 use lib.Dec.{leb}
 use borrow.Author.Tests.{leb-true, leb-false}
-use Rattle.lists.specs.Lists.{over, first_failed}
+use Rattle.lists.specs.Lists.{first_failed}
 use Rattle.limits.specs.declared.Limits.{Limits}
-use Rattle.limits.specs.Limits.{symbol_most}
+use Rattle.std.specs.Prelude.{Ok}
 use Rattle.limits.proofs.Within.{limits-within}
 use Rattle.table_spec.specs.File.{Table, records, table_of}
 use Rattle.table_spec.specs.Reading.{ascend, WellFormed}
-use Rattle.table_spec.specs.Language.{count}
 use Rattle.table_spec.specs.Maps.{Proper}
 use Rattle.table_spec.specs.declared.Starts.{Starts}
 use Rattle.table_spec.proofs.Bytes.{records-wide, read_well_formed}
@@ -24,19 +22,15 @@ use Rattle.table_view.specs.Sections.{part_of}
 use Rattle.table_view.specs.declared.Section.TheVariants.{Internals, Calls, Returns}
 use Rattle.table_view.proofs.Parts.{internals-read, calls-read, returns-read}
 use Rattle.tops_spec.specs.Tops.{live}
-use Rattle.tops.specs.declared.Examined.{Examined}
-use Rattle.tops.specs.Steps.{examined_of}
 use Rattle.check_spec.specs.Check.{map_tests, check_number}
 use Rattle.check_spec.proofs.Accepted.{accepted}
-use Rattle.check_spec.proofs.Answers.{tested}
+use Rattle.check_spec.proofs.Answers.{by_tests}
 use Rattle.check_spec.proofs.Numbered.{classes-few}
 use Rattle.check_map.specs.Known.{Known}
-use Rattle.check_map.proofs.Checking.{examined_number, read_known}
 use Rattle.check_matching.specs.Matching.{kept}
 use Rattle.check_matching.proofs.Matched.{move_kept, return_kept}
-use Rattle.records_spec.specs.declared.Recorded.TheVariants.{Counts, Refused}
 use Rattle.records_spec.specs.Fates.{kept_mark, folded_mark, dead_mark, section_fates, having, fates_of, counts_of, records_of}
-use Rattle.records_spec.proofs.Counts.{one_each}
+use Rattle.records_spec.proofs.Counting.{one_each}
 use Rattle.records_spec.proofs.Sections.{fates_same}
 use Rattle.records_spec.proofs.Answers.{records-short, records_told}
 use Rattle.records_fates.specs.Marks.{Fitting}
@@ -78,7 +72,7 @@ module _ {b f : List ℕ} {s : Starts} (k : Known b s f) (m : List ℕ) (n : fir
       let L = k.limits in
       let wf = read_well_formed L b k.read.readable in
       let t = formed_tested wf in
-      let p = (accepted L b m (tested L b m k.read.readable (sym n))).proper in
+      let p = (accepted L b m (by_tests L b m k.read.readable ∙ n)).proper in
       record {
         of_internals = fitting wf 0 3 internals m (omega arith) (omega arith) p (internals-read k.read e2) (internals-fit wf) t.internals-ascend;
         of_calls = fitting wf 1 3 calls m (omega arith) (omega arith) p (calls-read k.read e3) (calls-fit wf) t.calls-ascend;
@@ -95,8 +89,8 @@ module _ {b f : List ℕ} {s : Starts} (k : Known b s f) (m : List ℕ) (n : fir
 -- ---- the answer
 
 -- a table with a map that the check accepts, as it is handed on
-pub accepted-known : (L : Limits) (b m : List ℕ) {x : Examined} → x ≡ examined_of L b → check_number L b m ≡ 0 → Known b x.starts x.words × (first_failed (map_tests (table_of b) m) ≡ 0)
-accepted-known L b m e n = let r = (accepted L b m n).readable in (read_known L b e (examined_number L b e ∙ r), sym (tested L b m r refl) ∙ n)
+pub accepted-tests : (L : Limits) (b m : List ℕ) → check_number L b m ≡ 0 → first_failed (map_tests (table_of b) m) ≡ 0
+accepted-tests L b m n = sym (by_tests L b m (accepted L b m n).readable) ∙ n
 
 pub told_known : (L : Limits) (b m out : List ℕ) → check_number L b m ≡ 0 → told_for (fates_of (table_of b) m) out ≡ records_of L b m out
 unfolding told_for counts_of
@@ -105,7 +99,7 @@ told_known L b m out e = go (leb (length (fates_of (table_of b) m)) (length out)
     go : (t : Bool) → leb (length (fates_of (table_of b) m)) (length out) ≡ t → told_for (fates_of (table_of b) m) out ≡ records_of L b m out
     go true p =
         let h = leb-true (length (fates_of (table_of b) m)) (length out) p in
-        rw (p, told_for) (records_told L b m out e (omega (arith, one_each (table_of b) m)) (λ j. Counts (one_each (table_of b) m j) (having kept_mark (fates_of (table_of b) m)) (having folded_mark (fates_of (table_of b) m)) (having dead_mark (fates_of (table_of b) m))) refl)
+        rw (p, told_for) (records_told L b m out e (omega (arith, one_each (table_of b) m)) (λ j. record { all = one_each (table_of b) m j; kept = having kept_mark (fates_of (table_of b) m); folded = having folded_mark (fates_of (table_of b) m); dead = having dead_mark (fates_of (table_of b) m) }) refl)
     go false p =
         let h = leb-false (length (fates_of (table_of b) m)) (length out) p in
         rw (p, told_for) (records-short L b m out e (omega (arith, one_each (table_of b) m)))

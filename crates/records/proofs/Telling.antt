@@ -12,9 +12,10 @@ use Rattle.lists.proofs.Copying.{length_over}
 use Rattle.table_spec.specs.File.{records}
 use Rattle.check_matching.specs.Matching.{kept}
 use Rattle.table_write.proofs.Writing.{Writing, begun, written, part_room, part_put, finished}
-use Rattle.records_spec.specs.declared.Recorded.TheVariants.{Counts, Refused}
+use Rattle.refusals.specs.declared.Refusal.TheVariants.{OutputLength}
+use Rattle.std.specs.Prelude.{Ok, Err}
 use Rattle.records_spec.specs.Fates.{kept_mark, folded_mark, dead_mark, section_fates, having}
-use Rattle.records_spec.proofs.Counts.{length_fates}
+use Rattle.records_spec.proofs.Counting.{length_fates}
 use Rattle.records_fates.specs.Marks.{UpTo, records_in}
 use Rattle.records.specs.Told.{parted_fates, told_for}
 use Rattle.records_fates.proofs.Spans.{records-count}
@@ -45,7 +46,7 @@ module _ (i c r f m : List ℕ) where
   behind_internals = section_fates (kept f) m (records 3 c) ++ behind_calls
 
   module _ (out : List ℕ) where
-    pub short : length out < length i / 3 + length c / 3 + length r / 4 → record { answer = Refused 21; out = out } ≡ told_for (parted_fates i c r f m) out
+    pub short : length out < length i / 3 + length c / 3 + length r / 4 → record { answer = Err OutputLength; out = out } ≡ told_for (parted_fates i c r f m) out
     unfolding told_for
     short h = sym (rw (lt-leb (length (parted_fates i c r f m)) (length out) (omega (arith, parted-long)), told_for))
 
@@ -80,12 +81,12 @@ module _ (i c r f m : List ℕ) where
 
     pub told : length i / 3 + length c / 3 + length r / 4 ≤ length out → {out' : List ℕ} {k d x : ℕ} → out' ≡ over (parted_fates i c r f m) out
         → k ≡ having kept_mark (take (length i / 3 + length c / 3 + length r / 4) out') → x ≡ having folded_mark (take (length i / 3 + length c / 3 + length r / 4) out') → d ≡ having dead_mark (take (length i / 3 + length c / 3 + length r / 4) out')
-        → record { answer = Counts (length i / 3 + length c / 3 + length r / 4) k x d; out = out' } ≡ told_for (parted_fates i c r f m) out
+        → record { answer = Ok (record { all = length i / 3 + length c / 3 + length r / 4; kept = k; folded = x; dead = d }); out = out' } ≡ told_for (parted_fates i c r f m) out
     unfolding told_for over
     told h {out'} {k} {d} {x} e p q z =
         let marks : take (length i / 3 + length c / 3 + length r / 4) out' ≡ parted_fates i c r f m =
         ap (λ n. take n out') (sym parted-long) ∙ ap (take (length (parted_fates i c r f m))) e ∙ take-append_seam (parted_fates i c r f m) (drop (length (parted_fates i c r f m)) out) in
         sym (rw (le-leb (length (parted_fates i c r f m)) (length out) (omega (arith, parted-long)), told_for) (λ j. record {
-          answer = Counts (parted-long j) (sym (p ∙ ap (having kept_mark) marks) j) (sym (q ∙ ap (having folded_mark) marks) j) (sym (z ∙ ap (having dead_mark) marks) j);
+          answer = Ok (record { all = parted-long j; kept = sym (p ∙ ap (having kept_mark) marks) j; folded = sym (q ∙ ap (having folded_mark) marks) j; dead = sym (z ∙ ap (having dead_mark) marks) j });
           out = sym e j;
         }))

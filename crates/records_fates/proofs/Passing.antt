@@ -21,7 +21,7 @@ use Rattle.check_spec.proofs.Numbered.{class-below, class-under}
 use Rattle.check_matching.specs.Matching.{kept}
 use Rattle.quotient_spec.specs.Quotient.{image}
 use Rattle.records_spec.specs.Fates.{taken, fate, section_fates}
-use Rattle.records_spec.proofs.Counts.{length_fates}
+use Rattle.records_spec.proofs.Counting.{length_fates}
 use Rattle.records_spec.proofs.Sections.{fate-at}
 use Rattle.records_fates.specs.Marks.{place_of, Placed, Stamped, dead, again, first, UpTo, record_at, state_at, records_in, Fitting, Ends, ClassMarked}
 use Rattle.records_fates.proofs.Places.{of_image, to-image}

@@ -7,21 +7,12 @@
 ghost use Rattle.std.specs.Prelude.{◌≡◌, ◌+◌, ◌-◌, ◌<◌, ◌≤◌, length};
 ghost use Rattle.lists.specs.Lists.{over};
 ghost use Rattle.table_spec.specs.File.{records};
-ghost use Rattle.table_spec.specs.Maps.{class_of};
 ghost use Rattle.check_matching.specs.Matching.{kept};
 ghost use Rattle.records_spec.specs.Fates.{section_fates, having};
 ghost use Rattle.records_fates.specs.Marks.{place_of, Placed, Stamped, UpTo, records_in, Fitting, Ends, ClassMarked};
 
-use bits::wide;
 use check_matching::keeps;
-use check_numbering::{class_count, class_of};
-
-// The class of a state that a record names.
-fn class_at(map: &[u8], state: u8) -> usize
-    ensures { result ≡ class_of map.now state }
-{
-    wide(class_of(map, wide(state)))
-}
+use check_numbering::{class_at, class_count};
 
 // The place of a record's image in the room of its class: 64 symbols, 40 classes, 40 classes.
 fn place_of(fields: &[u8], map: &[u8]) -> usize
@@ -29,7 +20,9 @@ fn place_of(fields: &[u8], map: &[u8]) -> usize
     ensures { (result ≡ place_of map.now fields.now) × (result < 102400) }
 {
     let last = fields.len() - 1;
-    (wide(fields[1]) * 40 + class_at(map, fields[2])) * 40 + class_at(map, fields[last])
+    let under = usize::from(class_at(map, fields[2]));
+    let to = usize::from(class_at(map, fields[last]));
+    (usize::from(fields[1]) * 40 + under) * 40 + to
 }
 
 // "0 kept, 1 folded, 2 dead": an image that is met first is stamped, and a dead return stamps nothing.
@@ -55,11 +48,9 @@ fn ends_of(section: &[u8], width: usize, map: &[u8]) -> [usize; 40]
 {
     let mut ends = [0usize; 40];
     let n = section.len() / width;
-    let mut i: usize = 0;
-    'records: while i < n {
-        let state = wide(section[i * width]);
-        i += 1;
-        ends[state] = i;
+    'records: for i in 0..n {
+        let state = usize::from(section[i * width]);
+        ends[state] = i + 1;
     }
     ends
 }
@@ -82,15 +73,16 @@ fn mark_class(
 {
     let n = section.len() / width;
     let mut i: usize = 0;
+    // not a `for`: the index leaps over the records of another class
     'records: while i < n {
         let at = i * width;
         let next = at + width;
         let state = section[at];
-        if class_at(map, state) == class {
+        if usize::from(class_at(map, state)) == class {
             out[i] = mark_of(&section[at..next], words, map, stamp, room);
             i += 1;
         } else {
-            i = ends[wide(state)];
+            i = ends[usize::from(state)];
         }
     }
 }
@@ -111,12 +103,10 @@ pub fn mark_section(
 {
     let ends = ends_of(section, width, map);
     let classes = class_count(map);
-    let mut class: usize = 0;
     let mut stamp = first;
-    'classes: while class < classes {
+    'classes: for class in 0..classes {
         stamp += 1;
         mark_class(width, section, words, map, &ends, class, stamp, room, out);
-        class += 1;
     }
 }
 
@@ -124,13 +114,5 @@ pub fn mark_section(
 pub fn count_of(marks: &[u8], mark: u8) -> usize
     ensures { result ≡ having mark marks.now }
 {
-    let mut n: usize = 0;
-    let mut i: usize = 0;
-    'marks: while i < marks.len() {
-        if marks[i] == mark {
-            n += 1;
-        }
-        i += 1;
-    }
-    n
+    marks.iter().filter(|other| **other == mark).count()
 }

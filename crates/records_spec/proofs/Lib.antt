@@ -1,4 +1,4 @@
-pub mod Counts
+pub mod Counting
 pub mod Sections
 pub mod Whole
 pub mod Answers

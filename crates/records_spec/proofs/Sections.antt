@@ -22,7 +22,7 @@ fate-at alive m earlier (r ∷ rs) (suc i) h =
 -- two tests that say the same of every record
 module _ (g h : List ℕ → Bool) (m : List ℕ) where
   taken-same : (earlier : List (List ℕ)) (r : List ℕ) → ((x : List ℕ) → Memᴰ x earlier → g x ≡ h x) → taken g m earlier r ≡ taken h m earlier r
-  unfolding taken any
+  unfolding taken
   taken-same [] r e = refl
   taken-same (x ∷ xs) r e = (λ i. (e x (Memᴰ.head refl) i && same (image m x) (image m r)) || taken-same xs r (λ y k. e y (Memᴰ.tail k)) i)
 

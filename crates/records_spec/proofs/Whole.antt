@@ -39,7 +39,7 @@ module _ (alive : List ℕ → Bool) (m : List ℕ) where
   and-false false b e = refl
 
   taken-past : (pre e : List (List ℕ)) (r : List ℕ) → ((x : List ℕ) → Memᴰ x pre → same (image m x) (image m r) ≡ false) → taken alive m (pre ++ e) r ≡ taken alive m e r
-  unfolding taken any
+  unfolding taken
   taken-past [] e r h = refl
   taken-past (x ∷ xs) e r h = ap (λ k. k || taken alive m (xs ++ e) r) (and-false (alive x) _ (h x (Memᴰ.head refl))) ∙ taken-past xs e r (λ y k. h y (Memᴰ.tail k))
 

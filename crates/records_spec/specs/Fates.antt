@@ -1,13 +1,14 @@
 -- Where the records went (document 02, request (vi)): the fate of each record, and their counts. Assumes nothing.
-use Rattle.std.specs.Prelude.{Bool, true, false, ◌&&◌, List, [], ◌∷◌, ◌++◌, ℕ, ◌+◌, length, eqb, leb}
+use Rattle.std.specs.Prelude.{Bool, true, false, ◌&&◌, Result, Ok, Err, List, [], ◌∷◌, ◌++◌, ℕ, ◌+◌, length, eqb, leb}
 use Rattle.lists.specs.Lists.{any, filter, same, over, first_failed, stage, Says}
 use Rattle.limits.specs.declared.Limits.{Limits}
+use Rattle.refusals.specs.declared.Refusal.{Refusal}
+use Rattle.refusals.specs.Refusals.{refusal, number_in, values_in}
 use Rattle.table_spec.specs.File.{Table, table_of}
 use Rattle.tops_spec.specs.Tops.{top_words, live}
 use Rattle.check_spec.specs.Check.{check_number}
 use Rattle.quotient_spec.specs.Quotient.{image}
-use Rattle.records_spec.specs.declared.Recorded.{Recorded}
-use Rattle.records_spec.specs.declared.Recorded.TheVariants.{Counts, Refused}
+use Rattle.records_spec.specs.declared.Counts.{Counts}
 
 -- "0 kept, 1 folded, 2 dead"
 abbrev pub kept_mark : ℕ
@@ -52,8 +53,8 @@ unfoldable pub having : ℕ → List ℕ → ℕ
 having mark fates = length (filter (eqb mark) fates)
 
 -- N, K, F, D: the input's records, and those of them that are kept, folded and dead
-unfoldable pub counts_of : Table → List ℕ → Recorded
-counts_of t m = Counts (record_count t) (having kept_mark (fates_of t m)) (having folded_mark (fates_of t m)) (having dead_mark (fates_of t m))
+unfoldable pub counts_of : Table → List ℕ → Counts
+counts_of t m = record { all = record_count t; kept = having kept_mark (fates_of t m); folded = having folded_mark (fates_of t m); dead = having dead_mark (fates_of t m) }
 
 -- "those of the check, then 21 under N bytes"; or 0
 unfoldable pub records_number : Limits → List ℕ → List ℕ → List ℕ → ℕ
@@ -61,25 +62,20 @@ records_number L b m out = first_failed (stage (check_number L b m) ∷ (21, leb
 
 -- the answer, and the output at exit
 pub record RecordsDone : Type 0 where
-  pub answer : Recorded
+  pub answer : Result Counts Refusal
   pub out : List ℕ
 
 -- the operation: "the answer is N, K, F, D .. and one byte a record in file order ..; later bytes keep their content"
 unfoldable pub records_of : Limits → List ℕ → List ℕ → List ℕ → RecordsDone
 records_of L b m out = elim (eqb (records_number L b m out) 0) [
-  | true ↦ record { answer = counts_of (table_of b) m; out = over (fates_of (table_of b) m) out }
-  | false ↦ record { answer = Refused (records_number L b m out); out = out }
+  | true ↦ record { answer = Ok (counts_of (table_of b) m); out = over (fates_of (table_of b) m) out }
+  | false ↦ record { answer = Err (refusal (records_number L b m out)); out = out }
 ]
 
--- an answer's number, 0 where it is none, and its values
-unfoldable pub recorded_number : Recorded → ℕ
-recorded_number (Counts n k f d) = 0
-recorded_number (Refused k) = k
-
-unfoldable pub recorded_values : Recorded → List ℕ
-recorded_values (Counts n k f d) = n ∷ k ∷ f ∷ d ∷ []
-recorded_values (Refused k) = []
+-- its values
+abbrev pub count_values : Counts → List ℕ
+count_values r = r.all ∷ r.kept ∷ r.folded ∷ r.dead ∷ []
 
 -- the answer by its number and its values
-abbrev pub RecordsSays : Limits → List ℕ → List ℕ → List ℕ → Recorded → Type 0
-RecordsSays L b m out r = Says (recorded_number r) (recorded_values r) (records_number L b m out) (recorded_values (counts_of (table_of b) m))
+abbrev pub RecordsSays : Limits → List ℕ → List ℕ → List ℕ → Result Counts Refusal → Type 0
+RecordsSays L b m out r = Says (number_in r) (values_in count_values r) (records_number L b m out) (count_values (counts_of (table_of b) m))

@@ -5,7 +5,7 @@ ghost use Rattle.std.specs.Prelude.{◌≡◌, ◌≤◌, length};
 ghost use Rattle.limits.specs.Limits.{standard};
 ghost use Rattle.table_spec.specs.File.{table_of};
 ghost use Rattle.table_spec.specs.Language.{count};
-ghost use Rattle.check_map.specs.Known.{Known, WhereReadable};
+ghost use Rattle.check_map.specs.Known.{WhereReadable};
 ghost use Rattle.clauses_spec.specs.Clauses.{short_words};
 ghost use Rattle.clauses_spec.specs.Maps.{map_of};
 ghost use Rattle.reduce_spec.specs.Reduce.{Reduced, tried_of_table, deliver, after_search, reduce_of, ReduceSays};
@@ -13,119 +13,99 @@ ghost use Rattle.reduce_spec.specs.Demands.{Promises};
 ghost use Rattle.reduce.specs.Held.{MadeBy, HeldFor, ListWritten};
 ghost use Rattle.reduce.specs.States.{states_of};
 
-use clauses_spec::Listed;
 use limits::Limits;
-use quotient_spec::Written;
 use reduce_map::map_of;
 use reduce_spec::Reduction;
+use refusals::Refusal;
 use sat_decide::Ending;
-use table_spec::{Reading, Starts};
 use table_view::Section;
+use tops::Examined;
 
-// The end of a search as its guesses, and whether none exists or the budget is spent.
-#[derive(Clone, Copy)]
+// The guesses of a search, and whether the budget is spent.
+#[derive(Clone, Copy, Debug, PartialEq, Eq)]
 struct Made {
-    absent: bool,
     guesses: u64,
     spent: bool,
 }
 
-fn made_by(ending: Ending) -> Made
+// The end of a search that holds a trial; none where no assignment exists.
+fn made_by(ending: Ending) -> Option<Made>
     ensures { MadeBy ending result }
 {
     match ending {
-        Ending::Found(guesses) => Made {
-            absent: false,
+        Ending::Found(guesses) => Some(Made {
             guesses,
             spent: false,
-        },
-        Ending::Absent(guesses) => Made {
-            absent: true,
-            guesses,
-            spent: false,
-        },
-        Ending::Spent(guesses) => Made {
-            absent: false,
+        }),
+        Ending::Absent(_) => None,
+        Ending::Spent(guesses) => Some(Made {
             guesses,
             spent: true,
-        },
+        }),
     }
 }
 
 // Map, check and quotient of the trial that is held: the map is written only once the quotient is. The true values are the joined pairs.
 fn deliver_held(
-    table: &[u8],
-    starts: Starts,
-    tops: &[u64],
+    examined: &Examined<'_>,
     n: u8,
     values: &[u8],
-    guesses: u64,
+    made: Made,
     ceiling: usize,
-    spent: bool,
     words: usize,
     map: &mut [u8],
     out: &mut [u8],
-) -> Reduction
-    requires known { Known table.now starts tops.now × (n ≤ 40) × (n ≤ length map.old) × (words ≡ length (short_words (table_of table.now))) }
-    requires held_for { HeldFor (table_of table.now) n values.now }
-    ensures { ListWritten table.now result map.new out.new
-        (λ L list. deliver L table.now list map.old out.old (map_of values.now n) guesses ceiling spent) }
+) -> Result<Reduction, Refusal>
+    requires n_within { (n ≤ 40) × (n ≤ length map.old) }
+    requires words_of_list { words ≡ length (short_words (table_of examined.now.bytes.now)) }
+    requires held_for { HeldFor (table_of examined.now.bytes.now) n values.now }
+    ensures { ListWritten examined.now.bytes.now result map.new out.new
+        (λ L list. deliver L examined.now.bytes.now list map.old out.old (map_of values.now n) made.guesses ceiling made.spent) }
 {
     let classes = map_of(values, n);
     let joined = sat_trial::not_false(values);
     let found = classes.map;
     let count = n as usize;
-    let written = quotient::quotient_known(table, starts, tops, &found[..count], out);
-    match written {
-        Written::Refused(number) => Reduction::Refused(number),
-        Written::Length(length) => {
-            map[..count].copy_from_slice(&found[..count]);
-            Reduction::Delivered {
-                classes: classes.count as usize,
-                guesses,
-                words,
-                length,
-                joined,
-                ceiling,
-                spent,
-            }
-        }
-    }
+    let length = quotient::quotient_known(examined, &found[..count], out)?;
+    map[..count].copy_from_slice(&found[..count]);
+    Ok(Reduction {
+        classes: classes.count as usize,
+        guesses: made.guesses,
+        words,
+        length,
+        joined,
+        ceiling,
+        spent: made.spent,
+    })
 }
 
 // The search over the list that was written, with the classes in place of group 2, and what its end leads to. That no assignment exists does not
 // happen: nothing joined is one.
 fn solve_listed(
-    table: &[u8],
-    starts: Starts,
-    tops: &[u64],
+    examined: &Examined<'_>,
     n: u8,
     list: &[u16],
     budget: u64,
     map: &mut [u8],
     out: &mut [u8],
-) -> Reduction
-    requires { Known table.now starts tops.now × (n ≡ count (table_of table.now)) × (n ≤ length map.old) × (list.now ≡ short_words (table_of table.now)) }
-    ensures { ListWritten table.now result map.new out.new
-        (λ L list. after_search L table.now list map.old out.old (tried_of_table table.now budget)) }
+) -> Result<Reduction, Refusal>
+    requires n_within { (n ≡ count (table_of examined.now.bytes.now)) × (n ≤ length map.old) }
+    requires list_value { list.now ≡ short_words (table_of examined.now.bytes.now) }
+    ensures { ListWritten examined.now.bytes.now result map.new out.new
+        (λ L list. after_search L examined.now.bytes.now list map.old out.old (tried_of_table examined.now.bytes.now budget)) }
 {
     let variables = pairs::pairs_of(n) as usize;
     let mut values = sat_solve::none_set();
     let end = sat_solve::solve(list, n, &mut values[..variables], budget);
-    let ending = end.ending;
-    let made = made_by(ending);
-    if made.absent {
-        return Reduction::Refused(12);
-    }
+    let Some(made) = made_by(end.ending) else {
+        return Err(Refusal::NoneExists);
+    };
     deliver_held(
-        table,
-        starts,
-        tops,
+        examined,
         n,
         &values[..variables],
-        made.guesses,
+        made,
         end.ceiling,
-        made.spent,
         list.len(),
         map,
         out,
@@ -134,27 +114,21 @@ fn solve_listed(
 
 // A table that was read and whose tops are known, with room for its map: clauses, and what follows them.
 fn reduce_known(
-    table: &[u8],
-    starts: Starts,
-    tops: &[u64; 40],
+    examined: &Examined<'_>,
     n: u8,
     budget: u64,
     list: &mut [u16],
     map: &mut [u8],
     out: &mut [u8],
-) -> Reduction
-    requires { Known table.now starts tops.now × (n ≡ count (table_of table.now)) × (n ≤ length map.old) }
-    ensures { WhereReadable table.now (λ L. ◌≡◌ {A = Reduced}
+) -> Result<Reduction, Refusal>
+    requires { (n ≡ count (table_of examined.now.bytes.now)) × (n ≤ length map.old) }
+    ensures { WhereReadable examined.now.bytes.now (λ L. ◌≡◌ {A = Reduced}
         (record { answer = result; list = list.new; map = map.new; out = out.new })
-        (reduce_of L table.now budget list.old map.old out.old)) }
+        (reduce_of L examined.now.bytes.now budget list.old map.old out.old)) }
 {
-    let listed = clauses::list_read(false, table, starts, tops, list);
-    match listed {
-        Listed::Refused(number) => Reduction::Refused(number),
-        Listed::List { clauses: _, words } => {
-            solve_listed(table, starts, tops, n, &list[..words], budget, map, out)
-        }
-    }
+    let listed = clauses::list_read(false, examined, list)?;
+    let words = listed.words;
+    solve_listed(examined, n, &list[..words], budget, map, out)
 }
 
 // Reduces a table that is read at limits, with at most `budget` guesses: the map to the map buffer, the quotient to the output.
@@ -165,24 +139,19 @@ pub fn reduce_within(
     list: &mut [u16],
     map: &mut [u8],
     out: &mut [u8],
-) -> Reduction
+) -> Result<Reduction, Refusal>
     ensures answers { ◌≡◌ {A = Reduced} (record { answer = result; list = list.new; map = map.new; out = out.new })
         (reduce_of limits table.now budget list.old map.old out.old) }
     ensures number { ReduceSays limits table.now budget list.old map.old out.old result }
     ensures promises { Promises limits table.now budget result map.new out.new }
 {
-    let examined = tops::examine(limits, table);
-    if examined.number != 0 {
-        return Reduction::Refused(examined.number);
-    }
-    let starts = examined.starts;
-    let words = examined.words;
-    let states = table_view::part(table, starts, Section::States);
+    let examined = tops::examine(limits, table)?;
+    let states = table_view::part(table, examined.starts, Section::States);
     let n = states.len();
     if map.len() < n {
-        return Reduction::Refused(22);
+        return Err(Refusal::MapRoom);
     }
-    reduce_known(table, starts, &words, n as u8, budget, list, map, out)
+    reduce_known(&examined, n as u8, budget, list, map, out)
 }
 
 // Reduces a table, at the limits of a caller that gives none.
@@ -192,7 +161,7 @@ pub fn reduce(
     list: &mut [u16],
     map: &mut [u8],
     out: &mut [u8],
-) -> Reduction
+) -> Result<Reduction, Refusal>
     ensures answers { ◌≡◌ {A = Reduced} (record { answer = result; list = list.new; map = map.new; out = out.new })
         (reduce_of standard table.now budget list.old map.old out.old) }
     ensures number { ReduceSays standard table.now budget list.old map.old out.old result }
@@ -208,10 +177,10 @@ pub fn state_count(limits: Limits, table: &[u8]) -> usize
 {
     let reading = read::read_within(limits, table);
     match reading {
-        Reading::Sections(starts) => {
+        Ok(starts) => {
             let states = table_view::part(table, starts, Section::States);
             states.len()
         }
-        Reading::Refused(_) => 0,
+        Err(_) => 0,
     }
 }

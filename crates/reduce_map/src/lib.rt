@@ -5,10 +5,8 @@ ghost use Rattle.std.specs.Prelude.{◌≡◌, ◌≤◌, length};
 ghost use Rattle.pairs.specs.Pairs.{pairs};
 ghost use Rattle.reduce_map.specs.Lowest.{LowestJoined, MapOf};
 
-use bits::wide;
-
 // A class for each of the first states, and how many classes there are.
-#[derive(Clone, Copy)]
+#[derive(Clone, Copy, Debug, PartialEq, Eq)]
 pub struct Classes {
     pub map: [u8; 40],
     pub count: u8,
@@ -28,15 +26,12 @@ fn lowest_joined(values: &[u8], n: u8) -> [u8; 40]
     let mut low = ITSELF;
     let table = pairs::pair_table();
     let count = pairs::pairs_of(n);
-    let mut v: u16 = 0;
-    'variables: while v < count {
-        let x = v;
-        v += 1;
-        if values[x as usize] != 1 {
+    'variables: for x in 0..count {
+        if values[usize::from(x)] != 1 {
             continue 'variables;
         }
         let pair = pairs::pair_of(&table, x);
-        let q = wide(pair.high);
+        let q = usize::from(pair.high);
         if low[q] != pair.high {
             continue 'variables;
         }
@@ -53,18 +48,15 @@ pub fn map_of(values: &[u8], n: u8) -> Classes
     let low = lowest_joined(values, n);
     let mut map = [0u8; 40];
     let mut next: u8 = 0;
-    let mut q: u8 = 0;
-    'states: while q < n {
-        let at = wide(q);
+    'states: for q in 0..n {
+        let at = usize::from(q);
         let p = low[at];
         if p != q {
-            map[at] = map[wide(p)];
-            q += 1;
+            map[at] = map[usize::from(p)];
             continue 'states;
         }
         map[at] = next;
         next += 1;
-        q += 1;
     }
     Classes { map, count: next }
 }

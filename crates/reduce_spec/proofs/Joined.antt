@@ -62,7 +62,7 @@ module _ (f : ℕ → ℕ) where
       ∙ omega (arith, kept-last joined (pairs q + p), kept-last (λ p. eqb (f p) (f q)) p, column q p (omega arith), ap bit (joined-pair q p h))
 
   rows : (n : ℕ) → length (filter joined (upto (pairs n))) ≡ length (concat_map (λ q. filter (λ p. eqb (f p) (f q)) (upto q)) (upto n))
-  unfolding upto filter concat_map pairs
+  unfolding upto filter pairs
   rows zero = refl
   rows (suc n) =
       ap (λ (k : ℕ). length (filter joined (upto k))) (pairs-suc n)

@@ -7,13 +7,17 @@ use Prim.Native.Nat.{ℕ, ◌-◌, ◌*◌, ◌/◌, ◌≤◌}
 use native.Mathlib.Omega.{arith}
 use lib.ListN.{length, take, drop}
 use lib.Seq.{take_at, take-append_seam}
+use Rattle.std.specs.Prelude.{Result, Ok, Err}
 use Rattle.lists.specs.Lists.{over, Says}
-use Rattle.lists.proofs.Refusals.{stage-passes, stage_fails, last-stage, by_number, refused_says, says}
+use Rattle.lists.proofs.Refusals.{stage-passes, stage_fails, by_number, refused_says, says}
 use Rattle.cnf.specs.Search.{Outcome, solved, none_exists, spent, unfinished, search_from, made_of, is_spent}
 use Rattle.cnf.specs.Trials.{ceiling_of, Tried}
 use Rattle.cnf.proofs.Theorems.{horn}
 use Rattle.cnf.proofs.Trials.{spent-budget}
 use Rattle.limits.specs.declared.Limits.{Limits}
+use Rattle.refusals.specs.declared.Refusal.{Refusal}
+use Rattle.refusals.specs.Refusals.{refusal, number_in, values_in}
+use Rattle.refusals.proofs.Numbers.{some_number}
 use Rattle.pairs.specs.Pairs.{pairs}
 use Rattle.table_spec.specs.File.{table_of}
 use Rattle.table_spec.specs.Language.{count, SameWords, SameMarks, OpenByNeither, OneTarget}
@@ -31,12 +35,11 @@ use Rattle.script_spec.specs.Script.{yes_value}
 use Rattle.script_spec.specs.Demands.{SameScripts}
 use Rattle.script_spec.proofs.Promises.{said_yes, said_no}
 use Rattle.quotient_spec.specs.Demands.{IsQuotient, ShowsSteps}
-use Rattle.quotient_spec.proofs.Theorems.{is_quotient, keeps-words, keeps-marks, open_neither, keeps-steps, keeps-scripts}
-use Rattle.reduce_spec.specs.Reduce.{Reduced, before_search, search_of_table, joined_pairs, deliver, tried_of_table, after_search, reduce_of, reduction_number, reduction_values, reduce_number, ReduceSays}
+use Rattle.quotient_spec.proofs.Theorems.{is_quotient, keeps-words, keeps-marks, open_neither, keeps-steps, keeps-scripts, quotient-known}
+use Rattle.reduce_spec.specs.Reduce.{Reduced, before_search, search_of_table, joined_pairs, deliver, tried_of_table, after_search, reduce_of, reduction_values, reduce_number, ReduceSays}
 use Rattle.reduce_spec.specs.Demands.{OnDelivery, KeepsWords, DeliversQuotient, DeliversChecked, DeliversMaximal, FewGuesses, Ceiling, DeliversCeiling, SameSearch, SameAssignment, SpentSaid, DeliversNoneOpen, DeliversSteps, KeepsMarks, KeepsScripts, Promises, map_written}
 use Rattle.reduce_spec.specs.declared.Reduction.{Reduction}
-use Rattle.reduce_spec.specs.declared.Reduction.TheVariants.{Delivered, Refused}
-use Rattle.reduce_spec.proofs.Ways.{FirstNumber, of_limits, of_reading, map-short, list-long, first-number, list-formed, Held, Ways, refused_first, refused_short, delivers, held-accepted, reduce_ways}
+use Rattle.reduce_spec.proofs.Ways.{FirstNumber, of_limits, of_reading, map-short, list-long, first-number, first-known, list-formed, Held, Ways, refused_first, refused_short, delivers, held-accepted, reduce_ways}
 
 module _ (L : Limits) (b : List ℕ) (budget : ℕ) (list map out : List ℕ) where
   -- the map that was written is the one that was found
@@ -51,7 +54,7 @@ module _ (L : Limits) (b : List ℕ) (budget : ℕ) (list map out : List ℕ) wh
   delivery v g u z =
       let m = map_of v (count (table_of b)) in
       record {
-        answer = Delivered (classes m) g (length (short_words (table_of b))) (length (quotient_bytes b m)) (joined_pairs (count (table_of b)) m) u z;
+        answer = Ok (record { classes = classes m; guesses = g; words = length (short_words (table_of b)); length = length (quotient_bytes b m); joined = joined_pairs (count (table_of b)) m; ceiling = u; spent = z });
         list = over (short_words (table_of b)) list;
         map = over m map;
         out = over (quotient_bytes b m) out;
@@ -62,11 +65,10 @@ module _ (L : Limits) (b : List ℕ) (budget : ℕ) (list map out : List ℕ) wh
       → ((v : List ℕ) (g u : ℕ) (z : Bool) → Held L b budget list map out v g u z → let m = map_of v (count (table_of b)) in
       length (quotient_bytes b m) ≤ length out → P (delivery v g u z) (classes m) g (length (short_words (table_of b))) (length (quotient_bytes b m)) (joined_pairs (count (table_of b)) m) u (yes_value z))
       → OnDelivery (reduce_of L b budget list map out).answer (P (reduce_of L b budget list map out))
-  unfolding reduction_number reduction_values
   on_delivery P h = go (reduce_ways L b budget list map out)
     where
       go : {r : Reduced} → Ways L b budget list map out r → OnDelivery r.answer (P r)
-      go (refused_first k e n) = λ q. absurd (n q)
+      go (refused_first r e) = λ q. absurd (some_number r q)
       go (refused_short v g u z s l) = λ q. absurd (omega arith)
       go (delivers v g u z s l) = λ q. h v g u z s l
 
@@ -189,25 +191,24 @@ module _ (L : Limits) (b : List ℕ) (budget : ℕ) (list map out : List ℕ) wh
     output_short : k ≡ 21 → Number k
     none_refused : k ≡ 0 → Number k
 
-  number_ways : {r : Reduced} → Ways L b budget list map out r → Number (reduction_number r.answer)
-  unfolding reduction_number
-  number_ways (refused_first k e n) = first (subst (λ (x : ℕ). FirstNumber x) e (first-number L b list map))
+  number_ways : {r : Reduced} → Ways L b budget list map out r → Number (number_in r.answer)
+  number_ways (refused_first r e) = first (subst (λ (x : ℕ). FirstNumber x) e (first-number L b list map))
   number_ways (refused_short v g u z s l) = output_short refl
   number_ways (delivers v g u z s l) = none_refused refl
 
-  pub numbers : Number (reduction_number (reduce_of L b budget list map out).answer)
+  pub numbers : Number (number_in (reduce_of L b budget list map out).answer)
   numbers = number_ways (reduce_ways L b budget list map out)
 
   -- the number and the values of a delivery, or of a refusal after the search
   delivery_says : (m : List ℕ) (g u : ℕ) (z : Bool) → let r = (deliver L b list map out m g u z).answer in
-      Says (reduction_number r) (reduction_values r) (quotient_number L b m out)
+      Says (number_in r) (values_in reduction_values r) (quotient_number L b m out)
       (classes m ∷ g ∷ length (short_words (table_of b)) ∷ length (quotient_bytes b m) ∷ joined_pairs (count (table_of b)) m ∷ u ∷ yes_value z ∷ [])
-  unfolding deliver reduction_number reduction_values
-  delivery_says m g u z = says (quotient_number L b m out) _ _ (λ (d : Reduced). reduction_number d.answer) (λ (d : Reduced). reduction_values d.answer) refl refl refl refl
+  unfolding deliver
+  delivery_says m g u z = says (quotient_number L b m out) _ _ (λ (d : Reduced). number_in d.answer) (λ (d : Reduced). values_in reduction_values d.answer) refl refl (quotient-known L b m out) refl
 
   numbered : ReduceSays L b budget list map out (reduce_of L b budget list map out).answer
-  unfolding reduce_of reduce_number after_search quotient_number reduction_number reduction_values
-  numbered = by_number (before_search L b list map) (after_search L b list map out e) (record { answer = Refused (before_search L b list map); list = list; map = map; out = out }) (λ (d : Reduced). ReduceSays L b budget list map out d.answer) searched first
+  unfolding reduce_of reduce_number after_search quotient_number
+  numbered = by_number (before_search L b list map) (after_search L b list map out e) (record { answer = Err (refusal (before_search L b list map)); list = list; map = map; out = out }) (λ (d : Reduced). ReduceSays L b budget list map out d.answer) searched first
     where
       e : Tried
       e = tried_of_table b budget
@@ -218,38 +219,37 @@ module _ (L : Limits) (b : List ℕ) (budget : ℕ) (list map out : List ℕ) wh
       searched : before_search L b list map ≡ 0 → ReduceSays L b budget list map out (after_search L b list map out e).answer
       searched z =
           let r = (after_search L b list map out e).answer in
-          subst (λ (k : ℕ). Says (reduction_number r) (reduction_values r) k (reduction_values (Delivered (classes m) (made_of e.outcome) (length (short_words (table_of b))) (length (quotient_bytes b m)) (joined_pairs (count (table_of b)) m) (ceiling_of e.trials.ceiling) (is_spent e.outcome))))
+          subst (λ (k : ℕ). Says (number_in r) (values_in reduction_values r) k (classes m ∷ made_of e.outcome ∷ length (short_words (table_of b)) ∷ length (quotient_bytes b m) ∷ joined_pairs (count (table_of b)) m ∷ ceiling_of e.trials.ceiling ∷ yes_value (is_spent e.outcome) ∷ []))
           (stage-passes _ _ (held-accepted L b budget list map out z) ∙ sym (stage-passes _ _ z))
           (delivery_says m (made_of e.outcome) (ceiling_of e.trials.ceiling) (is_spent e.outcome))
 
-      first : before_search L b list map ≢ 0 → ReduceSays L b budget list map out (Refused (before_search L b list map))
-      first n = refused_says _ (stage_fails _ _ refl n) n
+      first : before_search L b list map ≢ 0 → ReduceSays L b budget list map out (Err (refusal (before_search L b list map)))
+      first n = rw (first-known L b list map n) (refused_says _ (stage_fails _ _ refl n) n)
 
   -- so neither 12 nor 13 comes out of reduce
-  pub never_refused : (k : ℕ) → (k ≡ 12) ⊎ (k ≡ 13) → reduction_number (reduce_of L b budget list map out).answer ≢ k
+  pub never_refused : (k : ℕ) → (k ≡ 12) ⊎ (k ≡ 13) → number_in (reduce_of L b budget list map out).answer ≢ k
   never_refused k c e = go numbers
     where
-      early : FirstNumber (reduction_number (reduce_of L b budget list map out).answer) → ⊥
+      early : FirstNumber (number_in (reduce_of L b budget list map out).answer) → ⊥
       early (of_limits h) = ⊎_elim (λ d. omega arith) (λ d. omega arith) c
       early (of_reading h) = ⊎_elim (λ d. omega arith) (λ d. omega arith) c
       early (map-short h) = ⊎_elim (λ d. omega arith) (λ d. omega arith) c
       early (list-long h) = ⊎_elim (λ d. omega arith) (λ d. omega arith) c
 
-      go : Number (reduction_number (reduce_of L b budget list map out).answer) → ⊥
+      go : Number (number_in (reduce_of L b budget list map out).answer) → ⊥
       go (first h) = early h
       go (output_short h) = ⊎_elim (λ d. omega arith) (λ d. omega arith) c
       go (none_refused h) = ⊎_elim (λ d. omega arith) (λ d. omega arith) c
 
 -- what the contract of reduce says, of the answer and the buffers that the definition gives
-module _ (L : Limits) (b : List ℕ) (budget : ℕ) (list map out : List ℕ) {r : Reduction} {list' map' out' : List ℕ} (e : record { answer = r; list = list'; map = map'; out = out' } ≡ reduce_of L b budget list map out) where
+module _ (L : Limits) (b : List ℕ) (budget : ℕ) (list map out : List ℕ) {r : Result Reduction Refusal} {list' map' out' : List ℕ} (e : record { answer = r; list = list'; map = map'; out = out' } ≡ reduce_of L b budget list map out) where
   pub promised : (◌≡◌ {A = Reduced} (record { answer = r; list = list'; map = map'; out = out' }) (reduce_of L b budget list map out)) × (ReduceSays L b budget list map out r × Promises L b budget r map' out')
   promised = (
     e,
     subst (λ (d : Reduced). ReduceSays L b budget list map out d.answer × Promises L b budget d.answer d.map d.out) (sym e) (numbered L b budget list map out, promises L b budget list map out),
   )
 
-  pub delivered_fits : {c g w l j u : ℕ} {z : Bool} → r ≡ Delivered c g w l j u z → l ≤ length out
-  unfolding reduction_number reduction_values
+  pub delivered_fits : {d : Reduction} → r ≡ Ok d → d.length ≤ length out
   delivered_fits f =
-      subst (λ (x : Reduction). OnDelivery x (λ c g w l j u s. l ≤ length out)) f
+      subst (λ (x : Result Reduction Refusal). OnDelivery x (λ c g w l j u s. l ≤ length out)) f
       (subst (λ (d : Reduced). OnDelivery d.answer (λ c g w l j u s. l ≤ length out)) (sym e) (delivers_fitting L b budget list map out)) refl

@@ -10,8 +10,9 @@ use native.Mathlib.Decide.{ℕ_discrete}
 use lib.ListN.{length}
 use lib.Dec.{leb}
 use borrow.Author.Tests.{leb-true, leb-false}
+use Rattle.std.specs.Prelude.{Ok, Err}
 use Rattle.lists.specs.Lists.{over, first_failed}
-use Rattle.lists.proofs.Refusals.{passed, passes, fails, no_test, stage-passes, stage_fails, stage-passed, refuses, not_refused, by_number}
+use Rattle.lists.proofs.Refusals.{passed, passes, fails, no_test, stage-passes, stage_fails, stage-passed, not_refused, by_number}
 use Rattle.cnf.specs.Clauses.{Model, Maximal}
 use Rattle.cnf.specs.Search.{Outcome, solved, none_exists, spent, unfinished, search_from, made_of, is_spent}
 use Rattle.cnf.specs.Trials.{ceiling_of, Tried, search_tried}
@@ -21,12 +22,16 @@ use Rattle.cnf.proofs.Theorems.{maximal, never_none, ends}
 use Rattle.cnf.proofs.Trying.{tried-outcome}
 use Rattle.cnf.proofs.Trials.{held_model, solved-held}
 use Rattle.limits.specs.declared.Limits.{Limits}
+use Rattle.refusals.specs.declared.Refusal.{Refusal}
+use Rattle.refusals.specs.declared.Refusal.TheVariants.{ListLength, OutputLength, MapRoom}
+use Rattle.refusals.specs.Refusals.{number_of, refusal, Known}
+use Rattle.refusals.proofs.Numbers.{refuses_by, known_of, failed_known, none_known}
 use Rattle.pairs.specs.Pairs.{pairs}
 use Rattle.table_spec.specs.File.{Table, table_of}
 use Rattle.table_spec.specs.Reading.{read_number, Readable, WellFormed}
 use Rattle.table_spec.specs.Language.{count}
 use Rattle.table_spec.specs.Maps.{classes, RaqMap}
-use Rattle.table_spec.proofs.Passed.{read-within}
+use Rattle.table_spec.proofs.Passed.{read-within, read-known}
 use Rattle.table_spec.proofs.Bytes.{read_well_formed}
 use Rattle.check_spec.specs.Check.{check_number}
 use Rattle.clauses_spec.specs.Clauses.{clause_list, short_words}
@@ -36,7 +41,6 @@ use Rattle.clauses_spec.proofs.Assignments.{nothing_joined, all-false}
 use Rattle.clauses_spec.proofs.Theorems.{model_accepted}
 use Rattle.quotient_spec.specs.Quotient.{quotient_bytes, quotient_number}
 use Rattle.reduce_spec.specs.Reduce.{Reduced, before_search, search_of_table, tried_of_table, joined_pairs, deliver, after_search, reduce_of}
-use Rattle.reduce_spec.specs.declared.Reduction.TheVariants.{Delivered, Refused}
 use Rattle.reduce_spec.proofs.Joined.{ceiling-pairs}
 
 -- what holds where the search is run
@@ -73,6 +77,11 @@ first-number L b list map = go (ℕ_discrete (read_number L b) 0)
     go (yes z) = subst FirstNumber (sym (stage-passes _ _ z)) (rest (leb (count (table_of b)) (length map)) (leb (length (short_words (table_of b))) (length list)))
     go (no n) = subst FirstNumber (sym (stage_fails _ _ refl n)) (⊎_elim of_limits of_reading (read-within L b))
 
+-- they are known
+pub first-known : (L : Limits) (b list map : List ℕ) → Known (before_search L b list map)
+unfolding before_search
+first-known L b list map = failed_known _ _ (read-known L b) (failed_known _ _ (known_of MapRoom) (failed_known _ _ (known_of ListLength) none_known))
+
 -- the list is over the table's pairs
 pub list-formed : {L : Limits} {t : Table} → WellFormed L t → Formed (clause_list t) (pairs (count t))
 list-formed {L} {t} wf = fit-formed (pairs (count t)) (clause_list t) (list-fits t wf)
@@ -94,20 +103,21 @@ module _ (L : Limits) (b : List ℕ) (budget : ℕ) (list map out : List ℕ) wh
     pub found : (w : List ℕ) (k : ℕ) → search_of_table b budget ≡ solved w k → v ≡ w
 
   pub data Ways : Reduced → Type 0 where
-    refused_first : (k : ℕ) → before_search L b list map ≡ k → k ≢ 0 → Ways (record { answer = Refused k; list = list; map = map; out = out })
+    refused_first : (r : Refusal) → before_search L b list map ≡ number_of r → Ways (record { answer = Err r; list = list; map = map; out = out })
     refused_short :
         (v : List ℕ) (g u : ℕ) (z : Bool) → Held v g u z → length out < length (quotient_bytes b (map_of v (count (table_of b))))
-        → Ways (record { answer = Refused 21; list = over (short_words (table_of b)) list; map = map; out = out })
+        → Ways (record { answer = Err OutputLength; list = over (short_words (table_of b)) list; map = map; out = out })
     delivers : (v : List ℕ) (g u : ℕ) (z : Bool) → Held v g u z → length (quotient_bytes b (map_of v (count (table_of b)))) ≤ length out → Ways (record {
       answer =
-          Delivered
-          (classes (map_of v (count (table_of b))))
-          g
-          (length (short_words (table_of b)))
-          (length (quotient_bytes b (map_of v (count (table_of b)))))
-          (joined_pairs (count (table_of b)) (map_of v (count (table_of b))))
-          u
-          z;
+          Ok (record {
+            classes = classes (map_of v (count (table_of b)));
+            guesses = g;
+            words = length (short_words (table_of b));
+            length = length (quotient_bytes b (map_of v (count (table_of b))));
+            joined = joined_pairs (count (table_of b)) (map_of v (count (table_of b)));
+            ceiling = u;
+            spent = z;
+          });
       list = over (short_words (table_of b)) list;
       map = over (map_of v (count (table_of b))) map;
       out = over (quotient_bytes b (map_of v (count (table_of b)))) out;
@@ -123,8 +133,8 @@ module _ (L : Limits) (b : List ℕ) (budget : ℕ) (list map out : List ℕ) wh
       go : (t : Bool) → leb (length (quotient_bytes b m)) (length out) ≡ t → Ways (deliver L b list map out m g u z)
       go true p = subst Ways (not_refused (quotient_number L b m out) _ _ (stage-passes _ _ s.accepted ∙ passes 21 _ p ∙ no_test)) (delivers v g u z s (leb-true _ _ p))
       go false p =
-          let refusal : ℕ → Reduced = λ k. record { answer = Refused k; list = over (short_words (table_of b)) list; map = map; out = out } in
-          subst Ways (refuses (quotient_number L b m out) _ refusal (stage-passes _ _ s.accepted ∙ fails 21 _ p) (λ y. omega (arith, y))) (refused_short v g u z s (leb-false _ _ p))
+          let refused : Refusal → Reduced = λ r. record { answer = Err r; list = over (short_words (table_of b)) list; map = map; out = out } in
+          subst Ways (refuses_by refused _ (stage-passes _ _ s.accepted ∙ fails 21 _ p)) (refused_short v g u z s (leb-false _ _ p))
 
   -- the map that is held is one that the check accepts
   pub held-accepted : before_search L b list map ≡ 0 → check_number L b (map_of (tried_of_table b budget).trials.held (count (table_of b))) ≡ 0
@@ -176,4 +186,4 @@ module _ (L : Limits) (b : List ℕ) (budget : ℕ) (list map out : List ℕ) wh
 
   pub reduce_ways : Ways (reduce_of L b budget list map out)
   unfolding reduce_of
-  reduce_ways = by_number _ _ _ Ways (λ z. search_ways (begun L b list map z)) (refused_first (before_search L b list map) refl)
+  reduce_ways = by_number _ _ _ Ways (λ z. search_ways (begun L b list map z)) (λ n. refused_first (refusal (before_search L b list map)) (sym (first-known L b list map n)))

@@ -1,11 +1,13 @@
 -- The operation reduce: its refusals in their order, its answer, and every buffer at exit (document 01, "Check and quotient" and "Refused
 -- calls"; document 02, requests (ii) and (viii)). Assumes nothing.
-use Rattle.std.specs.Prelude.{Bool, true, false, List, [], ◌∷◌, ℕ, length, eqb, leb}
+use Rattle.std.specs.Prelude.{Bool, true, false, Result, Ok, Err, List, [], ◌∷◌, ℕ, length, eqb, leb}
 use Rattle.lists.specs.Lists.{filter, concat_map, upto, over, first_failed, stage, Says}
 use Rattle.script_spec.specs.Script.{yes_value}
 use Rattle.cnf.specs.Search.{Outcome, search_from, made_of, is_spent}
 use Rattle.cnf.specs.Trials.{ceiling_of, Tried, search_tried}
 use Rattle.limits.specs.declared.Limits.{Limits}
+use Rattle.refusals.specs.declared.Refusal.{Refusal}
+use Rattle.refusals.specs.Refusals.{refusal, number_in, values_in}
 use Rattle.pairs.specs.Pairs.{pairs}
 use Rattle.table_spec.specs.File.{table_of}
 use Rattle.table_spec.specs.Reading.{read_number}
@@ -15,11 +17,10 @@ use Rattle.clauses_spec.specs.Clauses.{clause_list, short_words}
 use Rattle.clauses_spec.specs.Maps.{map_of}
 use Rattle.quotient_spec.specs.Quotient.{quotient_bytes, quotient_number}
 use Rattle.reduce_spec.specs.declared.Reduction.{Reduction}
-use Rattle.reduce_spec.specs.declared.Reduction.TheVariants.{Delivered, Refused}
 
 -- the answer, and the clause buffer, the map buffer and the output at exit
 pub record Reduced : Type 0 where
-  pub answer : Reduction
+  pub answer : Result Reduction Refusal
   pub list : List ℕ
   pub map : List ℕ
   pub out : List ℕ
@@ -52,14 +53,23 @@ module _ (L : Limits) (b list map out : List ℕ) where
 
   -- a refusal once the list is written
   abbrev refused_later : ℕ → Reduced
-  refused_later k = record { answer = Refused k; list = listed; map = map; out = out }
+  refused_later k = record { answer = Err (refusal k); list = listed; map = map; out = out }
 
   -- the map m, after k guesses, with the ceiling u, the budget spent or not: check and quotient, then 21; "writes the map to the first bytes of
   -- the map buffer, the rest unchanged"; "It always reports joined pairs J and a ceiling U"
   unfoldable pub deliver : List ℕ → ℕ → ℕ → Bool → Reduced
   deliver m k u s = elim (eqb (quotient_number L b m out) 0) [
     | true ↦ record {
-      answer = Delivered (classes m) k (length (short_words (table_of b))) (length (quotient_bytes b m)) (joined_pairs (count (table_of b)) m) u s;
+      answer =
+          Ok (record {
+            classes = classes m;
+            guesses = k;
+            words = length (short_words (table_of b));
+            length = length (quotient_bytes b m);
+            joined = joined_pairs (count (table_of b)) m;
+            ceiling = u;
+            spent = s;
+          });
       list = listed;
       map = over m map;
       out = over (quotient_bytes b m) out;
@@ -76,26 +86,21 @@ module _ (L : Limits) (b list map out : List ℕ) where
 unfoldable pub reduce_of : Limits → List ℕ → ℕ → List ℕ → List ℕ → List ℕ → Reduced
 reduce_of L b budget list map out = elim (eqb (before_search L b list map) 0) [
   | true ↦ after_search L b list map out (tried_of_table b budget)
-  | false ↦ record { answer = Refused (before_search L b list map); list = list; map = map; out = out }
+  | false ↦ record { answer = Err (refusal (before_search L b list map)); list = list; map = map; out = out }
 ]
 
--- an answer's number, 0 where it is none, and its values
-unfoldable pub reduction_number : Reduction → ℕ
-reduction_number (Delivered c g w l j u s) = 0
-reduction_number (Refused k) = k
-
-unfoldable pub reduction_values : Reduction → List ℕ
-reduction_values (Delivered c g w l j u s) = c ∷ g ∷ w ∷ l ∷ j ∷ u ∷ yes_value s ∷ []
-reduction_values (Refused k) = []
+-- its values
+abbrev pub reduction_values : Reduction → List ℕ
+reduction_values r = r.classes ∷ r.guesses ∷ r.words ∷ r.length ∷ r.joined ∷ r.ceiling ∷ yes_value r.spent ∷ []
 
 -- 39, 1 to 8, 22, 10, then those of the quotient under the map of the trial that is held, of which only 21 comes out (proofs/Ways); or 0
 unfoldable pub reduce_number : Limits → List ℕ → ℕ → List ℕ → List ℕ → List ℕ → ℕ
 reduce_number L b budget list map out = first_failed (stage (before_search L b list map) ∷ (21, leb (length (quotient_bytes b (map_of (tried_of_table b budget).trials.held (count (table_of b))))) (length out)) ∷ [])
 
 -- the answer by its number and its values
-abbrev pub ReduceSays : Limits → List ℕ → ℕ → List ℕ → List ℕ → List ℕ → Reduction → Type 0
+abbrev pub ReduceSays : Limits → List ℕ → ℕ → List ℕ → List ℕ → List ℕ → Result Reduction Refusal → Type 0
 ReduceSays L b budget list map out r =
     let e = tried_of_table b budget in
     let m = map_of e.trials.held (count (table_of b)) in
-    Says (reduction_number r) (reduction_values r) (reduce_number L b budget list map out)
+    Says (number_in r) (values_in reduction_values r) (reduce_number L b budget list map out)
     (classes m ∷ made_of e.outcome ∷ length (short_words (table_of b)) ∷ length (quotient_bytes b m) ∷ joined_pairs (count (table_of b)) m ∷ ceiling_of e.trials.ceiling ∷ yes_value (is_spent e.outcome) ∷ [])

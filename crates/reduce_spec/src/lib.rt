@@ -1,18 +1,15 @@
 // The reduction of a table: definitions, laws, and the answer's form. No code.
 #![tactic(auto)]
 
-// What reduce answers.
-#[derive(Clone, Copy)]
-pub enum Reduction {
-    Delivered {
-        classes: usize,
-        guesses: u64,
-        words: usize,
-        length: usize,
-        joined: usize,
-        ceiling: usize,
-        spent: bool,
-    },
-    // 39, 1 to 8, 22, 10, 21
-    Refused(u8),
+// What is told of a reduction: classes, guesses, words of the clause list, the quotient's length, joined pairs, their ceiling, and whether the
+// budget was spent.
+#[derive(Clone, Copy, Debug, PartialEq, Eq)]
+pub struct Reduction {
+    pub classes: usize,
+    pub guesses: u64,
+    pub words: usize,
+    pub length: usize,
+    pub joined: usize,
+    pub ceiling: usize,
+    pub spent: bool,
 }

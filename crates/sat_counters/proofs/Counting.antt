@@ -1,70 +1,65 @@
 -- Laws for the walk that gives each clause of a list its word. Assumes nothing.
 use mathlib.Core.Path.{◌≡◌, refl, sym, ap, ◌∙◌}
 use mathlib.Core.Bool.{true}
-use mathlib.Core.List.{List, []}
-use Prim.Native.Nat.{ℕ, suc, ◌+◌, ◌-◌, ◌≤◌, ◌<◌}
+use mathlib.Core.List.{List, [], ◌∷◌, ◌++◌}
+use Prim.Native.Nat.{ℕ, suc, ◌+◌, ◌≤◌, ◌<◌}
 use native.Mathlib.Omega.{arith}
 use native.Mathlib.Decide.{ℕ_discrete}
-use lib.ListN.{length, get_or, set, take, drop, drop_of_length-le, length-take, length-drop}
+use lib.ListN.{length, get_or, set, drop, length-append}
 use lib.Seq.{drop-drop, get_or-drop, get_or-set_same, get_or-set_other}
 use Rattle.cnf.specs.Clauses.{clauses_in, whole}
 use Rattle.cnf.specs.Closing.{Formed}
-use Rattle.cnf.proofs.Words.{clauses_nil}
-use Rattle.sat_literal.specs.Literals.{clause_at, Over}
-use Rattle.sat_literal.proofs.Walking.{Before, before-first, before-next, at_clauses, clause_in, clause-words}
+use Rattle.sat_literal.proofs.Walking.{clauses_on, clauses_end, whole_on, formed_on}
 use Rattle.sat_counters.specs.Counters.{numbered, weigh, CountersOf}
 
--- the counters that are lent for a clause
-abbrev pub lent : List ℕ → ℕ → ℕ → List ℕ
-lent ws at k = take (at + 1 + k - (at + 1)) (drop (at + 1) ws)
-
--- the first clauses have their counters; the others begin at a place
-pub record Tallying (ws v counters : List ℕ) (count at : ℕ) : Type 0 where
-  pub before : Before ws at
-  pub rest : drop count (clauses_in ws) ≡ clauses_in (drop at ws)
-  pub counted : count + length (clauses_in (drop at ws)) ≡ length (clauses_in ws)
+-- the first clauses have their counters; the others are still to come
+pub record Tallying (ws v counters : List ℕ) (count : ℕ) (rest : List ℕ) : Type 0 where
+  pub all_there : whole rest ≡ true
+  pub formed : Formed (clauses_in rest) (length v)
+  pub short : length rest ≤ 32768
+  pub left : drop count (clauses_in ws) ≡ clauses_in rest
+  pub counted : count + length (clauses_in rest) ≡ length (clauses_in ws)
   pub done : (c : ℕ) → c < count → get_or counters c 0 ≡ weigh v (numbered ws c)
 
-pub tallying : {ws : List ℕ} (v counters : List ℕ) → whole ws ≡ true → Tallying ws v counters 0 0
-tallying {ws} v counters w = record { before = before-first w; rest = refl; counted = omega arith; done = λ c h. absurd (omega (arith, h)) }
+pub tallying : {ws v : List ℕ} (counters : List ℕ) → whole ws ≡ true → Formed (clauses_in ws) (length v) → length ws ≤ 32768 → Tallying ws v counters 0 ws
+tallying {ws} {v} counters w f s = record { all_there = w; formed = f; short = s; left = refl; counted = omega arith; done = λ c h. absurd (omega (arith, h)) }
 
-pub tallied : {ws v counters : List ℕ} {count at : ℕ} → Tallying ws v counters count at → length ws ≤ at → length (clauses_in ws) ≤ length counters → CountersOf ws v counters × (count ≡ length (clauses_in ws))
-tallied {ws} {v} {counters} {count} {at} t h room = (record { room = room; each = λ c k. t.done c (omega (arith, all_there)) }, all_there)
-  where
-    none : length (clauses_in (drop at ws)) ≡ 0
-    none = ap (λ (w : List ℕ). length (clauses_in w)) (drop_of_length-le ws h) ∙ ap (λ (cs : List (List ℕ)). length cs) clauses_nil
-
-    all_there : count ≡ length (clauses_in ws)
-    all_there = omega (arith, none, t.counted)
-
-module _ {ws v counters : List ℕ} {count at : ℕ} (t : Tallying ws v counters count at) (h : at < length ws) where
-  -- one clause more
-  one_more : length (clauses_in (drop at ws)) ≡ suc (length (clauses_in (drop (at + 1 + get_or ws at 0) ws)))
-  one_more = ap (λ (cs : List (List ℕ)). length cs) (at_clauses t.before h)
-
-  pub count-inside : count < length (clauses_in ws)
-  count-inside = omega (arith, one_more, t.counted)
-
-  number-here : numbered ws count ≡ clause_at ws at
-  number-here =
-      let z : count ≡ count + 0 = omega arith in
-      ap (λ (i : ℕ). get_or (clauses_in ws) i []) z ∙ sym (get_or-drop count (clauses_in ws) 0 []) ∙ ap (λ (cs : List (List ℕ)). get_or cs 0 []) (t.rest ∙ at_clauses t.before h)
-
-  -- what the clause's weighing asks
-  pub lent-over : {k n : ℕ} → Formed (clauses_in ws) n → k ≡ get_or ws at 0 → Over (lent ws at k) n
-  lent-over f e l m = f.below (clause_at ws at) (clause_in t.before h) l (rw (clause-words ws at e) at m)
-
-  pub lent-short : {k : ℕ} → k ≡ get_or ws at 0 → length ws ≤ 32768 → length (lent ws at k) ≤ 32768
-  lent-short e s = simp (length-take, length-drop) (omega arith)
-
-  pub count_literals_on : {k word : ℕ} → k ≡ get_or ws at 0 → count < length counters → word ≡ weigh v (lent ws at k) → Tallying ws v (set counters count word) (count + 1) (at + 1 + k)
-  count_literals_on {k} {word} e room q = rw e (record {
-    before = before-next t.before h;
-    rest = sym (drop-drop 1 count (clauses_in ws)) ∙ ap (drop 1) (t.rest ∙ at_clauses t.before h);
-    counted = omega (arith, one_more, t.counted);
-    done = λ c l. go c l (ℕ_discrete c count);
-  })
+module _ {ws v counters : List ℕ} {count : ℕ} {rest : List ℕ} (t : Tallying ws v counters count rest) where
+  pub tallied : length rest ≡ 0 → length (clauses_in ws) ≤ length counters → CountersOf ws v counters × (count ≡ length (clauses_in ws))
+  tallied h room = (record { room = room; each = λ c k. t.done c (omega (arith, all_of)) }, all_of)
     where
-      go : (c : ℕ) → c < count + 1 → Dec (c ≡ count) → get_or (set counters count word) c 0 ≡ weigh v (numbered ws c)
-      go c l (yes r) = rw r (get_or-set_same counters count word 0 room ∙ q ∙ ap (weigh v) (clause-words ws at e ∙ sym number-here))
-      go c l (no r) = get_or-set_other counters count c word 0 r ∙ t.done c (omega (arith, l))
+      all_of : count ≡ length (clauses_in ws)
+      all_of = omega (arith, ap (λ (cs : List (List ℕ)). length cs) (clauses_end rest h), t.counted)
+
+  module _ (c rest' : List ℕ) (e : rest ≡ length c ∷ (c ++ rest')) where
+    -- one clause more
+    one_more : length (clauses_in rest) ≡ suc (length (clauses_in rest'))
+    one_more = ap (λ (cs : List (List ℕ)). length cs) (clauses_on rest c rest' e)
+
+    pub count-inside : count < length (clauses_in ws)
+    count-inside = omega (arith, one_more, t.counted)
+
+    number-here : numbered ws count ≡ c
+    number-here =
+        let z : count ≡ count + 0 = omega arith in
+        ap (λ (i : ℕ). get_or (clauses_in ws) i []) z ∙ sym (get_or-drop count (clauses_in ws) 0 []) ∙ ap (λ (cs : List (List ℕ)). get_or cs 0 []) (t.left ∙ clauses_on rest c rest' e)
+
+    lengths : length rest ≡ suc (length c + length rest')
+    lengths = ap length e ∙ ap suc (length-append c rest')
+
+    pub clause-short : length c ≤ 32768
+    clause-short = omega (arith, lengths, t.short)
+
+    pub count_literals_on : {word : ℕ} → count < length counters → word ≡ weigh v c → Tallying ws v (set counters count word) (count + 1) rest'
+    count_literals_on {word} room q = record {
+      all_there = whole_on rest c rest' e t.all_there;
+      formed = formed_on rest c rest' e t.formed;
+      short = omega (arith, lengths, t.short);
+      left = sym (drop-drop 1 count (clauses_in ws)) ∙ ap (drop 1) (t.left ∙ clauses_on rest c rest' e);
+      counted = omega (arith, one_more, t.counted);
+      done = λ d l. go d l (ℕ_discrete d count);
+    }
+      where
+        go : (d : ℕ) → d < count + 1 → Dec (d ≡ count) → get_or (set counters count word) d 0 ≡ weigh v (numbered ws d)
+        go d l (yes r) = rw r (get_or-set_same counters count word 0 room ∙ q ∙ ap (weigh v) (sym number-here))
+        go d l (no r) = get_or-set_other counters count d word 0 r ∙ t.done d (omega (arith, l))

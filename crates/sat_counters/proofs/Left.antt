@@ -56,7 +56,7 @@ module _ (f g : ℕ → Bool) (h : (x : ℕ) → g x ≡ false → f x ≡ false
       go false p r = rw (h x p, filter) r
 
   any-kept : (xs : List ℕ) → any f xs ≡ any f (filter g xs)
-  unfolding filter any
+  unfolding filter
   any-kept [] = refl
   any-kept (x ∷ xs) = go (g x) refl (any-kept xs)
     where
@@ -66,15 +66,15 @@ module _ (f g : ℕ → Bool) (h : (x : ℕ) → g x ≡ false → f x ≡ false
 
 -- what is seen of a clause of no literal, and of one
 none_seen : (w : List ℕ) → broken ≡ seen w []
-unfolding any filter by_unset
+unfolding filter by_unset
 none_seen w = sym (seen_by_lem w [] refl refl)
 
 unset-seen : (w : List ℕ) (m : ℕ) → is_unset w m ≡ true → forcing m ≡ seen w (m ∷ [])
-unfolding any filter by_unset
+unfolding filter by_unset
 unset-seen w m u = sym (seen_by_lem w (m ∷ []) (or-false (is_right w m) ∙ unset-not-right w m u) (filter-cons w m [] u))
 
 false-seen : (w : List ℕ) (m : ℕ) → is_right w m ≡ false → is_unset w m ≡ false → broken ≡ seen w (m ∷ [])
-unfolding any filter by_unset
+unfolding filter by_unset
 false-seen w m r u = sym (seen_by_lem w (m ∷ []) {ks = []} (or-false (is_right w m) ∙ r) (rw (u, filter)))
 
 -- the unset literals of a clause that begins with two

@@ -7,7 +7,7 @@ ghost use Rattle.cnf.specs.Closing.{Formed};
 ghost use Rattle.sat_literal.specs.Literals.{Over};
 ghost use Rattle.sat_counters.specs.Counters.{weigh, CountersOf, Falls, Fell, Noted, Rises};
 
-use sat_trail::wide;
+use sat_literal::clauses_of;
 
 mod literal;
 
@@ -20,18 +20,16 @@ pub fn decrement(places: &[u16], l: u16, counters: &mut [u32], noted: &mut [u16]
     ensures fell { Fell places.now l counters.old counters.new }
     ensures noted { Noted places.now counters.new noted.new result }
 {
-    let weight = (2048 + l) as u32;
+    let weight = u32::from(2048 + l);
     let mut count: usize = 0;
-    let mut k: usize = 0;
-    'places: while k < places.len() {
-        let c = places[k];
-        let left = counters[wide(c)] - weight;
-        counters[wide(c)] = left;
+    'places: for place in places {
+        let c = *place;
+        let left = counters[usize::from(c)] - weight;
+        counters[usize::from(c)] = left;
         noted[count] = c;
         if left < 4096 {
             count += 1;
         }
-        k += 1;
     }
     count
 }
@@ -41,12 +39,9 @@ pub fn increment(places: &[u16], l: u16, counters: &mut [u32])
     requires { Rises places.now l counters.old × (length places.now ≤ 32768) × (length counters.old ≤ 32768) }
     ensures { Fell places.now l counters.new counters.old }
 {
-    let weight = (2048 + l) as u32;
-    let mut i: usize = 0;
-    'places: while i < places.len() {
-        let c = wide(places[i]);
-        counters[c] = counters[c] + weight;
-        i += 1;
+    let weight = u32::from(2048 + l);
+    'places: for place in places {
+        counters[usize::from(*place)] += weight;
     }
 }
 
@@ -56,13 +51,11 @@ fn weigh_clause(literals: &[u16], values: &[u8]) -> u32
     ensures { result ≡ weigh values.now literals.now }
 {
     let mut sum: u32 = 0;
-    let mut i: usize = 0;
-    'literals: while i < literals.len() {
-        let l = literals[i];
-        if (values[wide(l / 2)] as u16) != l % 2 {
-            sum += (2048 + l) as u32;
+    'literals: for literal in literals {
+        let l = *literal;
+        if u16::from(values[usize::from(l / 2)]) != l % 2 {
+            sum += u32::from(2048 + l);
         }
-        i += 1;
     }
     sum
 }
@@ -74,11 +67,8 @@ pub fn count_literals(list: &[u16], values: &[u8], counters: &mut [u32]) -> usiz
     ensures { CountersOf list.now values.now counters.new × (result ≡ length (clauses_in list.now)) }
 {
     let mut count: usize = 0;
-    let mut at: usize = 0;
-    'clauses: while at < list.len() {
-        let first = at + 1;
-        at = first + wide(list[at]);
-        counters[count] = weigh_clause(&list[first..at], values);
+    'clauses: for literals in clauses_of(list) {
+        counters[count] = weigh_clause(literals, values);
         count += 1;
     }
     count

@@ -16,7 +16,7 @@ use native.Mathlib.Decide.{ℕ_discrete, dec_lt}
 use lib.ListN.{length, get_or, set, take, drop, replicate, length-set, length-append, get_or-append, take-append-drop}
 use lib.Seq.{slice, slice_empty, slice-cons, get_or-set_same, get_or-set_other, take-append-le, drop-append-le, take-append_seam, drop-append_seam, get_or-append_seam, take-suc, take-suc-set, drop-cons, get_or-take, take-take, length-take-le}
 use borrow.Author.Tests.{eq-eqb, ne_eqb}
-use Rattle.lists.specs.Lists.{any, all}
+use Rattle.lists.specs.Lists.{any}
 use Rattle.lists.proofs.Members.{get_d_mem}
 use Rattle.cnf.specs.Clauses.{value_of, clauses_in, words_of, whole}
 use Rattle.cnf.specs.Search.{is_right, goes, Outcome, solved, none_exists, spent, Guess, undo, decide, lowest_unset, search_from}
@@ -776,7 +776,7 @@ module _ {cs : List (List ℕ)} {v t ms w s : List ℕ} {n b most from count dep
 -- ---- group 2 holds in every trial at rest
 
 satisfied-append : (cs ds : List (List ℕ)) (a : List ℕ) → satisfied (cs ++ ds) a ≡ (satisfied cs a && satisfied ds a)
-unfolding satisfied all
+unfolding satisfied
 satisfied-append [] ds a = refl
 satisfied-append (c ∷ cs) ds a = ap (λ (t : Bool). any (is_right a) c && t) (satisfied-append cs ds a) ∙ sym (and_assoc (any (is_right a) c) (satisfied cs a) (satisfied ds a))
   where

@@ -1,34 +1,59 @@
--- The first unset variable, sought from the front. Assumes nothing.
-use mathlib.Core.Path.{◌≡◌, sym, ap, ◌∙◌}
-use mathlib.Core.Logic.{◌≢◌}
-use mathlib.Core.List.{List}
-use Prim.Native.Nat.{ℕ, ◌+◌, ◌≤◌, ◌<◌}
-use native.Mathlib.Decide.{ℕ_discrete}
-use native.Mathlib.Omega.{arith}
-use lib.ListN.{length, get_or}
+-- The first unset variable, by its place among the values from `low` on. Assumes nothing.
+use Rattle.std.proofs.Common.{◌≡◌, refl, sym, ap, ◌∙◌, ◌==◌, true, false, Bool, true≢false, cond, nat_lt, ℕ, ◌+◌, ◌-◌, ◌≤◌, ◌<◌, ◌≢◌, List, length, get_or, take, drop, Some, None, arith, length-drop}
+use Rattle.std.proofs.lemmas.List.{take_all}
+use Rattle.std.specs.List.{position, position_or_len}
+use Rattle.std.proofs.lemmas.List.Quantifiers.{position-Some}
+use Rattle.std.proofs.lemmas.List.Sums.{fails_before_first}
+use lib.Seq.{get_or-drop}
+use borrow.Author.Tests.{eqb-true, eq-eqb, ltb-false}
 use Rattle.lists.proofs.Members.{get_d_any}
 use Rattle.cnf.specs.Clauses.{value_of}
-use Rattle.sat_decide.specs.Turns.{NextUnset}
+use Rattle.sat_decide.specs.Turns.{NextUnset, LowestUnset}
 
--- none is unset from low to x
-pub record Seeking (v : List ℕ) (low x : ℕ) : Type 0 where
-  pub from : low ≤ x
-  pub to : x ≤ length v
-  pub passed : (j : ℕ) → low ≤ j → j < x → value_of v j ≢ 2
+module _ (v : List ℕ) (low : ℕ) (h : low ≤ length v) where
+  -- the values from low on, as the code lends them
+  abbrev lent : List ℕ
+  lent = take (length v - low) (drop low v)
 
-pub seeking : {v : List ℕ} {low : ℕ} → low ≤ length v → Seeking v low low
-seeking h = record { from = omega arith; to = h; passed = λ j p q. absurd (omega arith) }
+  lent_is : lent ≡ drop low v
+  lent_is = take_all (length v - low) (drop low v) (omega (arith, length-drop low v))
 
-module _ {v : List ℕ} {low x : ℕ} (i : Seeking v low x) where
-  pub seek_found : x < length v → get_or v x 0 ≡ 2 → NextUnset v low x
-  seek_found h e = record { from = i.from; to = i.to; passed = i.passed; found = λ l. get_d_any v x 2 0 h ∙ e }
+  lent_long : length lent ≡ length v - low
+  lent_long = ap length lent_is ∙ length-drop low v
 
-  pub seek_none : length v ≤ x → NextUnset v low x
-  seek_none h = record { from = i.from; to = i.to; passed = i.passed; found = λ l. absurd (omega arith) }
+  read : (k : ℕ) → low + k < length v → get_or lent k 0 ≡ value_of v (low + k)
+  read k l = ap (λ (w : List ℕ). get_or w k 0) lent_is ∙ get_or-drop low v k 0 ∙ sym (get_d_any v (low + k) 2 0 l)
 
-  pub seek_on : x < length v → (get_or v x 0 ≡ 2 → ⊥) → Seeking v low (x + 1)
-  seek_on h e = record { from = omega (arith, i.from); to = omega arith; passed = λ j p q. go j p q (ℕ_discrete j x) }
+  none_before : (i : ℕ) → low + i ≤ length v → ((k : ℕ) → k < i → (get_or lent k 0 == 2) ≡ false) → (j : ℕ) → low ≤ j → j < low + i → value_of v j ≢ 2
+  none_before i l none j p q e =
+      let at : low + (j - low) ≡ j = omega arith in
+      let two : get_or lent (j - low) 0 ≡ 2 = read (j - low) (omega arith) ∙ ap (value_of v) at ∙ e in
+      true≢false (sym (eq-eqb _ _ two) ∙ none (j - low) (omega arith))
+
+  pub unset_found : {i : ℕ} → position (λ y. y == 2) lent ≡ Some i → LowestUnset v low (low + i)
+  unset_found {i} e =
+      let s = position-Some (λ y. y == 2) lent i 0 e in
+      let inside : low + i < length v = omega (arith, s.0, lent_long) in
+      record {
+        first = record {
+          from = omega arith;
+          to = omega (arith, inside);
+          passed = none_before i (omega (arith, inside)) s.2;
+          found = λ _. sym (read i inside) ∙ eqb-true _ _ s.1;
+        };
+        inside = inside;
+      }
+
+  pub unset_none : position (λ y. y == 2) lent ≡ None → NextUnset v low (length v)
+  unset_none e =
+      let all : length lent ≤ position_or_len (λ y. y == 2) lent = go (nat_lt (position_or_len (λ y. y == 2) lent) (length lent)) refl e in
+      record {
+        from = h;
+        to = omega arith;
+        passed = λ j p q. none_before (length v - low) (omega arith) (λ k l. fails_before_first (λ y. y == 2) lent k 0 (omega (arith, all, lent_long, l))) j p (omega arith);
+        found = λ l. absurd (omega (arith, l));
+      }
     where
-      go : (j : ℕ) → low ≤ j → j < x + 1 → Dec (j ≡ x) → value_of v j ≢ 2
-      go j p q (yes k) = λ z. e (sym (get_d_any v x 2 0 h) ∙ ap (value_of v) (sym k) ∙ z)
-      go j p q (no k) = i.passed j p (omega arith)
+      go : (t : Bool) → nat_lt (position_or_len (λ y. y == 2) lent) (length lent) ≡ t → cond t (Some (position_or_len (λ y. y == 2) lent)) None ≡ None → length lent ≤ position_or_len (λ y. y == 2) lent
+      go true q r = cc
+      go false q r = ltb-false _ _ q

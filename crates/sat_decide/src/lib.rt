@@ -1,11 +1,11 @@
 // How the search ends, and what is due at a turn where the clauses are at rest.
 #![tactic(auto)]
 
-ghost use Rattle.std.specs.Prelude.{◌≤◌, length};
-ghost use Rattle.sat_decide.specs.Turns.{NextUnset, DueAt};
+ghost use Rattle.std.specs.Prelude.{◌≡◌, ◌==◌, ◌≤◌, length, position};
+ghost use Rattle.sat_decide.specs.Turns.{DueAt};
 
 // How the search ends, with the guesses made. The values left are those found, or where the budget is spent the trial that is held.
-#[derive(Clone, Copy)]
+#[derive(Clone, Copy, Debug, PartialEq, Eq)]
 pub enum Ending {
     Found(u64),
     Absent(u64),
@@ -13,26 +13,18 @@ pub enum Ending {
 }
 
 // What is due where the clauses are at rest: (c) nothing is unset, (d) the guesses made equal the budget, (e) the lowest unset variable is guessed.
-#[derive(Clone, Copy)]
+#[derive(Clone, Copy, Debug, PartialEq, Eq)]
 pub enum Due {
     Solved,
     Spent,
     Guess(usize),
 }
 
-// The first unset variable from `low` on, or the number of variables.
-fn next_unset(values: &[u8], low: usize) -> usize
-    requires { low ≤ length values.now }
-    ensures { NextUnset values.now low result }
+// The place of the first unset value.
+fn next_unset(values: &[u8]) -> Option<usize>
+    ensures { result ≡ position (λ y. y == 2) values.now }
 {
-    let mut x = low;
-    'variables: while x < values.len() {
-        if values[x] == 2 {
-            return x;
-        }
-        x += 1;
-    }
-    x
+    values.iter().position(|y| *y == 2)
 }
 
 // What is due, where every variable below `low` is set.
@@ -40,12 +32,11 @@ pub fn due_at(values: &[u8], low: usize, made: u64, budget: u64) -> Due
     requires { low ≤ length values.now }
     ensures { DueAt values.now low made budget result }
 {
-    let x = next_unset(values, low);
-    if x == values.len() {
+    let Some(further) = next_unset(&values[low..]) else {
         return Due::Solved;
-    }
+    };
     if made == budget {
         return Due::Spent;
     }
-    Due::Guess(x)
+    Due::Guess(low + further)
 }

@@ -45,7 +45,6 @@ unset-not-right v l u = go (is_right v l) refl
     go false e = e
 
 any-cons : (v : List ℕ) (l : ℕ) (c : List ℕ) → any (is_right v) (l ∷ c) ≡ (is_right v l || any (is_right v) c)
-unfolding any
 any-cons v l c = refl
 
 pub filter-cons : (v : List ℕ) (l : ℕ) (c : List ℕ) → is_unset v l ≡ true → filter (is_unset v) (l ∷ c) ≡ l ∷ filter (is_unset v) c
@@ -80,7 +79,7 @@ module _ (v : List ℕ) where
   from_wrong ks l c u r = rw (any-cons, r, filter-past v l c u)
 
   from_end : (ks : List ℕ) → seen_from v ks [] ≡ by_unset ks
-  unfolding any filter
+  unfolding filter
   from_end ks = rw append-nil
 
 -- ---- the literals of a clause

@@ -1,16 +1,18 @@
-// Whether a literal is true or unset under the values.
+// Whether a literal is true or unset under the values, and the clauses of a list.
 #![tactic(auto)]
 
 ghost use Rattle.std.specs.Prelude.{◌≡◌, ◌+◌, ◌/◌, ◌%◌, ◌<◌, length, eqb};
 ghost use Rattle.cnf.specs.Search.{is_right, is_unset};
 
-use sat_trail::wide;
+mod clauses;
+
+pub use clauses::{Clauses, clauses_of};
 
 // Whether a literal is right where its variable is x.
 fn says(l: u16, x: u8) -> bool
     ensures { result ≡ eqb (x + l % 2) 1 }
 {
-    (x as u16) + l % 2 == 1
+    u16::from(x) + l % 2 == 1
 }
 
 // Whether a literal is right under the values.
@@ -18,7 +20,7 @@ pub fn is_true(values: &[u8], l: u16) -> bool
     requires { l / 2 < length values.now }
     ensures { result ≡ is_right values.now l }
 {
-    says(l, values[wide(l / 2)])
+    says(l, values[usize::from(l / 2)])
 }
 
 // Whether its variable is unset.
@@ -26,5 +28,5 @@ pub fn is_unset(values: &[u8], l: u16) -> bool
     requires { l / 2 < length values.now }
     ensures { result ≡ is_unset values.now l }
 {
-    values[wide(l / 2)] == 2
+    values[usize::from(l / 2)] == 2
 }

@@ -6,12 +6,13 @@ ghost use Rattle.cnf.specs.Clauses.{whole};
 ghost use Rattle.pairs.specs.Entries.{PairTable};
 ghost use Rattle.pairs.specs.Triangles.{triangles};
 ghost use Rattle.sat_trail.specs.Conclusions.{with_triangles};
-ghost use Rattle.sat_trail.specs.Rows.{Rows};
+ghost use Rattle.sat_trail.specs.Rows.{RowsOf};
+ghost use Rattle.sat_trail.specs.Conflicts.{is_broken, set_count};
 ghost use Rattle.sat_trail.specs.Trail.{Ready, Queue, Settles};
 
 use equality_propagate::drain;
-use equality_spread::Reached;
 use sat_scan::scan_clauses;
+use sat_trail::{Conflict, StateRows};
 
 // Draws the conclusions from the trail's variables from `from` on, then passes over the clauses; and again, until a pass sets nothing or a clause
 // is broken.
@@ -21,40 +22,25 @@ pub fn propagate_passes(
     table: &[u16],
     values: &mut [u8],
     trail: &mut [u16],
-    joined: &mut [u64; 40],
-    apart: &mut [u64; 40],
+    rows: &mut StateRows,
     from: usize,
     start: usize,
-) -> Reached
+) -> Result<usize, Conflict>
     requires list_value { whole list.now ≡ true }
     requires ready { Ready (with_triangles list.now n) values.old trail.old start × Queue (triangles n) values.old trail.old from start }
-    requires pair_table { PairTable table.now × Rows n values.old joined.old apart.old }
-    ensures { Settles (with_triangles list.now n) values.old trail.old start values.new trail.new result.broken
-        result.count
-        × Rows n values.new joined.new apart.new }
+    requires pair_table { PairTable table.now × RowsOf n values.old rows.old }
+    ensures { Settles (with_triangles list.now n) values.old trail.old start values.new trail.new (is_broken result) (set_count result)
+        × RowsOf n values.new rows.new }
 {
     let mut at = from;
     let mut count = start;
     'passes: loop {
-        let d = drain(n, table, values, trail, joined, apart, at, count);
-        if d.broken {
-            return d;
-        }
-        at = d.count;
+        at = drain(n, table, values, trail, rows, at, count)?;
         let mut none = [0u16; 0];
-        let s = scan_clauses(list, n, table, values, trail, joined, apart, at, &mut none);
+        let s = scan_clauses(list, n, table, values, trail, rows, at, &mut none)?;
         count = s.count;
-        if s.broken {
-            return Reached {
-                broken: true,
-                count,
-            };
-        }
         if count == at {
-            return Reached {
-                broken: false,
-                count,
-            };
+            return Ok(count);
         }
     }
 }

@@ -1,29 +1,26 @@
 -- Laws for a variable of the queue: the counters lose the weight of its false literal, and its clauses are seen to. Assumes nothing.
-use mathlib.Core.Path.{◌≡◌, refl, sym, ap, ◌∙◌, subst}
-use mathlib.Core.Logic.{◌⊎◌, inl, inr, ◌≢◌}
-use mathlib.Core.Bool.{Bool, true, false}
-use mathlib.Core.List.{List, [], ◌∷◌, ◌++◌, Memᴰ}
-use Prim.Native.Nat.{ℕ, ◌+◌, ◌-◌, ◌*◌, ◌/◌, ◌%◌, ◌≤◌, ◌<◌}
+use mathlib.Core.Path.{◌≡◌, sym, ap, ◌∙◌, subst}
+use mathlib.Core.Logic.{inl, ◌≢◌}
+use mathlib.Core.Bool.{Bool, false}
+use mathlib.Core.List.{List, [], ◌++◌, Memᴰ}
+use Prim.Native.Nat.{ℕ, ◌+◌, ◌-◌, ◌*◌, ◌/◌, ◌≤◌, ◌<◌}
 use native.Mathlib.Omega.{arith}
 use native.Mathlib.Decide.{ℕ_discrete, dec_lt}
 use lib.ListN.{length, get_or, set, take, drop, length-take}
 use lib.Seq.{slice}
-use lib.Dec.{eqb}
-use Rattle.lists.specs.Lists.{filter}
-use Rattle.lists.proofs.Members.{get_d_mem, filter-mem}
 use Rattle.cnf.specs.Clauses.{value_of, clauses_in}
-use Rattle.cnf.specs.Closing.{◌⊑◌, unset_count, holds, SettledOr}
+use Rattle.cnf.specs.Closing.{◌⊑◌, holds, SettledOr}
 use Rattle.cnf.proofs.Values.{⊑_trans}
 use Rattle.sat_trail.specs.Trail.{unsetting, Ready, Attended}
 use Rattle.sat_trail.proofs.Trails.{unsetting-append, length-unsetting}
 use Rattle.sat_trail.proofs.Working.{settled_or_behind, worked-length, worked-count, worked-extends, worked_on}
 use Rattle.sat_literal.proofs.Walking.{lent-part}
 use Rattle.equality_propagate.proofs.Queueing.{SeenTo, queue-ready, queue-values, next-queued}
-use Rattle.sat_passes.proofs.Attending.{to_cs, Both, first-ready, then_ready}
+use Rattle.sat_passes.proofs.Attending.{Both, first-ready, then_ready}
 use Rattle.sat_counters.specs.Counters.{times, numbered, places_of, Indexed, weigh, CountersOf, Falls, Fell, Noted}
 use Rattle.sat_counters.specs.Earlier.{earlier, CountersBefore}
 use Rattle.sat_counters.proofs.Decrements.{FalseOf, places-room, can_decrement, fell}
-use Rattle.sat_counters.proofs.Earlier.{earlier-none, earlier-next, counted_next, set_next, value_next, earlier-extends, earlier-grown}
+use Rattle.sat_counters.proofs.Earlier.{earlier-none, earlier-next, counted_next, value_next, earlier-extends, earlier-grown}
 use Rattle.sat_counters.proofs.Left.{two-left}
 use Rattle.sat_counters.proofs.Times.{times-some, times_in}
 use Rattle.sat_units.specs.Units.{UnitsNoted, Heeded}

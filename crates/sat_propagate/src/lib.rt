@@ -4,16 +4,16 @@
 ghost use Rattle.std.specs.Prelude.{◌≡◌, ◌≤◌, length};
 ghost use Rattle.pairs.specs.Entries.{PairTable};
 ghost use Rattle.sat_trail.specs.Conclusions.{with_triangles};
-ghost use Rattle.sat_trail.specs.Rows.{Rows};
+ghost use Rattle.sat_trail.specs.Rows.{RowsOf};
+ghost use Rattle.sat_trail.specs.Conflicts.{is_broken, set_count};
 ghost use Rattle.sat_trail.specs.Trail.{Ready, Queue, Settles};
 ghost use Rattle.sat_counters.specs.Counters.{Indexed};
 ghost use Rattle.sat_counters.specs.Earlier.{CountersBefore};
 ghost use Rattle.sat_propagate.specs.Indexed.{Room, CountersAtRest};
 
 use equality_propagate::conclude;
-use equality_spread::Reached;
 use sat_counters::{decrement, false_literal};
-use sat_trail::wide;
+use sat_trail::{Conflict, StateRows};
 use sat_units::propagate_units;
 
 mod closure;
@@ -31,34 +31,29 @@ pub fn propagate_indexed(
     noted: &mut [u16],
     values: &mut [u8],
     trail: &mut [u16],
-    joined: &mut [u64; 40],
-    apart: &mut [u64; 40],
+    rows: &mut StateRows,
     from: usize,
     start: usize,
-) -> Reached
+) -> Result<usize, Conflict>
     requires indexed { Indexed list.now firsts.now clauses.now × Room clauses.now counters.old noted.old }
     requires ready { Ready (with_triangles list.now n) values.old trail.old start }
     requires queue { Queue (with_triangles list.now n) values.old trail.old from start × (length values.old ≤ 780) }
     requires counters_before { CountersBefore list.now values.old trail.old from start counters.old }
-    requires pair_table { PairTable table.now × Rows n values.old joined.old apart.old }
-    ensures settles { Settles (with_triangles list.now n) values.old trail.old start values.new trail.new result.broken
-        result.count
-        × Rows n values.new joined.new apart.new }
-    ensures caught { CountersAtRest list.now values.new counters.new result.broken }
+    requires pair_table { PairTable table.now × RowsOf n values.old rows.old }
+    ensures settles { Settles (with_triangles list.now n) values.old trail.old start values.new trail.new (is_broken result) (set_count result)
+        × RowsOf n values.new rows.new }
+    ensures caught { CountersAtRest list.now values.new counters.new (is_broken result) }
 {
     let mut at = from;
     let mut count = start;
     'queue: while at < count {
         let x = trail[at];
         at += 1;
-        let a = conclude(n, table, x, values, trail, joined, apart, count);
-        if a.broken {
-            return a;
-        }
+        let more = conclude(n, table, x, values, trail, rows, count)?;
         let l = false_literal(values, x);
-        let places = &clauses[wide(firsts[l])..wide(firsts[l + 1])];
+        let places = &clauses[usize::from(firsts[l])..usize::from(firsts[l + 1])];
         let few = decrement(places, l as u16, counters, noted);
-        let r = propagate_units(
+        count = propagate_units(
             list,
             n,
             table,
@@ -66,17 +61,9 @@ pub fn propagate_indexed(
             &noted[..few],
             values,
             trail,
-            joined,
-            apart,
-            a.count,
-        );
-        if r.broken {
-            return r;
-        }
-        count = r.count;
+            rows,
+            more,
+        )?;
     }
-    Reached {
-        broken: false,
-        count,
-    }
+    Ok(count)
 }

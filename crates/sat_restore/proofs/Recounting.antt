@@ -1,12 +1,11 @@
 -- Laws for giving the weights back: the trail's variables from a place back to a mark, one after the other. Assumes nothing.
-use mathlib.Core.Path.{◌≡◌, sym, ap, ◌∙◌, subst}
+use mathlib.Core.Path.{◌≡◌, sym, ◌∙◌, subst}
 use mathlib.Core.Logic.{◌≢◌}
 use mathlib.Core.List.{List}
 use Prim.Native.Nat.{ℕ, ◌+◌, ◌-◌, ◌*◌, ◌≤◌, ◌<◌}
 use native.Mathlib.Omega.{arith}
-use lib.ListN.{length, get_or, set, take, drop}
-use lib.Seq.{slice}
-use Rattle.cnf.specs.Clauses.{value_of, clauses_in}
+use lib.ListN.{length, get_or, take, drop}
+use Rattle.cnf.specs.Clauses.{value_of}
 use Rattle.cnf.specs.Closing.{unset_count}
 use Rattle.sat_trail.proofs.Trails.{length-unsetting}
 use Rattle.sat_literal.proofs.Walking.{lent-part}

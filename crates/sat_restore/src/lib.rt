@@ -7,19 +7,6 @@ ghost use Rattle.sat_counters.specs.Earlier.{CountersBefore};
 ghost use Rattle.sat_restore.specs.Restoring.{TrailMark, Sized};
 
 use sat_counters::{false_literal, increment};
-use sat_trail::wide;
-
-// Copies the counters.
-pub fn copy(from: &[u32], to: &mut [u32])
-    requires { (length from.now ≡ length to.old) × (length to.old ≤ 32768) }
-    ensures { to.new ≡ from.now }
-{
-    let mut i: usize = 0;
-    'counters: while i < from.len() {
-        to[i] = from[i];
-        i += 1;
-    }
-}
 
 // Gives the clauses the weights back that they lost by the trail's variables from `mark` up to `base`. The trail has `count` variables.
 fn recount(
@@ -37,11 +24,9 @@ fn recount(
     requires trail_mark { TrailMark list.now values.now trail.now mark base count × CountersBefore list.now values.now trail.now base count counters.old }
     ensures { CountersBefore list.now values.now trail.now mark count counters.new }
 {
-    let mut i = base;
-    'trail: while mark < i {
-        i -= 1;
+    'trail: for i in (mark..base).rev() {
         let l = false_literal(values, trail[i]);
-        let places = &clauses[wide(firsts[l])..wide(firsts[l + 1])];
+        let places = &clauses[usize::from(firsts[l])..usize::from(firsts[l + 1])];
         increment(places, l as u16, counters);
     }
 }
@@ -63,12 +48,12 @@ pub fn restore(
     requires trail_mark { TrailMark list.now values.now trail.now mark base count × CountersBefore list.now values.now trail.now base count saved.old }
     ensures { CountersBefore list.now values.now trail.now mark count counters.new × (saved.new ≡ counters.new) }
 {
-    copy(saved, counters);
+    counters.copy_from_slice(saved);
     if mark == base {
         return;
     }
     recount(
         list, firsts, clauses, counters, values, trail, mark, base, count,
     );
-    copy(counters, saved);
+    saved.copy_from_slice(counters);
 }

@@ -1,13 +1,13 @@
 -- Laws for a pass that puts down places: every clause passed has a right literal, or its place is put down. Assumes nothing.
 use mathlib.Core.Path.{◌≡◌, refl, sym, ap, ◌∙◌, subst}
-use mathlib.Core.Logic.{◌⊎◌, inl, inr, ◌≢◌}
+use mathlib.Core.Logic.{◌⊎◌, inl, inr}
 use mathlib.Core.Bool.{true, false, true≢false}
 use mathlib.Core.List.Memᴰ
 use mathlib.Core.List.Memᴰ.{append_cases}
 use mathlib.Core.List.Memᴰ.{eq_of_singleton}
 use mathlib.Core.List.Memᴰ.{not-nil}
 use mathlib.Core.List.{List, [], ◌∷◌, ◌++◌, Memᴰ}
-use Prim.Native.Nat.{ℕ, ◌+◌, ◌-◌, ◌/◌, ◌≤◌, ◌<◌}
+use Prim.Native.Nat.{ℕ, ◌+◌, ◌/◌, ◌≤◌, ◌<◌}
 use native.Mathlib.Numerals.{add-one}
 use native.Mathlib.Omega.{arith}
 use lib.ListN.{length, get_or, set, take, drop, length-set}
@@ -72,7 +72,7 @@ module _ {ws v₀ t₀ : List ℕ} {start : ℕ} (ready : Ready (clauses_in ws) 
         go c (inr s) = s
 
     module _ (h : at < length ws) where
-      pub scan_clauses_broken : broken ≡ seen v (clause_at ws at) → Sifts ws v₀ t₀ start v t room true count kept
+      pub scan_clauses_broken : {kept' : ℕ} → broken ≡ seen v (clause_at ws at) → Sifts ws v₀ t₀ start v t room true count kept'
       scan_clauses_broken e = record { pass = pass-broken ready i.passing h e; left = λ b. absurd (true≢false b) }
 
       -- the clause is passed, and no place is put down

@@ -4,17 +4,17 @@
 ghost use Rattle.std.specs.Prelude.{◌≡◌, true, ◌≤◌, ◌<◌, length};
 ghost use Rattle.cnf.specs.Clauses.{clauses_in, whole};
 ghost use Rattle.pairs.specs.Entries.{PairTable};
-ghost use Rattle.sat_trail.specs.Rows.{Rows};
+ghost use Rattle.sat_trail.specs.Rows.{RowsOf};
+ghost use Rattle.sat_trail.specs.Conflicts.{is_broken};
 ghost use Rattle.sat_trail.specs.Trail.{Ready};
-ghost use Rattle.sat_scan.specs.Scan.{Sifts};
+ghost use Rattle.sat_scan.specs.Scan.{scan_count, scan_kept, Sifts};
 
 use sat_literal::{is_true, is_unset};
-use sat_trail::{force, wide};
+use sat_trail::{Conflict, StateRows, force};
 
-// Whether a clause is broken, how many variables are set, and how many clauses neither hold nor force.
-#[derive(Clone, Copy)]
+// A scan that came to the end: how many variables are set, and how many clauses neither hold nor force.
+#[derive(Clone, Copy, Debug, PartialEq, Eq)]
 pub struct Scanned {
-    pub broken: bool,
     pub count: usize,
     pub kept: usize,
 }
@@ -28,16 +28,15 @@ pub fn scan_clauses(
     table: &[u16],
     values: &mut [u8],
     trail: &mut [u16],
-    joined: &mut [u64; 40],
-    apart: &mut [u64; 40],
+    rows: &mut StateRows,
     start: usize,
     places: &mut [u16],
-) -> Scanned
+) -> Result<Scanned, Conflict>
     requires list_value { (whole list.now ≡ true) × (0 < length places.old → length list.now ≤ 65536) }
     requires ready { Ready (clauses_in list.now) values.old trail.old start }
-    requires pair_table { PairTable table.now × Rows n values.old joined.old apart.old }
-    ensures sifts { Sifts list.now values.old trail.old start values.new trail.new places.new result.broken result.count result.kept }
-    ensures rows { Rows n values.new joined.new apart.new }
+    requires pair_table { PairTable table.now × RowsOf n values.old rows.old }
+    ensures sifts { Sifts list.now values.old trail.old start values.new trail.new places.new (is_broken result) (scan_count result) (scan_kept result) }
+    ensures rows { RowsOf n values.new rows.new }
 {
     let mut broken = false;
     let mut count = start;
@@ -46,7 +45,7 @@ pub fn scan_clauses(
     'clauses: while at < list.len() {
         let place = at;
         let mut i = place + 1;
-        at = i + wide(list[place]);
+        at = i + usize::from(list[place]);
         let mut unset: usize = 0;
         let mut last: u16 = 0;
         if i < at {
@@ -84,11 +83,10 @@ pub fn scan_clauses(
             }
             i += 1;
         }
-        count = force(n, table, last, values, trail, joined, apart, count);
+        count = force(n, table, last, values, trail, rows, count);
     }
-    Scanned {
-        broken,
-        count,
-        kept,
+    if broken {
+        return Err(Conflict { count });
     }
+    Ok(Scanned { count, kept })
 }

@@ -5,15 +5,14 @@ ghost use Rattle.std.specs.Prelude.{◌≡◌, length};
 ghost use Rattle.cnf.specs.Trials.{not_false, search_tried};
 ghost use Rattle.pairs.specs.Entries.{PairTable};
 ghost use Rattle.sat_trail.specs.Conclusions.{with_triangles};
-ghost use Rattle.sat_trail.specs.Rows.{Rows};
+ghost use Rattle.sat_trail.specs.Rows.{RowsOf};
 ghost use Rattle.sat_decide.specs.Turns.{Rested, EndsWith};
 ghost use Rattle.sat_propagate.specs.Preparing.{Prepared, CountersOfIf};
 
 use sat_backtrack::backtrack;
 use sat_decide::{Due, Ending, due_at};
 use sat_propagate::propagate;
-use sat_restore::copy;
-use sat_trail::{force, wide};
+use sat_trail::{StateRows, force};
 use sat_trial::walk_back;
 
 // Room for 780 places.
@@ -39,15 +38,14 @@ pub fn turns(
     noted: &mut [u16],
     values: &mut [u8],
     trail: &mut [u16],
-    joined: &mut [u64; 40],
-    apart: &mut [u64; 40],
+    rows: &mut StateRows,
     budget: u64,
     start: usize,
 ) -> Ending
     requires prepared { Prepared list.now firsts.now clauses.now starts.now masks.now counters.old noted.old }
     requires counters_of_if { CountersOfIf list.now clauses.now values.old counters.old × (length saved.old ≡ length counters.old) }
     requires rested { Rested (with_triangles list.now n) (length values.old) values.old trail.old start }
-    requires pair_table { PairTable table.now × Rows n values.old joined.old apart.old }
+    requires pair_table { PairTable table.now × RowsOf n values.old rows.old }
     ensures { EndsWith (search_tried (with_triangles list.now n) (length values.old) budget) result values.new (not_false values.old) }
 {
     let mut levels = places();
@@ -57,44 +55,55 @@ pub fn turns(
     let mut made: u64 = 0;
     let mut low: usize = 0;
     'turns: loop {
-        let r = propagate(
-            list, n, table, firsts, clauses, starts, masks, counters, noted, values, trail, joined,
-            apart, at, count,
+        let reached = propagate(
+            list, n, table, firsts, clauses, starts, masks, counters, noted, values, trail, rows,
+            at, count,
         );
-        if r.broken {
-            if depth == 0 {
-                return Ending::Absent(made);
+        let rested = match reached {
+            Ok(set) => set,
+            Err(conflict) => {
+                if depth == 0 {
+                    return Ending::Absent(made);
+                }
+                depth -= 1;
+                let mark = usize::from(levels[depth]);
+                let undone = backtrack(
+                    list,
+                    n,
+                    table,
+                    firsts,
+                    clauses,
+                    counters,
+                    saved,
+                    values,
+                    trail,
+                    rows,
+                    mark,
+                    at,
+                    conflict.count,
+                );
+                low = undone.variable + 1;
+                at = mark;
+                count = undone.count;
+                continue 'turns;
             }
-            depth -= 1;
-            let mark = wide(levels[depth]);
-            let undone = backtrack(
-                list, n, table, firsts, clauses, counters, saved, values, trail, joined, apart,
-                mark, at, r.count,
-            );
-            low = undone.variable + 1;
-            at = mark;
-            count = undone.count;
-            continue 'turns;
-        }
-        let due = due_at(values, low, made, budget);
-        match due {
+        };
+        match due_at(values, low, made, budget) {
             Due::Solved => {
                 return Ending::Found(made);
             }
             Due::Spent => {
-                walk_back(
-                    list, n, table, values, trail, joined, apart, &levels, depth, r.count,
-                );
+                walk_back(list, n, table, values, trail, rows, &levels, depth, rested);
                 return Ending::Spent(made);
             }
             Due::Guess(x) => {
-                at = r.count;
-                copy(counters, saved);
+                at = rested;
+                saved.copy_from_slice(counters);
                 levels[depth] = at as u16;
                 depth += 1;
                 made += 1;
                 // literal 2x says that x is true
-                count = force(n, table, (2 * x) as u16, values, trail, joined, apart, at);
+                count = force(n, table, (2 * x) as u16, values, trail, rows, at);
                 low = x + 1;
                 continue 'turns;
             }

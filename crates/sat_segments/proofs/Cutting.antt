@@ -118,7 +118,7 @@ next-words ws {from} {at} h k = ap (λ (n : ℕ). take n (drop from ws)) size �
         ∙ ap (λ (l : List ℕ). get_or ws at 0 ∷ l) (ap (λ (n : ℕ). take n (drop (at + 1) ws)) (sym own) ∙ clause-words ws at refl)
 
 words_snoc : (cs : List (List ℕ)) (c : List ℕ) {n : ℕ} → n ≡ length c → words_of (cs ++ (c ∷ [])) ≡ words_of cs ++ (n ∷ c)
-unfolding words_of concat_map
+unfolding words_of
 words_snoc cs c {n} e = concat_map-append (λ d. length d ∷ d) cs (c ∷ []) ∙ ap (λ (l : List ℕ). concat_map (λ d. length d ∷ d) cs ++ l) (append-nil (length c ∷ c) ∙ ap (λ (m : ℕ). m ∷ c) (sym e))
 
 -- ---- the walk over the clauses
@@ -145,7 +145,7 @@ marking {ws} starts masks w a b = record {
   before = before-first w;
   clauses = [];
   first = omega (arith, zero-there);
-  words = rw zero-there (unfold words_of concat_map in refl);
+  words = rw zero-there (unfold words_of in refl);
   mine = λ c m. absurd (not-nil m);
   closed = λ j h. absurd (omega (arith, h));
   passed = λ c m. inl m;
@@ -226,7 +226,7 @@ module _ {ws starts masks : List ℕ} {k at : ℕ} (i : Marking ws starts masks 
       before = i.before;
       clauses = [];
       first = omega (arith, ends_there);
-      words = let none : at - at ≡ 0 = omega arith in rw (ends_there, none) (unfold words_of concat_map in refl);
+      words = let none : at - at ≡ 0 = omega arith in rw (ends_there, none) (unfold words_of in refl);
       mine = λ c m. absurd (not-nil m);
       closed = λ j l. span j l (ℕ_discrete j k);
       passed = λ c m. go c (i.passed c m);

@@ -11,12 +11,12 @@ use Prim.Native.Nat.{ℕ, suc, ◌+◌, ◌-◌, ◌*◌, ◌/◌, ◌≤◌, �
 use native.Mathlib.Numerals.{add-one}
 use native.Mathlib.Omega.{arith}
 use native.Mathlib.Decide.{ℕ_discrete, dec_lt}
-use lib.ListN.{length, get_or, set, take, drop, length-set, length-drop, drop_of_length-le, get_or-eq_default}
-use lib.Seq.{take-suc, take-suc-set, take-length, drop-cons, length-take-le}
+use lib.ListN.{length, get_or, set, take, drop, length-drop, drop_of_length-le, get_or-eq_default}
+use lib.Seq.{take-suc, take-length, drop-cons, length-take-le}
 use lib.Dec.{eqb}
 use borrow.Author.Tests.{eq-eqb, ne_eqb}
-use Rattle.lists.specs.Lists.{any, filter, concat_map, upto}
-use Rattle.lists.proofs.Members.{any-true, filter-mem, filter_of, get_d_any, one_on, upto-mem, upto_of}
+use Rattle.lists.specs.Lists.{any, filter, upto}
+use Rattle.lists.proofs.Members.{any-true, filter-mem, filter_of, get_d_any, upto-mem, upto_of}
 use Rattle.lists.proofs.Counts.{filter-append, concat_map-append, map_of_lem}
 use Rattle.cnf.specs.Clauses.{value_of, clauses_in, whole, words_of, Right}
 use Rattle.cnf.specs.Search.{is_right, is_unset}
@@ -30,7 +30,7 @@ use Rattle.sat_literal.specs.Literals.{Over, clause_at}
 use Rattle.sat_literal.proofs.Walking.{clause-words, Before, before-first, before-next, end_inside, at_clauses, clause_in}
 use Rattle.sat_scan.specs.Scan.{StandsAt, Left}
 use Rattle.sat_scan.proofs.Scanning.{any-more}
-use Rattle.sat_simplify.specs.Simplify.{units, unheld, lightened, clauses_at, set_below, variables_set, SetIn, AllSet, Written}
+use Rattle.sat_simplify.specs.Simplify.{units, unheld, lightened, clauses_at, set_below, variables_set, AllSet, Written, PutUnit, PutOpen}
 
 -- ---- members of a mapped list
 
@@ -44,68 +44,13 @@ module _ {B : Type 0} (f : ℕ → B) where
   mapped_snoc [] x = refl
   mapped_snoc (y ∷ xs) x = ap (λ (r : List B). f y ∷ r) (mapped_snoc xs x)
 
--- ---- words put after words
-
--- i of the words are put after the first `at` of old
-pub record Putting (ws old new : List ℕ) (at i : ℕ) : Type 0 where
-  pub inside : i ≤ length ws
-  pub long : length new ≡ length old
-  pub words : take (at + i) new ≡ take at old ++ take i ws
-
-pub putting : (ws old : List ℕ) (at : ℕ) → Putting ws old old at 0
-putting ws old at = let e : at + 0 ≡ at = omega arith in record { inside = omega arith; long = refl; words = rw (e, append-nil) }
-
-module _ {ws old new : List ℕ} {at i : ℕ} (room : at + length ws ≤ length old) (p : Putting ws old new at i) where
-  pub put_on : i < length ws → Putting ws old (set new (at + i) (get_or ws i 0)) at (i + 1)
-  put_on h = record {
-    inside = omega arith;
-    long = length-set new (at + i) (get_or ws i 0) ∙ p.long;
-    words = next ∙ ap (λ (r : List ℕ). r ++ (get_or ws i 0 ∷ [])) p.words ∙ append_assoc (take at old) (take i ws) (get_or ws i 0 ∷ []) ∙ ap (λ (r : List ℕ). take at old ++ r) (sym (rw add-one (take-suc ws i 0 h)));
-  }
-    where
-      next : take (at + (i + 1)) (set new (at + i) (get_or ws i 0)) ≡ take (at + i) new ++ (get_or ws i 0 ∷ [])
-      next = let e : at + (i + 1) ≡ suc (at + i) = omega arith in rw e (take-suc-set new (at + i) (get_or ws i 0) (omega (arith, p.long)))
-
-  pub put_all : length ws ≤ i → (at + i ≡ at + length ws) × (take (at + i) new ≡ take at old ++ ws)
-  put_all h = let e : i ≡ length ws = omega (arith, p.inside) in (ap (λ (k : ℕ). at + k) e, p.words ∙ rw (e, take-length))
-
 -- ---- the words of clauses
 
 words_snoc : (cs : List (List ℕ)) (c : List ℕ) → words_of (cs ++ (c ∷ [])) ≡ words_of cs ++ (length c ∷ c)
-unfolding words_of concat_map
+unfolding words_of
 words_snoc cs c = concat_map-append (λ c. length c ∷ c) cs (c ∷ []) ∙ ap (λ (r : List ℕ). words_of cs ++ (length c ∷ r)) (append-nil c)
 
--- ---- a clause is looked at
-
--- no literal before i is right
-pub record Unheld (c v : List ℕ) (i : ℕ) : Type 0 where
-  pub inside : i ≤ length c
-  pub rest : any (is_right v) c ≡ any (is_right v) (drop i c)
-
-pub unheld-start : (c v : List ℕ) → Unheld c v 0
-unheld-start c v = record { inside = omega arith; rest = refl }
-
-module _ {c v : List ℕ} {i : ℕ} (u : Unheld c v i) where
-  pub unheld_on : i < length c → is_right v (get_or c i 0) ≡ false → Unheld c v (i + 1)
-  unfolding any
-  unheld_on h e = record { inside = omega arith; rest = u.rest ∙ rw (one_on c i h, e, any) }
-
-  pub unheld-all : length c ≤ i → any (is_right v) c ≡ false
-  unfolding any
-  unheld-all h = u.rest ∙ rw (drop_of_length-le c h)
-
 -- ---- a clause for each variable
-
--- the literal that is right, by the value read
-module _ (v : List ℕ) (x : ℕ) {i : ℕ} (s : SetIn v x) (e : i ≡ x) where
-  read : value_of v x ≡ get_or v i 0
-  read = get_d_any v x 2 0 s.0 ∙ ap (λ (j : ℕ). get_or v j 0) (sym e)
-
-  pub literal-one : get_or v i 0 ≡ 1 → 2 * x ≡ saying x (value_of v x)
-  literal-one p = omega (arith, read)
-
-  pub literal-zero : get_or v i 0 ≢ 1 → 2 * x + 1 ≡ saying x (value_of v x)
-  literal-zero p = omega (arith, read, s.1)
 
 -- those of the first i variables are put, in `at` words
 pub record Uniting (v xs out : List ℕ) (at i : ℕ) : Type 0 where
@@ -114,7 +59,7 @@ pub record Uniting (v xs out : List ℕ) (at i : ℕ) : Type 0 where
   pub words : Written out at (units v (take i xs))
 
 pub uniting : (v xs out : List ℕ) → Uniting v xs out 0 0
-unfolding units words_of concat_map
+unfolding units words_of
 uniting v xs out = record { inside = omega arith; place = omega arith; words = refl }
 
 -- one more
@@ -130,9 +75,8 @@ unit_put v xs ys out out' at l x r w q e p = p ∙ ap (λ (k : List ℕ). k ++ (
 
 module _ {v xs out : List ℕ} {at i : ℕ} (u : Uniting v xs out at i) where
   pub unite_on :
-      {out' : List ℕ} {l r : ℕ} → i < length xs → l ≡ saying (get_or xs i 0) (value_of v (get_or xs i 0))
-      → (r ≡ at + 2) × (take r out' ≡ take at out ++ (1 ∷ l ∷ [])) → Uniting v xs out' r (i + 1)
-  unite_on {out'} {l} {r} h e p = record { inside = omega arith; place = omega (arith, p.0, u.place); words = unit_put v (take i xs) (take (i + 1) xs) out out' at l (get_or xs i 0) r u.words (rw add-one (take-suc xs i 0 h)) e p.1 }
+      {out' : List ℕ} {r : ℕ} → i < length xs → PutUnit v (get_or xs i 0) out at out' r → Uniting v xs out' r (i + 1)
+  unite_on {out'} {r} h p = record { inside = omega arith; place = omega (arith, p.0, u.place); words = unit_put v (take i xs) (take (i + 1) xs) out out' at _ (get_or xs i 0) r u.words (rw add-one (take-suc xs i 0 h)) refl p.1 }
 
   pub unite_all : length xs ≤ i → (at ≡ 2 * length xs) × Written out at (units v xs)
   unite_all h = let e : i ≡ length xs = omega (arith, u.inside) in (omega (arith, u.place), u.words ∙ rw (e, take-length))
@@ -144,7 +88,7 @@ pub record Setting (v out : List ℕ) (at x : ℕ) : Type 0 where
   pub words : Written out at (units v (set_below v x))
 
 pub setting : (v out : List ℕ) → Setting v out 0 0
-unfolding units set_below upto filter words_of concat_map
+unfolding units set_below upto filter words_of
 setting v out = record { inside = omega arith; few = omega arith; words = refl }
 
 module _ {v out : List ℕ} {at x : ℕ} (u : Setting v out at x) where
@@ -158,8 +102,8 @@ module _ {v out : List ℕ} {at x : ℕ} (u : Setting v out at x) where
       same : set_below v (x + 1) ≡ set_below v x
       same = one_more ∙ (unfold filter in rw (eq-eqb (value_of v x) 2 (get_d_any v x 2 0 h ∙ e), filter) (append-nil (set_below v x)))
 
-  pub set_put : {out' : List ℕ} {l r : ℕ} → x < length v → get_or v x 0 ≢ 2 → l ≡ saying x (value_of v x) → (r ≡ at + 2) × (take r out' ≡ take at out ++ (1 ∷ l ∷ [])) → Setting v out' r (x + 1)
-  set_put {out'} {l} {r} h e q p = record { inside = omega arith; few = omega (arith, p.0, u.few); words = unit_put v (set_below v x) (set_below v (x + 1)) out out' at l x r u.words more q p.1 }
+  pub set_put : {out' : List ℕ} {r : ℕ} → x < length v → get_or v x 0 ≢ 2 → PutUnit v x out at out' r → Setting v out' r (x + 1)
+  set_put {out'} {r} h e p = record { inside = omega arith; few = omega (arith, p.0, u.few); words = unit_put v (set_below v x) (set_below v (x + 1)) out out' at _ x r u.words more refl p.1 }
     where
       more : set_below v (x + 1) ≡ set_below v x ++ (x ∷ [])
       more = one_more ∙ (unfold filter in rw (ne_eqb (value_of v x) 2 (λ z. e (sym (get_d_any v x 2 0 h) ∙ z)), filter))
@@ -169,17 +113,13 @@ module _ {v out : List ℕ} {at x : ℕ} (u : Setting v out at x) where
 
 -- ---- clauses that do not hold
 
--- the first r of the new words are the first `at` of the old ones, with the clause after them unless it holds
-record PutOpen (v c old : List ℕ) (at : ℕ) (new : List ℕ) (r : ℕ) : Type 0 where
-  pub words : take r new ≡ take at old ++ words_of (unheld v (c ∷ []))
-
 module _ (v c out : List ℕ) (at : ℕ) where
-  put_held : any (is_right v) c ≡ true → PutOpen v c out at out at
-  unfolding unheld filter words_of concat_map
+  pub put_held : any (is_right v) c ≡ true → PutOpen v c out at out at
+  unfolding unheld filter words_of
   put_held e = record { words = rw (e, filter) (sym (append-nil (take at out))) }
 
-  put_unheld : {out' put : List ℕ} {r : ℕ} → any (is_right v) c ≡ false → take r out' ≡ take at out ++ put → put ≡ length c ∷ c → PutOpen v c out at out' r
-  unfolding unheld filter words_of concat_map
+  pub put_unheld : {out' put : List ℕ} {r : ℕ} → any (is_right v) c ≡ false → take r out' ≡ take at out ++ put → put ≡ length c ∷ c → PutOpen v c out at out' r
+  unfolding unheld filter words_of
   put_unheld e p q = record { words = p ∙ ap (λ (k : List ℕ). take at out ++ k) (q ∙ rw (e, filter) (sym (append-nil (length c ∷ c)))) }
 
 -- what is left of the clauses so far
@@ -214,18 +154,8 @@ module _ {ws v xs ps : List ℕ} where
   lightening h e p = record { inside = omega arith; so_far = lightened-none h e p }
 
   module _ {out : List ℕ} {at i : ℕ} (w : Lightening ws v xs ps out at i) where
-    simplify_on : {out' : List ℕ} {r : ℕ} → i < length ps → r ≤ length out' → PutOpen v (clause_at ws (get_or ps i 0)) out at out' r → Lightening ws v xs ps out' r (i + 1)
+    pub simplify_on : {out' : List ℕ} {r : ℕ} → i < length ps → r ≤ length out' → PutOpen v (clause_at ws (get_or ps i 0)) out at out' r → Lightening ws v xs ps out' r (i + 1)
     simplify_on h k p = record { inside = omega arith; so_far = lightened-more w.so_far (rw (add-one, take-suc ps i 0 h) (mapped_snoc (clause_at ws) (take i ps) (get_or ps i 0))) k p }
-
-    -- it holds
-    pub simplify_holding : i < length ps → any (is_right v) (clause_at ws (get_or ps i 0)) ≡ true → Lightening ws v xs ps out at (i + 1)
-    simplify_holding h e = simplify_on h w.so_far.room (put_held v (clause_at ws (get_or ps i 0)) out at e)
-
-    -- it does not, and is put
-    pub simplify_put :
-        {out' put : List ℕ} {r : ℕ} → i < length ps → any (is_right v) (clause_at ws (get_or ps i 0)) ≡ false → r ≤ length out' → take r out' ≡ take at out ++ put
-        → put ≡ length (clause_at ws (get_or ps i 0)) ∷ clause_at ws (get_or ps i 0) → Lightening ws v xs ps out' r (i + 1)
-    simplify_put h e k p q = simplify_on h k (put_unheld v (clause_at ws (get_or ps i 0)) out at e p q)
 
     pub simplify_all : length ps ≤ i → Written out at (lightened v xs (clauses_at ws ps))
     simplify_all h = let e : i ≡ length ps = omega (arith, w.inside) in w.so_far.words ∙ rw (e, take-length)
@@ -242,21 +172,13 @@ module _ {ws v xs : List ℕ} where
   walked w h e p = record { before = before-first w; passed = []; all_are = refl; so_far = lightened-none h e p }
 
   module _ {out : List ℕ} {at end : ℕ} (w : Walked ws v xs out at end) where
-    walk_on : {out' : List ℕ} {r : ℕ} → end < length ws → r ≤ length out' → PutOpen v (clause_at ws end) out at out' r → Walked ws v xs out' r (end + 1 + get_or ws end 0)
+    pub walk_on : {out' : List ℕ} {r : ℕ} → end < length ws → r ≤ length out' → PutOpen v (clause_at ws end) out at out' r → Walked ws v xs out' r (end + 1 + get_or ws end 0)
     walk_on h k p = record {
       before = before-next w.before h;
       passed = w.passed ++ (clause_at ws end ∷ []);
       all_are = w.all_are ∙ ap (λ (z : List (List ℕ)). w.passed ++ z) (at_clauses w.before h) ∙ sym (append_assoc w.passed (clause_at ws end ∷ []) (clauses_in (drop (end + 1 + get_or ws end 0) ws)));
       so_far = lightened-more w.so_far refl k p;
     }
-
-    pub walk_holding : end < length ws → any (is_right v) (clause_at ws end) ≡ true → Walked ws v xs out at (end + 1 + get_or ws end 0)
-    walk_holding h e = walk_on h w.so_far.room (put_held v (clause_at ws end) out at e)
-
-    pub walk_put :
-        {out' put : List ℕ} {r : ℕ} → end < length ws → any (is_right v) (clause_at ws end) ≡ false → r ≤ length out' → take r out' ≡ take at out ++ put
-        → put ≡ length (clause_at ws end) ∷ clause_at ws end → Walked ws v xs out' r (end + 1 + get_or ws end 0)
-    walk_put h e k p q = walk_on h k (put_unheld v (clause_at ws end) out at e p q)
 
     pub walk-all : length ws ≤ end → Written out at (lightened v xs (clauses_in ws))
     walk-all h = w.so_far.words ∙ ap (λ (z : List (List ℕ)). words_of (lightened v xs z)) (sym (w.all_are ∙ rw (drop_of_length-le ws h, clauses_nil) (append-nil w.passed)))

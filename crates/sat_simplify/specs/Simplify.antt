@@ -1,5 +1,5 @@
 -- What is left of a list after the first pass. Assumes nothing.
-use Rattle.std.specs.Prelude.{◌≡◌, true, not, ℕ, ◌≤◌, ◌<◌, length, take, eqb}
+use Rattle.std.specs.Prelude.{◌≡◌, true, not, ℕ, ◌+◌, ◌≤◌, ◌<◌, length, take, eqb}
 use mathlib.Core.List.{List, [], ◌∷◌, ◌++◌, map, Memᴰ}
 use Rattle.lists.specs.Lists.{any, filter, upto}
 use Rattle.cnf.specs.Clauses.{value_of, clauses_in, whole, words_of}
@@ -57,3 +57,11 @@ pub record LightensAll (ws v : List ℕ) : Type 0 where
 -- the first r words are the clauses
 abbrev pub Written : List ℕ → ℕ → List (List ℕ) → Type 0
 Written out r cs = take r out ≡ words_of cs
+
+-- a clause of the right literal of x is put after the first `at` words
+abbrev pub PutUnit : List ℕ → ℕ → List ℕ → ℕ → List ℕ → ℕ → Type 0
+PutUnit v x old at new r = (r ≡ at + 2) × (take r new ≡ take at old ++ (1 ∷ saying x (value_of v x) ∷ []))
+
+-- the first r of the new words are the first `at` of the old ones, with the clause after them unless it holds
+pub record PutOpen (v c old : List ℕ) (at : ℕ) (new : List ℕ) (r : ℕ) : Type 0 where
+  pub words : take r new ≡ take at old ++ words_of (unheld v (c ∷ []))

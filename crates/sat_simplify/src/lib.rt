@@ -1,30 +1,24 @@
 // What is left of a list after the first scan: a clause with a true literal holds for good, since nothing was guessed yet.
 #![tactic(auto)]
 
-ghost use Rattle.std.specs.Prelude.{◌≡◌, ◌++◌, ℕ, ◌+◌, ◌*◌, ◌≤◌, length, take};
+ghost use Rattle.std.specs.Prelude.{◌≡◌, ◌++◌, ℕ, ◌+◌, ◌*◌, ◌≤◌, length, take, IfSome};
 ghost use Rattle.lists.specs.Lists.{any};
 ghost use Rattle.cnf.specs.Clauses.{value_of, clauses_in};
 ghost use Rattle.cnf.specs.Search.{is_right};
+ghost use Rattle.cnf.specs.Closing.{Formed};
 ghost use Rattle.sat_trail.specs.Conclusions.{saying};
-ghost use Rattle.sat_literal.specs.Literals.{Over};
-ghost use Rattle.sat_simplify.specs.Simplify.{SetIn, AllSet, units, lightened, clauses_at, variables_set, Lightens, LightensAll, Written};
+ghost use Rattle.sat_literal.specs.Literals.{Over, clause_at};
+ghost use Rattle.sat_scan.specs.Scan.{StandsAt};
+ghost use Rattle.sat_simplify.specs.Simplify.{SetIn, AllSet, units, lightened, clauses_at, variables_set, Lightens, LightensAll, Written, PutUnit, PutOpen};
 
 use sat_literal::is_true;
-use sat_trail::wide;
 
 // Whether a literal of the clause is right.
 fn holds(literals: &[u16], values: &[u8]) -> bool
     requires { Over literals.now (length values.now) }
     ensures { result ≡ any (is_right values.now) literals.now }
 {
-    let mut i: usize = 0;
-    'literals: while i < literals.len() {
-        if is_true(values, literals[i]) {
-            return true;
-        }
-        i += 1;
-    }
-    false
+    literals.iter().any(|l| is_true(values, *l))
 }
 
 // Puts words after the first `at` words; answers how many there are then.
@@ -32,12 +26,9 @@ fn put_words(words: &[u16], out: &mut [u16], at: usize) -> usize
     requires { at + length words.now ≤ length out.old }
     ensures { (result ≡ at + length words.now) × (take result out.new ≡ take at out.old ++ words.now) }
 {
-    let mut i: usize = 0;
-    'words: while i < words.len() {
-        out[at + i] = words[i];
-        i += 1;
-    }
-    at + i
+    let end = at + words.len();
+    out[at..end].copy_from_slice(words);
+    end
 }
 
 // The literal of a variable that is right.
@@ -45,10 +36,16 @@ fn right_literal(values: &[u8], x: u16) -> u16
     requires { (length values.now ≤ 780) × SetIn values.now x }
     ensures { result ≡ saying x (value_of values.now x) }
 {
-    if values[wide(x)] == 1 {
-        return 2 * x;
-    }
-    2 * x + 1
+    2 * x + (1 - u16::from(values[usize::from(x)]))
+}
+
+// Puts a clause of the right literal of a variable after the first `at` words; answers how many there are then.
+fn put_unit(values: &[u8], x: u16, out: &mut [u16], at: usize) -> usize
+    requires { (length values.now ≤ 780) × SetIn values.now x × (at + 2 ≤ length out.old) }
+    ensures { PutUnit values.now x out.old at out.new result }
+{
+    let unit = [1, right_literal(values, x)];
+    put_words(&unit, out, at)
 }
 
 // Puts a clause of its right literal for each of the variables; answers how many words there are.
@@ -58,11 +55,8 @@ fn put_units(values: &[u8], variables: &[u16], out: &mut [u16]) -> usize
     ensures { (result ≡ 2 * length variables.now) × Written out.new result (units values.now variables.now) }
 {
     let mut at: usize = 0;
-    let mut i: usize = 0;
-    'variables: while i < variables.len() {
-        let unit = [1u16, right_literal(values, variables[i])];
-        i += 1;
-        at = put_words(&unit, out, at);
+    'variables: for x in variables {
+        at = put_unit(values, *x, out, at);
     }
     at
 }
@@ -74,75 +68,66 @@ fn put_set(values: &[u8], out: &mut [u16]) -> usize
     ensures { (result ≤ 2 * length values.now) × Written out.new result (units values.now (variables_set values.now)) }
 {
     let mut at: usize = 0;
-    let mut x: usize = 0;
-    'variables: while x < values.len() {
-        if values[x] == 2 {
-            x += 1;
-            continue 'variables;
+    'variables: for x in 0..values.len() {
+        if values[x] != 2 {
+            at = put_unit(values, x as u16, out, at);
         }
-        let unit = [1u16, right_literal(values, x as u16)];
-        x += 1;
-        at = put_words(&unit, out, at);
     }
     at
 }
 
+// Puts the clause that begins at `start` after the first `at` words, unless it holds; answers how many there are then, where there is room.
+fn put_open(list: &[u16], start: usize, values: &[u8], out: &mut [u16], at: usize) -> Option<usize>
+    requires stands { StandsAt list.now start × Formed (clauses_in list.now) (length values.now) }
+    requires room { at ≤ length out.old }
+    ensures { IfSome result (λ k. (k ≤ length out.new) × PutOpen values.now (clause_at list.now start) out.old at out.new k) }
+{
+    let first = start + 1;
+    let end = first + usize::from(list[start]);
+    if holds(&list[first..end], values) {
+        return Some(at);
+    }
+    if out.len() - at < end - start {
+        return None;
+    }
+    Some(put_words(&list[start..end], out, at))
+}
+
 // What is left of the clauses at the places, where there is room: the variables that are set, and the clauses that do not hold. Answers how many words
-// that is, or more than there is room for.
+// that is.
 pub fn simplify(
     list: &[u16],
     places: &[u16],
     values: &[u8],
     variables: &[u16],
     out: &mut [u16],
-) -> usize
+) -> Option<usize>
     requires { Lightens list.now values.now variables.now places.now }
-    ensures { result ≤ length out.old → Written out.new result (lightened values.now variables.now (clauses_at list.now places.now)) }
+    ensures { IfSome result (λ k. (k ≤ length out.new) × Written out.new k (lightened values.now variables.now (clauses_at list.now places.now))) }
 {
-    let none = out.len() + 1;
     if out.len() / 2 < variables.len() {
-        return none;
+        return None;
     }
     let mut at = put_units(values, variables, out);
-    let mut i: usize = 0;
-    'places: while i < places.len() {
-        let start = wide(places[i]);
-        i += 1;
-        let first = start + 1;
-        let end = first + wide(list[start]);
-        if holds(&list[first..end], values) {
-            continue 'places;
-        }
-        if out.len() - at < end - start {
-            return none;
-        }
-        at = put_words(&list[start..end], out, at);
+    'places: for place in places {
+        at = put_open(list, usize::from(*place), values, out, at)?;
     }
-    at
+    Some(at)
 }
 
 // The same of all clauses of the list, which is walked over, and all variables that are set.
-pub fn simplify_all(list: &[u16], values: &[u8], out: &mut [u16]) -> usize
+pub fn simplify_all(list: &[u16], values: &[u8], out: &mut [u16]) -> Option<usize>
     requires { LightensAll list.now values.now }
-    ensures { result ≤ length out.old → Written out.new result (lightened values.now (variables_set values.now) (clauses_in list.now)) }
+    ensures { IfSome result (λ k. (k ≤ length out.new) × Written out.new k (lightened values.now (variables_set values.now) (clauses_in list.now))) }
 {
-    let none = out.len() + 1;
     if out.len() / 2 < values.len() {
-        return none;
+        return None;
     }
     let mut at = put_set(values, out);
-    let mut end: usize = 0;
-    'clauses: while end < list.len() {
-        let start = end;
-        let literals = start + 1;
-        end = literals + wide(list[start]);
-        if holds(&list[literals..end], values) {
-            continue 'clauses;
-        }
-        if out.len() - at < end - start {
-            return none;
-        }
-        at = put_words(&list[start..end], out, at);
+    let mut start: usize = 0;
+    'clauses: while start < list.len() {
+        at = put_open(list, start, values, out, at)?;
+        start = start + 1 + usize::from(list[start]);
     }
-    at
+    Some(at)
 }

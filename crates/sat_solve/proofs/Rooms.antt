@@ -1,15 +1,14 @@
 -- Laws for the room of the search: a list at rest has no empty clause, so half as many words as it has serve for its clauses. Assumes nothing.
-use mathlib.Core.Path.{◌≡◌, refl, sym, ap, ◌∙◌}
-use mathlib.Core.Logic.{◌⊎◌, inl, inr}
+use mathlib.Core.Path.{◌≡◌, refl, ap, ◌∙◌}
 use mathlib.Core.Bool.{true}
 use mathlib.Core.List.Memᴰ
 use mathlib.Core.List.Memᴰ.{not-nil}
-use mathlib.Core.List.{List, [], ◌∷◌, ◌++◌, Memᴰ}
-use Prim.Native.Nat.{ℕ, suc, ◌+◌, ◌*◌, ◌≤◌, ◌<◌}
+use mathlib.Core.List.{List, [], ◌∷◌, Memᴰ}
+use Prim.Native.Nat.{ℕ, ◌*◌, ◌≤◌, ◌<◌}
 use native.Mathlib.Omega.{arith}
-use lib.ListN.{length, get_or, take, length-append}
+use lib.ListN.{length, take, length-append}
 use lib.Seq.{get_or-take, length-take-le}
-use Rattle.lists.specs.Lists.{filter, concat_map}
+use Rattle.lists.specs.Lists.{filter}
 use Rattle.cnf.specs.Clauses.{clauses_in, whole, words_of}
 use Rattle.cnf.specs.Closing.{Formed, Settled, holds, waits}
 use Rattle.cnf.proofs.Words.{words_clauses}
@@ -17,7 +16,6 @@ use Rattle.pairs.specs.Triangles.{triangles}
 use Rattle.sat_trail.specs.Conclusions.{with_triangles}
 use Rattle.sat_counters.specs.Counters.{Indexed, CountersOf}
 use Rattle.sat_occurrences.specs.Occurrences.{Listed, IndexRoom}
-use Rattle.sat_propagate.specs.Indexed.{Room}
 use Rattle.sat_decide.specs.Turns.{Rested}
 use Rattle.sat_segments.specs.Segments.{Marked}
 use Rattle.sat_propagate.specs.Preparing.{Prepared}
@@ -38,7 +36,7 @@ settled_some v (l ∷ c) s = omega arith
 
 -- clauses with literals are at most half as many as their words
 half_many : (cs : List (List ℕ)) → ((c : List ℕ) → Memᴰ c cs → 0 < length c) → 2 * length cs ≤ length (words_of cs)
-unfolding words_of concat_map
+unfolding words_of
 half_many [] h = omega arith
 half_many (c ∷ cs) h = omega (arith, h c (Memᴰ.head refl), half_many cs (λ d m. h d (Memᴰ.tail m)), length-append (length c ∷ c) (words_of cs))
 

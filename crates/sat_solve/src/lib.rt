@@ -1,12 +1,12 @@
 // The search over clauses that fit: a first pass, then the turns over what it leaves of the list.
 #![tactic(auto)]
 
-ghost use Rattle.std.specs.Prelude.{◌≡◌, true, ◌≤◌, ◌<◌, length};
+ghost use Rattle.std.specs.Prelude.{◌≡◌, true, ◌*◌, ◌≤◌, ◌<◌, length};
 ghost use Rattle.cnf.specs.Clauses.{whole};
 ghost use Rattle.cnf.specs.Trials.{not_false, search_tried};
 ghost use Rattle.pairs.specs.Entries.{PairTable};
 ghost use Rattle.sat_trail.specs.Conclusions.{with_triangles};
-ghost use Rattle.sat_trail.specs.Rows.{Rows};
+ghost use Rattle.sat_trail.specs.Rows.{RowsOf};
 ghost use Rattle.sat_solve.specs.Room.{WordRoom};
 ghost use Rattle.sat_solve.specs.Worth.{worth_lightening};
 ghost use Rattle.sat_decide.specs.Turns.{none_set, Fresh, Begun, Rested, EndsWith};
@@ -20,7 +20,7 @@ use sat_scan::scan_clauses;
 use sat_search::{places, turns};
 use sat_segments::mark;
 use sat_simplify::{simplify, simplify_all};
-use sat_trail::own_rows;
+use sat_trail::{StateRows, own_rows};
 use sat_trial::not_false;
 
 // How the search ends, and the ceiling: the variables that are not false at the first rest, where there is one.
@@ -48,14 +48,13 @@ fn turns_indexed(
     noted: &mut [u16],
     values: &mut [u8],
     trail: &mut [u16],
-    joined: &mut [u64; 40],
-    apart: &mut [u64; 40],
+    rows: &mut StateRows,
     budget: u64,
     start: usize,
 ) -> Ending
     requires list_value { (whole list.now ≡ true) × WordRoom list.now clauses.old words.old saved.old noted.old }
     requires rested { Rested (with_triangles list.now n) (length values.old) values.old trail.old start }
-    requires pair_table { PairTable table.now × Rows n values.old joined.old apart.old }
+    requires pair_table { PairTable table.now × RowsOf n values.old rows.old }
     ensures { EndsWith (search_tried (with_triangles list.now n) (length values.old) budget) result values.new (not_false values.old) }
 {
     let mut firsts = no_firsts();
@@ -76,34 +75,32 @@ fn turns_indexed(
         noted,
         values,
         trail,
-        joined,
-        apart,
+        rows,
         budget,
         start,
     )
 }
 
-// The same in room for a short list, which takes less time to clear.
-fn turns_short(
+// The same in room for a list of so many words: with half as many counters, since at rest each clause has two words at least.
+fn turns_sized<const WORDS: usize, const COUNTERS: usize>(
     list: &[u16],
     n: u8,
     table: &[u16],
     values: &mut [u8],
     trail: &mut [u16],
-    joined: &mut [u64; 40],
-    apart: &mut [u64; 40],
+    rows: &mut StateRows,
     budget: u64,
     start: usize,
 ) -> Ending
-    requires list_value { (whole list.now ≡ true) × (length list.now ≤ 4096) }
+    requires list_value { (whole list.now ≡ true) × (length list.now ≤ WORDS) × (WORDS ≤ 32768) × (WORDS ≤ 2 * COUNTERS) × (COUNTERS ≤ 32768) }
     requires rested { Rested (with_triangles list.now n) (length values.old) values.old trail.old start }
-    requires pair_table { PairTable table.now × Rows n values.old joined.old apart.old }
+    requires pair_table { PairTable table.now × RowsOf n values.old rows.old }
     ensures { EndsWith (search_tried (with_triangles list.now n) (length values.old) budget) result values.new (not_false values.old) }
 {
-    let mut clauses = [0u16; 4096];
-    let mut words = [0u32; 2048];
-    let mut saved = [0u32; 2048];
-    let mut noted = [0u16; 4096];
+    let mut clauses = [0u16; WORDS];
+    let mut words = [0u32; COUNTERS];
+    let mut saved = [0u32; COUNTERS];
+    let mut noted = [0u16; WORDS];
     turns_indexed(
         list,
         n,
@@ -114,46 +111,7 @@ fn turns_short(
         &mut noted,
         values,
         trail,
-        joined,
-        apart,
-        budget,
-        start,
-    )
-}
-
-// The same in room for a list of 32,768 words.
-fn turns_long(
-    list: &[u16],
-    n: u8,
-    table: &[u16],
-    values: &mut [u8],
-    trail: &mut [u16],
-    joined: &mut [u64; 40],
-    apart: &mut [u64; 40],
-    budget: u64,
-    start: usize,
-) -> Ending
-    requires list_value { (whole list.now ≡ true) × (length list.now ≤ 32768) }
-    requires rested { Rested (with_triangles list.now n) (length values.old) values.old trail.old start }
-    requires pair_table { PairTable table.now × Rows n values.old joined.old apart.old }
-    ensures { EndsWith (search_tried (with_triangles list.now n) (length values.old) budget) result values.new (not_false values.old) }
-{
-    let mut clauses = [0u16; 32768];
-    let mut words = [0u32; 16384];
-    let mut saved = [0u32; 16384];
-    let mut noted = [0u16; 32768];
-    turns_indexed(
-        list,
-        n,
-        table,
-        &mut clauses,
-        &mut words,
-        &mut saved,
-        &mut noted,
-        values,
-        trail,
-        joined,
-        apart,
+        rows,
         budget,
         start,
     )
@@ -166,14 +124,13 @@ fn turns_marked(
     table: &[u16],
     values: &mut [u8],
     trail: &mut [u16],
-    joined: &mut [u64; 40],
-    apart: &mut [u64; 40],
+    rows: &mut StateRows,
     budget: u64,
     start: usize,
 ) -> Ending
     requires list_value { (whole list.now ≡ true) × (0 < length list.now) }
     requires rested { Rested (with_triangles list.now n) (length values.old) values.old trail.old start }
-    requires pair_table { PairTable table.now × Rows n values.old joined.old apart.old }
+    requires pair_table { PairTable table.now × RowsOf n values.old rows.old }
     ensures { EndsWith (search_tried (with_triangles list.now n) (length values.old) budget) result values.new (not_false values.old) }
 {
     let firsts = no_firsts();
@@ -196,8 +153,7 @@ fn turns_marked(
         &mut noted,
         values,
         trail,
-        joined,
-        apart,
+        rows,
         budget,
         start,
     )
@@ -210,23 +166,22 @@ fn turns_any(
     table: &[u16],
     values: &mut [u8],
     trail: &mut [u16],
-    joined: &mut [u64; 40],
-    apart: &mut [u64; 40],
+    rows: &mut StateRows,
     budget: u64,
     start: usize,
 ) -> Ending
     requires list_value { whole list.now ≡ true }
     requires rested { Rested (with_triangles list.now n) (length values.old) values.old trail.old start }
-    requires pair_table { PairTable table.now × Rows n values.old joined.old apart.old }
+    requires pair_table { PairTable table.now × RowsOf n values.old rows.old }
     ensures { EndsWith (search_tried (with_triangles list.now n) (length values.old) budget) result values.new (not_false values.old) }
 {
     if list.len() <= 4096 {
-        return turns_short(list, n, table, values, trail, joined, apart, budget, start);
+        return turns_sized::<4096, 2048>(list, n, table, values, trail, rows, budget, start);
     }
     if list.len() <= 32768 {
-        return turns_long(list, n, table, values, trail, joined, apart, budget, start);
+        return turns_sized::<32768, 16384>(list, n, table, values, trail, rows, budget, start);
     }
-    turns_marked(list, n, table, values, trail, joined, apart, budget, start)
+    turns_marked(list, n, table, values, trail, rows, budget, start)
 }
 
 // Whether what is left of a list at rest is looked for: where it is too long to be indexed, or not short and half of the variables are set.
@@ -249,35 +204,23 @@ fn turns_left(
     table: &[u16],
     values: &mut [u8],
     trail: &mut [u16],
-    joined: &mut [u64; 40],
-    apart: &mut [u64; 40],
+    rows: &mut StateRows,
     budget: u64,
     start: usize,
 ) -> Ending
     requires list_value { whole list.now ≡ true }
     requires rested { Rested (with_triangles list.now n) (length values.old) values.old trail.old start }
-    requires pair_table { PairTable table.now × Rows n values.old joined.old apart.old }
+    requires pair_table { PairTable table.now × RowsOf n values.old rows.old }
     ensures { EndsWith (search_tried (with_triangles list.now n) (length values.old) budget) result values.new (not_false values.old) }
 {
     if !worth_simplifying(list.len(), start, values.len()) {
-        return turns_any(list, n, table, values, trail, joined, apart, budget, start);
+        return turns_any(list, n, table, values, trail, rows, budget, start);
     }
     let mut rest = [0u16; 32768];
-    let k = simplify_all(list, values, &mut rest);
-    if k <= 32768 {
-        return turns_any(
-            &rest[..k],
-            n,
-            table,
-            values,
-            trail,
-            joined,
-            apart,
-            budget,
-            start,
-        );
+    if let Some(k) = simplify_all(list, values, &mut rest) {
+        return turns_any(&rest[..k], n, table, values, trail, rows, budget, start);
     }
-    turns_any(list, n, table, values, trail, joined, apart, budget, start)
+    turns_any(list, n, table, values, trail, rows, budget, start)
 }
 
 // Closes the values by passes, and counts the ceiling; where a guess is due, goes on by turns. The first `start` variables of the trail are set.
@@ -287,31 +230,29 @@ fn finish(
     table: &[u16],
     values: &mut [u8],
     trail: &mut [u16],
-    joined: &mut [u64; 40],
-    apart: &mut [u64; 40],
+    rows: &mut StateRows,
     budget: u64,
     start: usize,
 ) -> End
     requires begun { Begun list.now n values.old trail.old start }
-    requires pair_table { PairTable table.now × Rows n values.old joined.old apart.old }
+    requires pair_table { PairTable table.now × RowsOf n values.old rows.old }
     ensures { EndsWith (search_tried (with_triangles list.now n) (length values.old) budget) result.ending values.new result.ceiling }
 {
-    let r = propagate_passes(list, n, table, values, trail, joined, apart, 0, start);
-    if r.broken {
+    let reached = propagate_passes(list, n, table, values, trail, rows, 0, start);
+    let Ok(rested) = reached else {
         return End {
             ending: Ending::Absent(0),
             ceiling: 0,
         };
-    }
+    };
     let ceiling = not_false(values);
-    if r.count == values.len() {
+    if rested == values.len() {
         return End {
             ending: Ending::Found(0),
             ceiling,
         };
     }
-    let rested = r.count;
-    let ending = turns_left(list, n, table, values, trail, joined, apart, budget, rested);
+    let ending = turns_left(list, n, table, values, trail, rows, budget, rested);
     End { ending, ceiling }
 }
 
@@ -322,41 +263,29 @@ fn solve_scanned(
     table: &[u16],
     values: &mut [u8],
     trail: &mut [u16],
-    joined: &mut [u64; 40],
-    apart: &mut [u64; 40],
+    rows: &mut StateRows,
     budget: u64,
 ) -> End
     requires fresh { Fresh list.now n values.old × (length list.now ≤ 65536) × (length trail.old ≡ 780) }
-    requires pair_table { PairTable table.now × Rows n values.old joined.old apart.old }
+    requires pair_table { PairTable table.now × RowsOf n values.old rows.old }
     ensures { EndsWith (search_tried (with_triangles list.now n) (length values.old) budget) result.ending values.new result.ceiling }
 {
     let mut left = [0u16; 4096];
-    let s = scan_clauses(list, n, table, values, trail, joined, apart, 0, &mut left);
-    if s.broken {
+    let scanned = scan_clauses(list, n, table, values, trail, rows, 0, &mut left);
+    let Ok(s) = scanned else {
         return End {
             ending: Ending::Absent(0),
             ceiling: 0,
         };
-    }
+    };
     let start = s.count;
     if s.kept <= 4096 {
         let mut rest = [0u16; 4096];
-        let k = simplify(list, &left[..s.kept], values, &trail[..start], &mut rest);
-        if k <= 4096 {
-            return finish(
-                &rest[..k],
-                n,
-                table,
-                values,
-                trail,
-                joined,
-                apart,
-                budget,
-                start,
-            );
+        if let Some(k) = simplify(list, &left[..s.kept], values, &trail[..start], &mut rest) {
+            return finish(&rest[..k], n, table, values, trail, rows, budget, start);
         }
     }
-    finish(list, n, table, values, trail, joined, apart, budget, start)
+    finish(list, n, table, values, trail, rows, budget, start)
 }
 
 // The search over clauses that fit. Group 2 of n states is not in the list: its conclusions are drawn from the words of joined and apart states.
@@ -366,30 +295,13 @@ pub fn solve(list: &[u16], n: u8, values: &mut [u8], budget: u64) -> End
     ensures { EndsWith (search_tried (with_triangles list.now n) (length values.old) budget) result.ending values.new result.ceiling }
 {
     let table = pair_table();
-    let mut joined = own_rows();
-    let mut apart = [0u64; 40];
+    let mut rows = StateRows {
+        joined: own_rows(),
+        apart: [0u64; 40],
+    };
     let mut trail = places();
     if list.len() <= 65536 {
-        return solve_scanned(
-            list,
-            n,
-            &table,
-            values,
-            &mut trail,
-            &mut joined,
-            &mut apart,
-            budget,
-        );
+        return solve_scanned(list, n, &table, values, &mut trail, &mut rows, budget);
     }
-    finish(
-        list,
-        n,
-        &table,
-        values,
-        &mut trail,
-        &mut joined,
-        &mut apart,
-        budget,
-        0,
-    )
+    finish(list, n, &table, values, &mut trail, &mut rows, budget, 0)
 }

@@ -84,12 +84,12 @@ pub record OwnTo (f : List ℕ) (p : ℕ) : Type 0 where
   pub alone : (i : ℕ) → i < p → get_or f i 0 ≡ 2 ^ i
 
 module _ {f : List ℕ} {p : ℕ} (h : OwnTo f p) where
-  pub own_on : {i w : ℕ} → p < 40 → i ≡ p → w ≡ 2 ^ p → OwnTo (set f i w) (p + 1)
-  own_on {i} {w} l e z = record { long = length-set f i w ∙ h.long; most = omega arith; alone = λ j k. go j k (ℕ_discrete j i) }
+  pub own_on : {w : ℕ} → p < 40 → w ≡ 2 ^ p → OwnTo (set f p w) (p + 1)
+  own_on {w} l z = record { long = length-set f p w ∙ h.long; most = omega arith; alone = λ j k. go j k (ℕ_discrete j p) }
     where
-      go : (j : ℕ) → j < p + 1 → Dec (j ≡ i) → get_or (set f i w) j 0 ≡ 2 ^ j
-      go j k (yes y) = ap (λ (m : ℕ). get_or (set f i w) m 0) y ∙ get_or-set_same f i w 0 (omega (arith, h.long)) ∙ z ∙ ap (λ (m : ℕ). 2 ^ m) (sym e ∙ sym y)
-      go j k (no y) = get_or-set_other f i j w 0 y ∙ h.alone j (omega arith)
+      go : (j : ℕ) → j < p + 1 → Dec (j ≡ p) → get_or (set f p w) j 0 ≡ 2 ^ j
+      go j k (yes y) = ap (λ (m : ℕ). get_or (set f p w) m 0) y ∙ get_or-set_same f p w 0 (omega (arith, h.long)) ∙ z ∙ ap (λ (m : ℕ). 2 ^ m) (sym y)
+      go j k (no y) = get_or-set_other f p j w 0 y ∙ h.alone j (omega arith)
 
   pub own_end : 40 ≤ p → Own f
   own_end l = record { long = h.long; alone = λ i k. h.alone i (omega (arith, l)) }

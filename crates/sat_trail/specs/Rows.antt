@@ -4,6 +4,7 @@ use Rattle.std.specs.Int.Bits.{bit_and, bit_or, bit_xor}
 use Rattle.lists.specs.Bits.{Bit}
 use Rattle.cnf.specs.Clauses.{value_of}
 use Rattle.pairs.specs.Pairs.{pairs, variable_of}
+use Rattle.sat_trail.specs.declared.rows.StateRows.{StateRows}
 
 -- s is p, or joined to it
 pub data IsJoined (n : ℕ) (v : List ℕ) (p s : ℕ) : Type 0 where
@@ -25,6 +26,10 @@ pub record Rows (n : ℕ) (v joined apart : List ℕ) : Type 0 where
   pub of_joined : (p s : ℕ) → p < n → IsJoined n v p s → Bit (get_or joined p 0) s
   pub apart_of : (p s : ℕ) → p < n → Bit (get_or apart p 0) s → IsApart n v p s
   pub of_apart : (p s : ℕ) → p < n → IsApart n v p s → Bit (get_or apart p 0) s
+
+-- the same of the words that the code holds
+abbrev pub RowsOf : ℕ → List ℕ → StateRows → Type 0
+RowsOf n v r = Rows n v r.joined r.apart
 
 -- the words of a start: each state's has that state alone
 pub record Own (f : List ℕ) : Type 0 where

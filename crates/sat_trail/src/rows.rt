@@ -4,15 +4,15 @@ ghost use Rattle.std.specs.Prelude.{◌≡◌, ◌-◌, ◌/◌, ◌%◌, ◌^�
 ghost use Rattle.pairs.specs.Entries.{PairTable};
 ghost use Rattle.sat_trail.specs.Rows.{Own, without, gain, marked, lose, unmarked, Marked, Put, Settable, Assigned, Forced};
 
-use super::{wanted, wide};
+use super::wanted;
+use bits::bit;
 use pairs::pair_of;
 
-// The word whose only state is x.
-fn bit(x: u8) -> u64
-    requires { x < 64 }
-    ensures { result ≡ 2 ^ x }
-{
-    1u64 << x
+// For each state the word of the states joined to it, itself among them, and that of those apart from it.
+#[derive(Clone, Copy)]
+pub struct StateRows {
+    pub joined: [u64; 40],
+    pub apart: [u64; 40],
 }
 
 // What the first word has and the second has not.
@@ -27,7 +27,7 @@ pub fn lacking(a: &[u64; 40], p: u8, b: &[u64; 40], q: u8) -> u64
     requires { (p < 40) × (q < 40) }
     ensures { result ≡ without (get_or a.now p 0) (get_or b.now q 0) }
 {
-    without(a[bits::wide(p)], b[bits::wide(q)])
+    without(a[usize::from(p)], b[usize::from(q)])
 }
 
 // Each state's word has that state alone: nothing is joined yet.
@@ -35,10 +35,8 @@ pub fn own_rows() -> [u64; 40]
     ensures { Own result }
 {
     let mut words = [0u64; 40];
-    let mut p: u8 = 0;
-    'states: while p < 40 {
-        words[bits::wide(p)] = bit(p);
-        p += 1;
+    'states: for p in 0..40 {
+        words[p] = bit(p);
     }
     words
 }
@@ -48,8 +46,8 @@ fn gain(words: &mut [u64; 40], p: u8, q: u8)
     requires { (p < 40) × (q < 40) }
     ensures { words.new ≡ gain words.old p q }
 {
-    let i = bits::wide(p);
-    words[i] = words[i] | bit(q);
+    let i = usize::from(p);
+    words[i] |= bit(usize::from(q));
 }
 
 // And p the word of q.
@@ -66,8 +64,8 @@ fn lose(words: &mut [u64; 40], p: u8, q: u8)
     requires { (p < 40) × (q < 40) }
     ensures { words.new ≡ lose words.old p q }
 {
-    let i = bits::wide(p);
-    words[i] = without(words[i], bit(q));
+    let i = usize::from(p);
+    words[i] = without(words[i], bit(usize::from(q)));
 }
 
 // And p the word of q.
@@ -80,15 +78,15 @@ pub fn unmark(words: &mut [u64; 40], p: u8, q: u8)
 }
 
 // Marks a pair by its value: among the joined, or among the apart.
-fn mark_pair(joined: &mut [u64; 40], apart: &mut [u64; 40], k: u8, p: u8, q: u8)
+fn mark_pair(rows: &mut StateRows, k: u8, p: u8, q: u8)
     requires { (p < 40) × (q < 40) }
-    ensures { Marked joined.old apart.old k p q joined.new apart.new }
+    ensures { Marked rows.old.joined rows.old.apart k p q rows.new.joined rows.new.apart }
 {
     if k == 1 {
-        mark(joined, p, q);
+        mark(&mut rows.joined, p, q);
         return;
     }
-    mark(apart, p, q);
+    mark(&mut rows.apart, p, q);
 }
 
 // Sets the variable x, which is the pair of p and q, and puts it after the first `count` of the trail. Answers how many the trail has then.
@@ -99,39 +97,30 @@ pub fn put(
     k: u8,
     values: &mut [u8],
     trail: &mut [u16],
-    joined: &mut [u64; 40],
-    apart: &mut [u64; 40],
+    rows: &mut StateRows,
     count: usize,
 ) -> usize
     requires { (p < 40) × (q < 40) × (x < length values.old) × (count < length trail.old) }
-    ensures { Put values.old trail.old joined.old apart.old count x p q k values.new trail.new
-        joined.new apart.new result }
+    ensures { Put values.old trail.old rows.old.joined rows.old.apart count x p q k values.new trail.new
+        rows.new.joined rows.new.apart result }
 {
-    values[wide(x)] = k;
+    values[usize::from(x)] = k;
     trail[count] = x;
-    mark_pair(joined, apart, k, p, q);
+    mark_pair(rows, k, p, q);
     count + 1
 }
 
 // Gives an unset variable a value.
-pub fn assign(
-    n: u8,
-    table: &[u16],
-    x: u16,
-    k: u8,
-    values: &mut [u8],
-    joined: &mut [u64; 40],
-    apart: &mut [u64; 40],
-)
-    requires { PairTable table.now × Settable n values.old joined.old apart.old x k }
-    ensures { Assigned n values.old x k values.new joined.new apart.new }
+pub fn assign(n: u8, table: &[u16], x: u16, k: u8, values: &mut [u8], rows: &mut StateRows)
+    requires { PairTable table.now × Settable n values.old rows.old.joined rows.old.apart x k }
+    ensures { Assigned n values.old x k values.new rows.new.joined rows.new.apart }
 {
-    values[wide(x)] = k;
+    values[usize::from(x)] = k;
     if n == 0 {
         return;
     }
     let pair = pair_of(table, x);
-    mark_pair(joined, apart, k, pair.low, pair.high);
+    mark_pair(rows, k, pair.low, pair.high);
 }
 
 // Makes a literal true whose variable is unset, and puts the variable after the first `count` of the trail. Answers how many the trail has then.
@@ -141,16 +130,15 @@ pub fn force(
     l: u16,
     values: &mut [u8],
     trail: &mut [u16],
-    joined: &mut [u64; 40],
-    apart: &mut [u64; 40],
+    rows: &mut StateRows,
     count: usize,
 ) -> usize
     requires pair_table { PairTable table.now }
-    requires settable { Settable n values.old joined.old apart.old (l / 2) (1 - l % 2) × (count < length trail.old) }
-    ensures { Forced n values.old trail.old count l values.new trail.new joined.new apart.new result }
+    requires settable { Settable n values.old rows.old.joined rows.old.apart (l / 2) (1 - l % 2) × (count < length trail.old) }
+    ensures { Forced n values.old trail.old count l values.new trail.new rows.new.joined rows.new.apart result }
 {
     let x = l / 2;
-    assign(n, table, x, wanted(l), values, joined, apart);
+    assign(n, table, x, wanted(l), values, rows);
     trail[count] = x;
     count + 1
 }

@@ -1,57 +1,38 @@
 -- Laws for trying the values against the clauses: the literals of a clause, the clauses of a list, what is held, and a count. Assumes nothing.
 use mathlib.Core.Path.{◌≡◌, refl, sym, ap, ◌∙◌}
-use mathlib.Core.Bool.{Bool, true, false}
-use mathlib.Core.List.{List, ◌∷◌, ◌++◌, append-nil}
-use Prim.Native.Nat.{ℕ, suc, ◌+◌, ◌-◌, ◌/◌, ◌%◌, ◌≤◌, ◌<◌}
+use mathlib.Core.Bool.{Bool, true, false, ◌&&◌}
+use Rattle.std.proofs.Common.{count_by, cond, not}
+use Rattle.std.proofs.lemmas.List.Sums.{sum_by-cons}
+use mathlib.Core.List.{List, [], ◌∷◌, ◌++◌, append-nil}
+use Prim.Native.Nat.{ℕ, suc, ◌+◌, ◌/◌, ◌%◌, ◌≤◌, ◌<◌}
 use native.Mathlib.Omega.{arith}
 use lib.ListN.{length, get_or, take, drop, set, length-replicate, get_or-replicate, drop_of_length-le}
 use lib.Seq.{drop-cons, get_or-append_seam, length-take-le}
 use lib.Dec.{eqb}
-use borrow.Author.Tests.{eqb-true, eqb-false, eq-eqb, ne_eqb}
-use Rattle.lists.specs.Lists.{any, all, filter, over}
-use Rattle.lists.proofs.Members.{get_d_any, get_d_map, one_on}
+use borrow.Author.Tests.{eqb-true, eqb-false}
+use Rattle.lists.specs.Lists.{any, filter, over}
+use Rattle.lists.proofs.Members.{get_d_any, get_d_map}
 use Rattle.lists.proofs.Copying.{Writing, writing, same_length, write_on, write_all}
-use Rattle.cnf.specs.Clauses.{value_of, clauses_in, whole}
+use Rattle.cnf.specs.Clauses.{value_of}
 use Rattle.cnf.specs.Search.{is_right}
 use Rattle.cnf.specs.Trials.{only_true, satisfied, not_false}
-use Rattle.cnf.specs.Closing.{Formed}
-use Rattle.cnf.proofs.Words.{clauses_nil}
 use Rattle.cnf.proofs.Trials.{length-only, only_one, only_zero}
-use Rattle.sat_literal.specs.Literals.{Over}
-use Rattle.sat_literal.specs.Literals.{clause_at}
 use Rattle.sat_trial.specs.Trial.{held_value, held_if}
-use Rattle.sat_literal.proofs.Walking.{Before, before-first, before-next, clause_in, at_clauses, clause-words}
 
 -- ---- how many are not false
 
-pub record Counting (v : List ℕ) (count i : ℕ) : Type 0 where
-  pub inside : i ≤ length v
-  pub few : count ≤ i
-  pub meets : count + not_false (drop i v) ≡ not_false v
+count_filter : (p : ℕ → Bool) (v : List ℕ) → count_by p v ≡ length (filter p v)
+unfolding filter
+count_filter p [] = refl
+count_filter p (y ∷ v) = sum_by-cons (λ x. cond (p x) 1 0) y v ∙ go (p y) (count_filter p v)
+  where
+    go : (b : Bool) → count_by p v ≡ length (filter p v) → cond b 1 0 + count_by p v ≡ length (elim b as (λ _. List ℕ) [ true ↦ y ∷ filter p v | false ↦ filter p v ])
+    go true ih = omega (arith, ih)
+    go false ih = omega (arith, ih)
 
-pub counting : (v : List ℕ) → Counting v 0 0
-counting v = record { inside = omega arith; few = omega arith; meets = omega arith }
-
-module _ {v : List ℕ} {count i : ℕ} (p : Counting v count i) where
-  module _ (h : i < length v) where
-    count_at : count + not_false (get_or v i 0 ∷ drop (i + 1) v) ≡ not_false v
-    count_at = ap (λ (u : List ℕ). count + not_false u) (sym (one_on v i h)) ∙ p.meets
-
-    pub count-false : get_or v i 0 ≡ 0 → Counting v count (i + 1)
-    count-false e = record { inside = omega arith; few = omega (arith, p.few); meets = ap (λ (k : ℕ). count + k) (sym past) ∙ count_at }
-      where
-        past : not_false (get_or v i 0 ∷ drop (i + 1) v) ≡ not_false (drop (i + 1) v)
-        past = unfold not_false filter in rw (eq-eqb (get_or v i 0) 0 e, filter)
-
-    pub count-more : (get_or v i 0 ≡ 0 → ⊥) → Counting v (count + 1) (i + 1)
-    count-more n = record { inside = omega arith; few = omega (arith, p.few); meets = omega (arith, one, count_at) }
-      where
-        one : not_false (get_or v i 0 ∷ drop (i + 1) v) ≡ suc (not_false (drop (i + 1) v))
-        one = unfold not_false filter in rw (ne_eqb (get_or v i 0) 0 n, filter)
-
-  pub count-all : length v ≤ i → count ≡ not_false v
-  unfolding not_false filter
-  count-all h = let none : not_false (drop i v) ≡ 0 = rw (drop_of_length-le v h, filter) in omega (arith, none, p.meets)
+pub count_not_false : (v : List ℕ) → count_by (λ y. not (eqb y 0)) v ≡ not_false v
+unfolding not_false
+count_not_false v = count_filter (λ y. not (eqb y 0)) v
 
 -- ---- a literal
 
@@ -73,60 +54,15 @@ module _ (v : List ℕ) (l : ℕ) {x : ℕ} (e : x ≡ l / 2) (h : x < length v)
   unfolding is_right
   literal-other n = let plain : l % 2 ≡ 0 + l % 2 = omega arith in rw (only_zero v (l / 2) (omega arith) (λ k. n (sym same_value ∙ k))) (ap (λ (k : ℕ). eqb k 1) plain)
 
--- ---- the literals of a clause
-
--- before the literal at i: whether one passes is whether one of those still to come does
-pub record Seeking (f : ℕ → Bool) (ls : List ℕ) (i : ℕ) : Type 0 where
-  pub inside : i ≤ length ls
-  pub meets : any f ls ≡ any f (drop i ls)
-
-pub seeking : (f : ℕ → Bool) (ls : List ℕ) → Seeking f ls 0
-seeking f ls = record { inside = omega arith; meets = refl }
-
-module _ {f : ℕ → Bool} {ls : List ℕ} {i : ℕ} (p : Seeking f ls i) where
-  pub seek_found : i < length ls → f (get_or ls i 0) ≡ true → true ≡ any f ls
-  unfolding any
-  seek_found h e = sym (p.meets ∙ rw (one_on ls i h, any, e))
-
-  pub seek_on : i < length ls → f (get_or ls i 0) ≡ false → Seeking f ls (i + 1)
-  unfolding any
-  seek_on h e = record { inside = omega arith; meets = p.meets ∙ rw (one_on ls i h, any, e) }
-
-  pub seek_none : length ls ≤ i → false ≡ any f ls
-  unfolding any
-  seek_none h = sym (p.meets ∙ rw (drop_of_length-le ls h, any))
-
 -- ---- the clauses of a list
 
--- before the clause at `at`: whether all hold is whether those still to come do
-pub record Trying (ws a : List ℕ) (at : ℕ) : Type 0 where
-  pub before : Before ws at
-  pub meets : satisfied (clauses_in ws) a ≡ satisfied (clauses_in (drop at ws)) a
+pub satisfied_on : (a c : List ℕ) (cs : List (List ℕ)) → satisfied (c ∷ cs) a ≡ (any (is_right a) c && satisfied cs a)
+unfolding satisfied
+satisfied_on a c cs = refl
 
-pub trying : (ws a : List ℕ) → whole ws ≡ true → Trying ws a 0
-trying ws a w = record { before = before-first w; meets = refl }
-
-module _ {ws a : List ℕ} {at : ℕ} (p : Trying ws a at) where
-  module _ (h : at < length ws) where
-    pub try_over : {n : ℕ} → Formed (clauses_in ws) n → Over (clause_at ws at) n
-    try_over f = f.below (clause_at ws at) (clause_in p.before h)
-
-    -- the clause as the code lends it, k words
-    module _ {k : ℕ} {r : Bool} (e : k ≡ get_or ws at 0) (q : r ≡ any (is_right a) (take (at + 1 + k - (at + 1)) (drop (at + 1) ws))) where
-      tried-clause : any (is_right a) (clause_at ws at) ≡ r
-      tried-clause = sym (q ∙ ap (any (is_right a)) (clause-words ws at e))
-
-      pub try_broken : r ≡ false → false ≡ satisfied (clauses_in ws) a
-      unfolding satisfied all
-      try_broken f = sym (p.meets ∙ rw (at_clauses p.before h, all, tried-clause ∙ f))
-
-      pub try_on : r ≡ true → Trying ws a (at + 1 + k)
-      unfolding satisfied all
-      try_on f = rw e (record { before = before-next p.before h; meets = p.meets ∙ rw (at_clauses p.before h, all, tried-clause ∙ f) })
-
-  pub try_all : length ws ≤ at → true ≡ satisfied (clauses_in ws) a
-  unfolding satisfied all
-  try_all h = sym (p.meets ∙ rw (drop_of_length-le ws h, clauses_nil, all))
+pub satisfied_none : (a : List ℕ) → true ≡ satisfied [] a
+unfolding satisfied
+satisfied_none a = refl
 
 -- ---- what is held
 

@@ -1,19 +1,19 @@
 -- Laws for seeing to clauses that have at most one literal left. Assumes nothing.
-use mathlib.Core.Path.{◌≡◌, refl, sym, ap, ◌∙◌}
-use mathlib.Core.Bool.{Bool, true, false, true≢false}
+use mathlib.Core.Path.{◌≡◌, ◌∙◌}
+use mathlib.Core.Bool.{true, false, true≢false}
 use mathlib.Core.List.{List, [], Memᴰ}
 use Prim.Native.Nat.{ℕ, ◌+◌, ◌-◌, ◌/◌, ◌%◌, ◌≤◌, ◌<◌}
 use native.Mathlib.Omega.{arith}
 use native.Mathlib.Decide.{ℕ_discrete}
 use lib.ListN.{length, get_or}
 use Rattle.lists.proofs.Members.{get_d_mem}
-use Rattle.cnf.specs.Clauses.{value_of, clauses_in}
-use Rattle.cnf.specs.Search.{is_right, is_unset, broken, forcing, quiet, seen}
+use Rattle.cnf.specs.Clauses.{clauses_in}
+use Rattle.cnf.specs.Search.{is_right, is_unset, broken, forcing, seen}
 use Rattle.cnf.specs.Closing.{◌⊑◌, SettledOr}
 use Rattle.cnf.proofs.Values.{⊑_trans}
 use Rattle.sat_trail.specs.Trail.{Ready, Worked}
 use Rattle.sat_trail.specs.Rows.{Rows, Settable, Forced}
-use Rattle.sat_trail.proofs.Working.{worked-none, worked-extends, worked_on, asked_below, asked_quiet, worked-broken, worked_store, store_keeps, store_own, can_force}
+use Rattle.sat_trail.proofs.Working.{worked-none, worked-extends, asked_below, asked_quiet, worked-broken, worked_store, store_keeps, store_own, can_force}
 use Rattle.sat_counters.specs.Counters.{numbered, weigh}
 use Rattle.sat_counters.proofs.Left.{none_left, one_left, one_right, one-unset, one-false}
 use Rattle.sat_units.specs.Units.{UnitsNoted, Heeded}

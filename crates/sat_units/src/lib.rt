@@ -4,13 +4,13 @@
 ghost use Rattle.std.specs.Prelude.{◌≤◌, length};
 ghost use Rattle.cnf.specs.Clauses.{clauses_in};
 ghost use Rattle.pairs.specs.Entries.{PairTable};
-ghost use Rattle.sat_trail.specs.Rows.{Rows};
+ghost use Rattle.sat_trail.specs.Rows.{RowsOf};
+ghost use Rattle.sat_trail.specs.Conflicts.{is_broken, set_count};
 ghost use Rattle.sat_trail.specs.Trail.{Ready};
 ghost use Rattle.sat_units.specs.Units.{UnitsNoted, Heeded};
 
-use equality_spread::Reached;
 use sat_literal::{is_true, is_unset};
-use sat_trail::{force, wide};
+use sat_trail::{Conflict, StateRows, force};
 
 // Sees to clauses that have at most one literal left, by their counters: one that is unset is forced, and without one the clause is broken.
 pub fn propagate_units(
@@ -21,43 +21,30 @@ pub fn propagate_units(
     noted: &[u16],
     values: &mut [u8],
     trail: &mut [u16],
-    joined: &mut [u64; 40],
-    apart: &mut [u64; 40],
+    rows: &mut StateRows,
     start: usize,
-) -> Reached
+) -> Result<usize, Conflict>
     requires ready { Ready (clauses_in list.now) values.old trail.old start × (length values.old ≤ 780) }
     requires units_noted { UnitsNoted list.now values.old counters.now noted.now }
-    requires pair_table { PairTable table.now × Rows n values.old joined.old apart.old }
-    ensures { Heeded list.now noted.now values.old trail.old start values.new trail.new result.broken
-        result.count
-        × Rows n values.new joined.new apart.new }
+    requires pair_table { PairTable table.now × RowsOf n values.old rows.old }
+    ensures { Heeded list.now noted.now values.old trail.old start values.new trail.new (is_broken result) (set_count result)
+        × RowsOf n values.new rows.new }
 {
     let mut count = start;
-    let mut k: usize = 0;
-    'noted: while k < noted.len() {
-        let w = counters[wide(noted[k])];
+    'noted: for c in noted {
+        let w = counters[usize::from(*c)];
         if w < 2048 {
-            return Reached {
-                broken: true,
-                count,
-            };
+            return Err(Conflict { count });
         }
         let m = (w - 2048) as u16;
-        k += 1;
         if is_true(values, m) {
             continue 'noted;
         }
         if is_unset(values, m) {
-            count = force(n, table, m, values, trail, joined, apart, count);
+            count = force(n, table, m, values, trail, rows, count);
             continue 'noted;
         }
-        return Reached {
-            broken: true,
-            count,
-        };
+        return Err(Conflict { count });
     }
-    Reached {
-        broken: false,
-        count,
-    }
+    Ok(count)
 }

@@ -1,5 +1,5 @@
 -- A read table's sections as they are handed on. Assumes nothing.
-use mathlib.Core.Path.{◌≡◌, refl, ap, ◌∙◌}
+use mathlib.Core.Path.{◌≡◌, refl, sym, ap, ◌∙◌}
 use mathlib.Core.Bool.{Bool, false}
 use mathlib.Core.List.{List, [], ◌∷◌}
 use mathlib.Core.Option.{Option, none, some}
@@ -10,6 +10,11 @@ use borrow.Author.Tests.{not-true}
 use Rattle.lists.specs.Lists.{first_failed}
 use Rattle.lists.proofs.Refusals.{passed}
 use Rattle.limits.specs.Limits.{symbol_most}
+use Rattle.refusals.specs.declared.Refusal.{Refusal}
+use Rattle.refusals.specs.declared.Refusal.TheVariants.{ScriptSymbol, OpenCalls}
+use Rattle.refusals.specs.Refusals.{number_of, tested}
+use Rattle.refusals.proofs.Numbers.{known_of, failed_known, none_known, was_ok, was_refused}
+use Rattle.std.specs.Prelude.{Ok, Err}
 use Rattle.limits.proofs.Within.{limits-within}
 use Rattle.table_spec.specs.File.{Table, table_of}
 use Rattle.table_spec.specs.declared.Starts.{Starts}
@@ -70,6 +75,14 @@ module _ (b : List ℕ) {s : Starts} (h : HasRead b s) {symbols states internals
   pub parts-read : (w : List ℕ) → sections_read symbols states internals calls returns w ≡ reads (table_of b) (started (table_of b)) w
   unfolding sections_read
   parts-read w = version-read 0 (table_of b).version symbols states internals calls returns w ∙ ap (λ t. reads t (started t) w) parts_table
+
+-- what the tests of a script give
+pub test_refused : (symbols w : List ℕ) {r : Refusal} → Err r ≡ tested (first_failed (script_tests symbols w)) → first_failed (script_tests symbols w) ≡ number_of r
+unfolding script_tests
+test_refused symbols w e = was_refused tt (failed_known _ _ (known_of ScriptSymbol) (failed_known _ _ (known_of OpenCalls) none_known)) (sym e)
+
+pub test_passed : (symbols w : List ℕ) {u : Unit {0}} → Ok u ≡ tested (first_failed (script_tests symbols w)) → first_failed (script_tests symbols w) ≡ 0
+test_passed symbols w e = (was_ok tt (sym e)).0
 
 -- neither 30 nor 31
 pub tests_fit : (symbols w : List ℕ) → first_failed (script_tests symbols w) ≡ 0 → Fits symbols w

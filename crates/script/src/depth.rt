@@ -1,25 +1,20 @@
 // What refuses a script on a table that was read: a symbol past the count, or too many open calls.
 ghost use Rattle.std.specs.Prelude.{◌≡◌, true, length, get_or};
 ghost use Rattle.lists.specs.Lists.{first_failed};
+ghost use Rattle.refusals.specs.Refusals.{tested};
 ghost use Rattle.script_spec.specs.Script.{symbols_fit, too_deep, script_tests};
 
-use bits::wide;
+use refusals::Refusal;
 
 // "up to 64 calls open"
 const OPEN: usize = 64;
 
 // 30: every symbol is below the count.
+#[tactic(auto, unfolding(script_spec::specs::Script::symbols_fit))]
 fn symbols_fit(symbols: &[u8], script: &[u8]) -> bool
     ensures { result ≡ symbols_fit (length symbols.now) script.now }
 {
-    let mut i: usize = 0;
-    'script: while i < script.len() {
-        if symbols.len() <= wide(script[i]) {
-            return false;
-        }
-        i += 1;
-    }
-    true
+    script.iter().all(|a| usize::from(*a) < symbols.len())
 }
 
 // 31: by the symbols' kinds alone.
@@ -28,10 +23,8 @@ fn too_deep(symbols: &[u8], script: &[u8]) -> bool
     ensures { result ≡ too_deep (λ a. get_or symbols.now a 0) 0 script.now }
 {
     let mut depth: usize = 0;
-    let mut i: usize = 0;
-    'script: while i < script.len() {
-        let kind = symbols[wide(script[i])];
-        i += 1;
+    'script: for a in script {
+        let kind = symbols[usize::from(*a)];
         if kind == 0 {
             continue 'script;
         }
@@ -50,15 +43,15 @@ fn too_deep(symbols: &[u8], script: &[u8]) -> bool
     false
 }
 
-// The first of 30 and 31 that applies, or 0.
-pub fn script_number(symbols: &[u8], script: &[u8]) -> u8
-    ensures { result ≡ first_failed (script_tests symbols.now script.now) }
+// 30 and 31: the first that applies is the refusal.
+pub fn test_script(symbols: &[u8], script: &[u8]) -> Result<(), Refusal>
+    ensures { result ≡ tested (first_failed (script_tests symbols.now script.now)) }
 {
     if !symbols_fit(symbols, script) {
-        return 30;
+        return Err(Refusal::ScriptSymbol);
     }
     if too_deep(symbols, script) {
-        return 31;
+        return Err(Refusal::OpenCalls);
     }
-    0
+    Ok(())
 }

@@ -11,17 +11,16 @@ ghost use Rattle.table_index.specs.Index.{LentParts};
 ghost use Rattle.script.specs.Parts.{Fits, sections_read};
 ghost use Rattle.script_spec.specs.Demands.{ScriptExact};
 
-use bits::wide;
 use limits::Limits;
+use refusals::Refusal;
 use script_levels::{ended, moved, returned};
-use script_spec::Read;
 use table_index::starts_of;
-use table_spec::{Reading, Starts};
+use table_spec::Starts;
 use table_view::Section;
 
 mod depth;
 
-use depth::script_number;
+use depth::test_script;
 
 // Yes or no, of a script that is not refused.
 fn reads(
@@ -43,11 +42,9 @@ fn reads(
     tops::start_words(states, &mut level);
     let mut levels = [[0u64; 40]; 64];
     let mut depth: usize = 0;
-    let mut i: usize = 0;
-    'script: while i < script.len() {
-        let a = wide(script[i]);
+    'script: for symbol in script {
+        let a = usize::from(*symbol);
         let kind = symbols[a];
-        i += 1;
         if kind == 0 {
             level = moved(internals, &moves, n, a, false, &level);
             continue 'script;
@@ -72,16 +69,13 @@ fn reads(
 }
 
 // The script on a table that was read: its sections are handed on as parts of the file.
-fn read_known(table: &[u8], starts: Starts, script: &[u8]) -> Read
+fn read_known(table: &[u8], starts: Starts, script: &[u8]) -> Result<bool, Refusal>
     requires { HasRead table.now starts }
     ensures { result ≡ answer_by (first_failed (script_tests (table_of table.now).symbols script.now)) (table_of table.now) script.now }
 {
     let symbols = table_view::part(table, starts, Section::Symbols);
-    let number = script_number(symbols, script);
-    if number != 0 {
-        return Read::Refused(number);
-    }
-    Read::Answer(reads(
+    test_script(symbols, script)?;
+    Ok(reads(
         symbols,
         table_view::part(table, starts, Section::States),
         table_view::part(table, starts, Section::Internals),
@@ -92,20 +86,17 @@ fn read_known(table: &[u8], starts: Starts, script: &[u8]) -> Read
 }
 
 // Reads a script on a table that is read at limits: yes or no, or the first refusal that applies.
-pub fn script_within(limits: Limits, table: &[u8], script: &[u8]) -> Read
+pub fn script_within(limits: Limits, table: &[u8], script: &[u8]) -> Result<bool, Refusal>
     ensures answers { result ≡ script_of limits table.now script.now }
     ensures number { ScriptSays limits table.now script.now result }
     ensures exact { ScriptExact table.now script.now result }
 {
-    let reading = read::read_within(limits, table);
-    match reading {
-        Reading::Sections(starts) => read_known(table, starts, script),
-        Reading::Refused(number) => Read::Refused(number),
-    }
+    let starts = read::read_within(limits, table)?;
+    read_known(table, starts, script)
 }
 
 // Reads a script, at the limits of a caller that gives none.
-pub fn script(table: &[u8], script: &[u8]) -> Read
+pub fn script(table: &[u8], script: &[u8]) -> Result<bool, Refusal>
     ensures answers { result ≡ script_of standard table.now script.now }
     ensures number { ScriptSays standard table.now script.now result }
     ensures exact { ScriptExact table.now script.now result }

@@ -1,14 +1,15 @@
 -- What is still to come at each turn of the loops over states and over the records of a state and a symbol. Assumes nothing.
-use mathlib.Core.Path.{◌≡◌, refl, sym, ap, ◌∙◌}
+use mathlib.Core.Path.{◌≡◌, refl, sym, ap, ◌∙◌, subst}
 use mathlib.Core.Logic.{◌≢◌, ◌⊎◌, inl, inr}
 use mathlib.Core.Bool.{Bool, true, false}
-use mathlib.Core.List.{List, []}
+use mathlib.Core.List.Memᴰ.{not-nil}
+use mathlib.Core.List.{List, [], ◌∷◌, ◌++◌, Memᴰ}
 use Prim.Native.Nat.{ℕ, zero, suc, ◌+◌, ◌*◌, ◌/◌, ◌%◌, ◌-◌, ◌^◌, ◌<◌, ◌≤◌}
 use native.Mathlib.Omega.{arith}
 use native.Mathlib.Numerals.{add-one}
-use native.Mathlib.Nat.{add-zero}
-use lib.ListN.{length, get_or, set, take, drop, drop_of_length-le, length-take}
-use lib.Seq.{drop-cons, slice, slice_empty, slice-cons, set-get_or}
+use native.Mathlib.Nat.{add-zero, add-mul, mul-le-mul_right, div-mul-le_self}
+use lib.ListN.{length, get_or, set, take, drop, drop_of_length-le}
+use lib.Seq.{drop-cons, slice, slice_empty, slice-cons, set-get_or, take-add, drop_at, length-take-le}
 use lib.Dec.{eqb}
 use lib.Bits.{bit_or, or_zero_r}
 use borrow.Author.Tests.{eq-eqb, ne_eqb}
@@ -16,10 +17,13 @@ use Rattle.lists.specs.Bits.{has_bit, has}
 use Rattle.lists.proofs.Bits.{no_bit}
 use Rattle.limits.specs.Limits.{state_most, symbol_most}
 use Rattle.table_spec.specs.File.{records}
+use Rattle.table_spec.proofs.Bytes.{length-records}
+use Rattle.table_spec.proofs.Chunks.{chunk_on, chunk_end}
+use Rattle.table_find.proofs.Spanning.{span-records}
 use Rattle.tops_spec.specs.Tops.{add}
 use Rattle.script_spec.specs.Script.{Level, gains, gained, gain, by_return}
 use Rattle.table_index.specs.Index.{Lent, place_of, places, Indexed}
-use Rattle.script_levels.specs.Levels.{all_gain, popped}
+use Rattle.script_levels.specs.Levels.{all_gain, popped, Few}
 use Rattle.table_index.proofs.Index.{symbol-small, state-small}
 use Rattle.table_index.proofs.Blocks.{begin_rising}
 
@@ -161,6 +165,44 @@ module _ {w n : ℕ} {s : List ℕ} (wide : 3 ≤ w) (few : n ≤ state_most) (h
                 (λ k b c. let i = there ((q + 1) * symbol_most) k (omega arith) c in inl (λ z. omega (arith, z, low (y + a + 1) k (omega arith) b i, high ((q + 1) * symbol_most) k (omega arith) c)));
           }
 
+-- ---- the part of a section between two places of the index
+
+mem-drop : {A : Type 0} {x : A} (k : ℕ) (xs : List A) → Memᴰ x (drop k xs) → Memᴰ x xs
+mem-drop zero xs m = m
+mem-drop (suc k) [] m = m
+mem-drop (suc k) (y ∷ xs) m = Memᴰ.tail (mem-drop k xs m)
+
+mem-take : {A : Type 0} {x : A} (k : ℕ) (xs : List A) → Memᴰ x (take k xs) → Memᴰ x xs
+mem-take zero xs m = absurd (not-nil m)
+mem-take (suc k) [] m = m
+mem-take (suc k) (y ∷ xs) (Memᴰ.head e) = Memᴰ.head e
+mem-take (suc k) (y ∷ xs) (Memᴰ.tail m) = Memᴰ.tail (mem-take k xs m)
+
+-- the two places of a state and a symbol
+pub block-there : {n : ℕ} {rs : List (List ℕ)} {starts : List ℕ} → Indexed n rs starts → {q a i j : ℕ} → q < n → a < symbol_most → i ≡ get_or starts (q * symbol_most + a) 0
+    → j ≡ get_or starts (q * symbol_most + a + 1) 0 → (i ≤ j) × (j ≤ length rs)
+block-there x {q} {a} l m d e =
+    (omega (arith, begin_rising x (q * symbol_most + a) (q * symbol_most + a + 1) (omega arith) (omega arith), d, e), omega (arith, (x.each (q * symbol_most + a + 1) (omega arith)).within, e))
+
+module _ (w : ℕ) (s : List ℕ) (i j : ℕ) (wide : 3 ≤ w) (le : i ≤ j) (h : j ≤ length (records w s)) where
+  pub part-records : records w (take (j * w - i * w) (drop (i * w) s)) ≡ slice i j (records w s)
+  part-records =
+      let m = j - i in
+      let l : j ≡ i + m = omega arith in
+      ap (λ v. records w (take (v * w - i * w) (drop (i * w) s))) l
+      ∙ ap (λ v. records w (take v (drop (i * w) s))) (omega (arith, add-mul i m w))
+      ∙ span-records w s i m (omega arith) (omega (arith, length-records w s))
+      ∙ sym (ap (λ v. slice i v (records w s)) l ∙ ap (drop i) (take-add i m (records w s)) ∙ drop_at (take i (records w s)) (take m (drop i (records w s))) i (length-take-le i (records w s) (omega arith)))
+
+  pub part-few : Lent w state_most s → Few w (take (j * w - i * w) (drop (i * w) s))
+  part-few o r m = o.states r (mem-take j (records w s) (mem-drop i (take j (records w s)) (rw part-records at m)))
+
+  pub part-gain : (rule : List ℕ → ℕ) (to : ℕ) (g : Level) {g' : Level} → g' ≡ all_gain rule to (records w (take (j * w - i * w) (drop (i * w) s))) g → g' ≡ all_gain rule to (slice i j (records w s)) g
+  part-gain rule to g e = e ∙ ap (λ rs. all_gain rule to rs g) part-records
+
+  pub part-ends : (i * w ≤ j * w) × (j * w ≤ length s)
+  part-ends = (mul-le-mul_right w le, omega (arith, mul-le-mul_right w h, ap (λ k. k * w) (length-records w s), div-mul-le_self (length s) w))
+
 -- ---- what the targets of a state gain
 
 by_word : ℕ → Bool → ℕ
@@ -192,22 +234,35 @@ module _ (f below : Level) {q reached : ℕ} (e : reached ≡ get_or f q 0) wher
   unfolding popped
   popped-none z r d = sym (popped-same r d) ∙ ap (λ x. popped x below r) z ∙ rw (no_state (get_or r 2 0), popped)
 
--- ---- the records of a run, those before index k passed
+-- ---- the records found: so many of them are left
 
-pub record Running (rule : List ℕ → ℕ) (to : ℕ) (rs : List (List ℕ)) (from end : ℕ) (before : Level) (k : ℕ) (g : Level) : Type 0 where
-  pub meets : all_gain rule to (slice from end rs) before ≡ all_gain rule to (slice k end rs) g
+module _ (rule : List ℕ → ℕ) (to w : ℕ) (found : List ℕ) (before : Level) where
+  pub record Running (rest : List ℕ) (g : Level) : Type 0 where
+    pub among : (r : List ℕ) → Memᴰ r (records w rest) → Memᴰ r (records w found)
+    pub meets : all_gain rule to (records w found) before ≡ all_gain rule to (records w rest) g
 
-pub running : (rule : List ℕ → ℕ) (to : ℕ) (rs : List (List ℕ)) (from end : ℕ) (g : Level) → Running rule to rs from end g from g
-running rule to rs from end g = record { meets = refl }
+  pub running : {rest : List ℕ} → rest ≡ found → Running rest before
+  running e = record { among = λ r m. subst (λ (v : List ℕ). Memᴰ r (records w v)) e m; meets = ap (λ v. all_gain rule to (records w v) before) (sym e) }
 
-module _ {rule : List ℕ → ℕ} {to : ℕ} {rs : List (List ℕ)} {from end : ℕ} {before : Level} {k : ℕ} {g : Level} (p : Running rule to rs from end before k g) where
-  pub run_on : k < end → end ≤ length rs → {h : Level} → h ≡ add g (get_or (get_or rs k []) to 0) (rule (get_or rs k [])) → Running rule to rs from end before (k + 1) h
+module _ {rule : List ℕ → ℕ} {to w : ℕ} {found : List ℕ} {before : Level} {rest : List ℕ} {g : Level} (p : Running rule to w found before rest g) where
+  module _ (x after : List ℕ) (some : 0 < w) (e : rest ≡ x ++ after) (h : length x ≡ w) where
+    taken : records w rest ≡ x ∷ records w after
+    taken = chunk_on rest x after some e h
+
+    -- a state of the record taken
+    pub run-few : Few w found → (i : ℕ) → i ≢ 1 → i < w → get_or x i 0 < state_most
+    run-few f = f x (p.among x (rw taken (Memᴰ.head refl)))
+
+    pub run_on : {h : Level} → h ≡ add g (get_or x to 0) (rule x) → Running rule to w found before after h
+    unfolding all_gain
+    run_on d = record {
+      among = λ r m. p.among r (rw taken (Memᴰ.tail m));
+      meets = p.meets ∙ ap (λ xs. all_gain rule to xs g) taken ∙ (λ j. all_gain rule to (records w after) (sym d j));
+    }
+
+  pub run_end : length rest < w → g ≡ all_gain rule to (records w found) before
   unfolding all_gain
-  run_on l m e = record { meets = p.meets ∙ ap (λ xs. all_gain rule to xs g) (slice-cons k end rs [] l m) ∙ (λ j. all_gain rule to (slice (sym (add-one k) j) end rs) (sym e j)) }
-
-  pub run_end : end ≤ k → g ≡ all_gain rule to (slice from end rs) before
-  unfolding all_gain
-  run_end l = sym (p.meets ∙ ap (λ xs. all_gain rule to xs g) (drop_of_length-le (take end rs) {i = k} (omega (arith, length-take end rs))))
+  run_end l = sym (p.meets ∙ ap (λ xs. all_gain rule to xs g) (chunk_end rest l))
 
 -- a return that finds its stack state among those reached, and one that does not
 module _ (reached : ℕ) (below : Level) (r : List ℕ) {b : Bool} {s : ℕ} (d : s ≡ get_or r 2 0) (e : b ≡ has_bit reached s) where

@@ -2,56 +2,34 @@
 #![tactic(auto)]
 
 ghost use Rattle.std.specs.Prelude.{◌≡◌, [], ◌≤◌, ◌<◌, length};
-ghost use Rattle.std.proofs.Math.Seq.{slice};
-ghost use Rattle.lists.specs.Bits.{has_bit};
 ghost use Rattle.table_spec.specs.File.{records};
 ghost use Rattle.table_view.specs.Sections.{sectioned};
 ghost use Rattle.script_spec.specs.Script.{gain, moved, returned, ended};
 ghost use Rattle.table_index.specs.Index.{Lent, Indexed};
-ghost use Rattle.script_levels.specs.Levels.{all_gain, popped};
+ghost use Rattle.script_levels.specs.Levels.{all_gain, popped, Few};
 
-use bits::wide;
-use table_index::place;
+use bits::{bit, has_bit};
 
-// Bit x of a word is 1.
-fn has_bit(word: u64, x: usize) -> bool
-    requires { x < 64 }
-    ensures { result ≡ has_bit word x }
+// The targets of the moves found gain the tops of w.
+fn gain_moves(found: &[u8], w: u64, words: &mut [u64; 40])
+    requires { Few 3 found.now }
+    ensures { words.new ≡ all_gain (λ r. w) 2 (records 3 found.now) words.old }
 {
-    (word >> x) % 2 == 1
-}
-
-// The targets of the moves from one index up to another gain the tops of w.
-fn gain_moves(section: &[u8], from: usize, to: usize, w: u64, words: &mut [u64; 40])
-    requires { Lent 3 40 section.now × (to ≤ length (records 3 section.now)) }
-    ensures { words.new ≡ all_gain (λ r. w) 2 (slice from to (records 3 section.now)) words.old }
-{
-    let mut k = from;
-    'records: while k < to {
-        tops::add(words, wide(section[k * 3 + 2]), w);
-        k += 1;
+    'records: for fields in found.chunks_exact(3) {
+        tops::add(words, usize::from(fields[2]), w);
     }
 }
 
-// The targets of the returns from one index up to another gain what the stack state has below, where it is one of the states in `reached`.
-fn gain_returns(
-    section: &[u8],
-    from: usize,
-    to: usize,
-    reached: u64,
-    below: &[u64; 40],
-    words: &mut [u64; 40],
-)
-    requires { Lent 4 40 section.now × (to ≤ length (records 4 section.now)) }
-    ensures { words.new ≡ all_gain (popped reached below.now) 3 (slice from to (records 4 section.now)) words.old }
+// The targets of the returns found gain what the stack state has below, where it is one of the states in `reached`.
+fn gain_returns(found: &[u8], reached: u64, below: &[u64; 40], words: &mut [u64; 40])
+    requires { Few 4 found.now }
+    ensures { words.new ≡ all_gain (popped reached below.now) 3 (records 4 found.now) words.old }
 {
-    let mut k = from;
-    'records: while k < to {
-        let s = wide(section[k * 4 + 2]);
+    'records: for fields in found.chunks_exact(4) {
+        let s = usize::from(fields[2]);
         if has_bit(reached, s) {
-            tops::add(words, wide(section[k * 4 + 3]), below[s]);
+            tops::add(words, usize::from(fields[3]), below[s]);
         }
-        k += 1;
     }
 }
 
@@ -67,7 +45,7 @@ fn gain(call: bool, level: &[u64; 40], q: usize) -> u64
     if word == 0 {
         return 0;
     }
-    1u64 << q
+    bit(q)
 }
 
 // The level after an internal or a call by symbol a: by the moves of each state that is reached.
@@ -83,20 +61,14 @@ pub fn moved(
     ensures { result ≡ moved (records 3 section.now) a call level.now }
 {
     let mut words = [0u64; 40];
-    let mut q: usize = 0;
-    'states: while q < n {
+    'states: for q in 0..n {
         let w = gain(call, level, q);
         if w != 0 {
             let at = q * 64 + a;
-            gain_moves(
-                section,
-                place(starts[at]),
-                place(starts[at + 1]),
-                w,
-                &mut words,
-            );
+            let from = usize::from(starts[at]) * 3;
+            let to = usize::from(starts[at + 1]) * 3;
+            gain_moves(&section[from..to], w, &mut words);
         }
-        q += 1;
     }
     words
 }
@@ -114,21 +86,14 @@ pub fn returned(
     ensures { result ≡ returned (records 4 section.now) a level.now below.now }
 {
     let mut words = [0u64; 40];
-    let mut q: usize = 0;
-    'states: while q < n {
+    'states: for q in 0..n {
         let reached = level[q];
         if reached != 0 {
             let at = q * 64 + a;
-            gain_returns(
-                section,
-                place(starts[at]),
-                place(starts[at + 1]),
-                reached,
-                below,
-                &mut words,
-            );
+            let from = usize::from(starts[at]) * 4;
+            let to = usize::from(starts[at + 1]) * 4;
+            gain_returns(&section[from..to], reached, below, &mut words);
         }
-        q += 1;
     }
     words
 }
@@ -138,14 +103,12 @@ pub fn ended(states: &[u8], level: &[u64; 40]) -> bool
     requires { length states.now ≤ 40 }
     ensures { result ≡ ended (sectioned 0 [] states.now [] [] []) (record { now = level.now; below = [] }) }
 {
-    let mut q: usize = 0;
-    'states: while q < states.len() {
-        if states[q] / 2 % 2 == 1 {
+    'states: for (q, state) in states.iter().enumerate() {
+        if *state / 2 % 2 == 1 {
             if has_bit(level[q], 40) {
                 return true;
             }
         }
-        q += 1;
     }
     false
 }

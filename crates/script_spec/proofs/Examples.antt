@@ -3,15 +3,16 @@ use mathlib.Core.Path.{◌≡◌, refl}
 use mathlib.Core.List.{List, [], ◌∷◌, ◌++◌}
 use Prim.Native.Nat.{ℕ}
 use lib.ListN.{replicate}
-use Rattle.lists.specs.Lists.{any, all, upto, parts, first_failed}
+use Rattle.lists.specs.Lists.{upto, parts, first_failed}
 use Rattle.lists.specs.Bits.{has_bit, has}
 use Rattle.limits.specs.Limits.{limits_fit, standard}
 use Rattle.vpa.specs.Automata.{open_behind}
+use Rattle.refusals.specs.Refusals.{every, first_with, refusal, number_in, values_in}
 use Rattle.table_spec.specs.Limits.{longest}
 use Rattle.table_spec.specs.File.{word16, trailer, distance, version, start, records, table_of}
 use Rattle.table_spec.specs.Reading.{length_fits, version_fits, distances_fit, counts_fit, state_byte_most, bytes_fit, is_initial, is_accepting, start_fits, record_fits, records_fit, before, ascend_from, ascend, order_fits, table_tests, read_number}
 use Rattle.tops_spec.specs.Tops.{add, start_words}
-use Rattle.script_spec.specs.Script.{gains, gained, gain, by_return, moved, returned, behind, ended, reads, started, symbols_fit, too_deep, script_tests, script_number, answer_by, script_of, read_number_of, read_values}
+use Rattle.script_spec.specs.Script.{gains, gained, gain, by_return, moved, returned, behind, ended, reads, started, symbols_fit, too_deep, script_tests, script_number, answer_by, script_of, yes_values}
 
 -- "Table T"
 T : List ℕ
@@ -23,7 +24,7 @@ two-below = 0 ∷ 1 ∷ 2 ∷ 3 ∷ 0 ∷ 0 ∷ 0 ∷ 0 ∷ 0 ∷ 0 ∷ 1 ∷ 1 
 
 -- the number, and 1 or 0 where it is 0
 answer : List ℕ → List ℕ → List ℕ
-answer b w = let r = script_of standard b w in read_number_of r ∷ read_values r
+answer b w = let r = script_of standard b w in number_in r ∷ values_in yes_values r
 
 examples :
     -- a country, with and without pans; a pan alone; nothing
@@ -66,5 +67,5 @@ examples :
     ∷ (30 ∷ [])
     ∷ (1 ∷ [])
     ∷ []
-unfolding T two-below answer any all upto parts first_failed has_bit has limits_fit open_behind longest word16 trailer distance version start records table_of length_fits version_fits distances_fit counts_fit state_byte_most bytes_fit is_initial is_accepting start_fits record_fits records_fit before ascend_from ascend order_fits table_tests read_number add start_words gains gained gain by_return moved returned behind ended reads started symbols_fit too_deep script_tests script_number answer_by script_of read_number_of read_values
+unfolding T two-below answer upto parts first_failed has_bit has limits_fit open_behind longest word16 trailer distance version start records table_of length_fits version_fits distances_fit counts_fit state_byte_most bytes_fit is_initial is_accepting start_fits record_fits records_fit before ascend_from ascend order_fits table_tests read_number add start_words gains gained gain by_return moved returned behind ended reads started symbols_fit too_deep script_tests script_number answer_by script_of every first_with refusal
 examples = refl

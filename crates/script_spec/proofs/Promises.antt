@@ -6,18 +6,22 @@ use Prim.Native.Nat.{ℕ}
 use native.Mathlib.Omega.{arith}
 use native.Mathlib.Decide.{ℕ_discrete}
 use lib.ListN.{get_or}
+use Rattle.std.specs.Prelude.{Result, Err}
 use Rattle.lists.specs.Lists.{first_failed}
-use Rattle.lists.proofs.Refusals.{says, said}
+use Rattle.lists.proofs.Refusals.{said}
 use Rattle.limits.specs.declared.Limits.{Limits}
+use Rattle.refusals.specs.declared.Refusal.{Refusal}
+use Rattle.refusals.specs.declared.Refusal.TheVariants.{ScriptSymbol, OpenCalls}
+use Rattle.refusals.specs.Refusals.{refusal, Known, values_in}
+use Rattle.refusals.proofs.Numbers.{known_of, failed_known, none_known, answered_says}
 use Rattle.table_spec.specs.File.{table_of}
 use Rattle.table_spec.specs.Reading.{Readable}
 use Rattle.table_spec.specs.Language.{SameWords}
+use Rattle.table_spec.proofs.Passed.{read-known}
 use Rattle.table_spec.proofs.Bytes.{read_well_formed}
-use Rattle.script_spec.specs.declared.Read.{Read}
-use Rattle.script_spec.specs.declared.Read.TheVariants.{Answer, Refused}
-use Rattle.script_spec.specs.Script.{reads, started, script_tests, script_number, answer_by, script_of, read_number_of, yes_value, read_values, ScriptSays}
+use Rattle.script_spec.specs.Script.{reads, started, script_tests, script_number, answer_by, script_of, yes_value, yes_values, ScriptSays}
 use Rattle.script_spec.specs.Demands.{ScriptExact, SameScripts}
-use Rattle.script_spec.proofs.Answers.{answered, refused, number-readable, script_read}
+use Rattle.script_spec.proofs.Answers.{told, refused-any, number-readable, script_read}
 use Rattle.script_spec.proofs.Meaning.{reads-exact}
 
 -- yes and no by their values
@@ -30,18 +34,22 @@ said_no true e = absurd (omega arith)
 said_no false e = refl
 
 module _ (L : Limits) (b w : List ℕ) where
+  script-known : Known (script_number L b w)
+  unfolding script_number script_tests
+  script-known = failed_known _ _ (read-known L b) (failed_known _ _ (known_of ScriptSymbol) (failed_known _ _ (known_of OpenCalls) none_known))
+
   numbered : ScriptSays L b w (script_of L b w)
-  unfolding script_of answer_by read_number_of read_values
-  numbered = says _ (Answer (reads (table_of b) (started (table_of b)) w)) (Refused (script_number L b w)) read_number_of read_values refl refl refl refl
+  unfolding script_of answer_by
+  numbered = answered_says (reads (table_of b) (started (table_of b)) w) yes_values script-known
 
   script_exact : ScriptExact b w (script_of L b w)
   script_exact e =
       let s = said numbered e in
       let h = reads-exact (read_well_formed L b (number-readable L b w s.0)) w in
-      let v : get_or (read_values (script_of L b w)) 0 0 ≡ yes_value (reads (table_of b) (started (table_of b)) w) = ap (λ vs. get_or vs 0 0) s.1 in
+      let v : get_or (values_in yes_values (script_of L b w)) 0 0 ≡ yes_value (reads (table_of b) (started (table_of b)) w) = ap (λ vs. get_or vs 0 0) s.1 in
       (λ y. h.0 (said_yes _ (sym v ∙ y)), λ k. v ∙ ap yes_value (h.1 k))
 
-  pub promised : {r : Read} → r ≡ script_of L b w → (r ≡ script_of L b w) × (ScriptSays L b w r × ScriptExact b w r)
+  pub promised : {r : Result Bool Refusal} → r ≡ script_of L b w → (r ≡ script_of L b w) × (ScriptSays L b w r × ScriptExact b w r)
   promised e = (e, subst (λ r. ScriptSays L b w r × ScriptExact b w r) (sym e) (numbered, script_exact))
 
 -- two tests that hold together are one
@@ -67,7 +75,7 @@ scripts-same L b c rb rc e s = record { each = one }
             one_truth _ _ (λ y. k.1 ((s.each w).0 (h.0 y))) (λ y. h.1 ((s.each w).1 (k.0 y)))
 
         go : Dec (first_failed (script_tests (table_of b).symbols w) ≡ 0) → script_of L b w ≡ script_of L c w
-        go (yes z) = sym (script_read L b w rb (answered _ (table_of b) w z refl)) ∙ script_read L c w rc (answered _ (table_of c) w (sym tests ∙ z) answers)
+        go (yes z) = sym (script_read L b w rb (told _ (table_of b) w z refl)) ∙ script_read L c w rc (told _ (table_of c) w (sym tests ∙ z) answers)
         go (no n) =
-            sym (script_read L b w rb (refused _ (table_of b) w n))
-            ∙ script_read L c w rc (subst (λ k. Refused k ≡ answer_by (first_failed (script_tests (table_of c).symbols w)) (table_of c) w) (sym tests) (refused _ (table_of c) w (λ z. n (tests ∙ z))))
+            sym (script_read L b w rb (refused-any _ (table_of b) w n))
+            ∙ script_read L c w rc (subst (λ k. Err (refusal k) ≡ answer_by (first_failed (script_tests (table_of c).symbols w)) (table_of c) w) (sym tests) (refused-any _ (table_of c) w (λ z. n (tests ∙ z))))

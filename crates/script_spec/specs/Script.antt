@@ -1,19 +1,19 @@
 -- Reading a script (document 02, request (i), with acceptance as (iv) has it). A script is read by levels, one for the empty stack and one for each
 -- open call: a level says which state is reached over which topmost stack state, and there are as many words of it as there may be states. What a
 -- level means is proved (proofs/Levels): some run reaches a state and a stack exactly when each neighbouring two are in their level. Assumes nothing.
-use Rattle.std.specs.Prelude.{Bool, true, false, ◌&&◌, not, List, [], ◌∷◌, ◌++◌, ℕ, zero, suc, ◌-◌, ◌^◌, length, get_or, replicate, eqb, leb, ltb}
+use Rattle.std.specs.Prelude.{Bool, true, false, ◌&&◌, not, Result, List, [], ◌∷◌, ◌++◌, ℕ, zero, suc, ◌-◌, ◌^◌, length, get_or, replicate, eqb, leb, ltb}
 use Rattle.std.proofs.Math.Option.{Option, none, some}
 use Rattle.lists.specs.Lists.{any, all, upto, first_failed, stage, Says}
 use Rattle.lists.specs.Bits.{has}
 use Rattle.limits.specs.declared.Limits.{Limits}
 use Rattle.limits.specs.Limits.{state_most}
+use Rattle.refusals.specs.declared.Refusal.{Refusal}
+use Rattle.refusals.specs.Refusals.{answered, number_in, values_in}
 use Rattle.vpa.specs.Automata.{open_behind}
 use Rattle.table_spec.specs.File.{Table, table_of}
 use Rattle.table_spec.specs.Reading.{is_accepting, read_number}
 use Rattle.table_spec.specs.Language.{count, byte_of, kind_of}
 use Rattle.tops_spec.specs.Tops.{add, start_words}
-use Rattle.script_spec.specs.declared.Read.{Read}
-use Rattle.script_spec.specs.declared.Read.TheVariants.{Answer, Refused}
 
 -- a level has a word for each possible state: bit s of word q is 1 where q is reached over s; bottom is numbered 40, as in tops
 abbrev pub Level : Type 0
@@ -97,26 +97,21 @@ unfoldable pub script_number : Limits → List ℕ → List ℕ → ℕ
 script_number L b w = first_failed (stage (read_number L b) ∷ script_tests (table_of b).symbols w)
 
 -- the answer whose number is k, 0 where nothing is refused
-unfoldable pub answer_by : ℕ → Table → List ℕ → Read
-answer_by k t w = elim (eqb k 0) [ true ↦ Answer (reads t (started t) w) | false ↦ Refused k ]
+unfoldable pub answer_by : ℕ → Table → List ℕ → Result Bool Refusal
+answer_by k t w = answered k (reads t (started t) w)
 
 -- the operation
-unfoldable pub script_of : Limits → List ℕ → List ℕ → Read
+unfoldable pub script_of : Limits → List ℕ → List ℕ → Result Bool Refusal
 script_of L b w = answer_by (script_number L b w) (table_of b) w
 
--- an answer's number, 0 where it is none, and its values: 1 yes, 0 no
-unfoldable pub read_number_of : Read → ℕ
-read_number_of (Answer b) = 0
-read_number_of (Refused k) = k
-
+-- an answer's value: 1 yes, 0 no
 abbrev pub yes_value : Bool → ℕ
 yes_value true = 1
 yes_value false = 0
 
-unfoldable pub read_values : Read → List ℕ
-read_values (Answer b) = yes_value b ∷ []
-read_values (Refused k) = []
+abbrev pub yes_values : Bool → List ℕ
+yes_values b = yes_value b ∷ []
 
 -- the answer by its number and its values
-abbrev pub ScriptSays : Limits → List ℕ → List ℕ → Read → Type 0
-ScriptSays L b w r = Says (read_number_of r) (read_values r) (script_number L b w) (yes_value (reads (table_of b) (started (table_of b)) w) ∷ [])
+abbrev pub ScriptSays : Limits → List ℕ → List ℕ → Result Bool Refusal → Type 0
+ScriptSays L b w r = Says (number_in r) (values_in yes_values r) (script_number L b w) (yes_value (reads (table_of b) (started (table_of b)) w) ∷ [])

@@ -1,20 +1,16 @@
 -- Laws for the operation: the outcome of the search, and the variables of the limits. Assumes nothing.
-use mathlib.Core.Path.{◌≡◌, refl, sym, ap, ◌∙◌}
-use mathlib.Core.Bool.{true}
-use mathlib.Core.List.{List, ◌∷◌, ◌++◌}
-use Prim.Native.Nat.{ℕ, zero, suc, ◌-◌, ◌*◌, ◌≤◌}
+use mathlib.Core.Path.{◌≡◌, sym, ap, ◌∙◌}
+use mathlib.Core.List.{List}
+use Prim.Native.Nat.{ℕ, ◌-◌, ◌*◌, ◌≤◌}
 use native.Mathlib.Nat.{mul-le-mul}
 use native.Mathlib.Omega.{arith}
-use lib.ListN.{length, take, drop, replicate, length-append, length-replicate}
-use lib.Seq.{take_at}
-use Rattle.cnf.specs.Clauses.{clauses_in, whole}
+use Rattle.cnf.specs.Clauses.{clauses_in}
 use Rattle.cnf.specs.Search.{solved, none_exists, spent, search_from}
 use Rattle.cnf.specs.Trials.{search_tried}
-use Rattle.cnf.specs.Closing.{Formed}
 use Rattle.sat_decide.specs.declared.Ending.{Ending}
 use Rattle.sat_decide.specs.declared.Ending.TheVariants.{Found, Absent, Spent}
 use Rattle.sat_trail.specs.Conclusions.{with_triangles}
-use Rattle.sat_decide.specs.Turns.{none_set, Fresh, EndsWith, outcome_of}
+use Rattle.sat_decide.specs.Turns.{EndsWith, outcome_of}
 use Rattle.equality_spread.proofs.Triangles.{with_none}
 use Rattle.sat_decide.proofs.Ends.{ends-outcome}
 

@@ -36,7 +36,7 @@ none_on [] = refl
 none_on (l ∷ ls) = none_on ls
 
 pub marked : (ls : List ℕ) {marks : List ℕ} {mark : ℕ} → MarksBelow marks mark → Marked ls marks mark (length ls)
-unfolding mem any
+unfolding mem
 marked ls {marks} {mark} b = record {
   below = record { long = b.long; lower = λ x h. omega (arith, b.lower x h) };
   met = λ x h. rw (none_on ls) (ne_eqb (get_or marks x 0) mark (λ e. omega (arith, b.lower x h, e)));
@@ -53,7 +53,7 @@ variables_on : (ls : List ℕ) (i : ℕ) → i < length ls → variables_of (dro
 variables_on ls i h = ap variables_of (one_on ls i h)
 
 pub mark_on : {ls marks : List ℕ} {mark i j x : ℕ} → j ≡ i + 1 → Marked ls marks mark j → i < length ls → x ≡ get_or ls i 0 / 2 → x < 780 → Marked ls (set marks x mark) mark i
-unfolding mem any
+unfolding mem
 mark_on {ls} {marks} {mark} {i} {j} {x} s g h e k = record {
   below = record { long = length-set marks x mark ∙ p.below.long; lower = λ y l. omega (arith, lows y l (ℕ_discrete y x)) };
   met = λ y l. mets y l (ℕ_discrete y x) ∙ ap (λ z. eqb y z || mem y (variables_of (drop (i + 1) ls))) e ∙ sym (ap (mem y) (variables_on ls i h));
@@ -144,14 +144,14 @@ three_fit n x y z = (ltb x n && (ltb y n && (ltb z n && true))) && (not (eqb x y
 
 module _ (n : ℕ) where
   pub two_is : (ls : List ℕ) {x y : ℕ} → length ls ≡ 2 → x ≡ get_or ls 0 0 / 2 → y ≡ get_or ls 1 0 / 2 → clause_fits n ls ≡ two_fit n x y
-  unfolding clause_fits all distinct mem any
+  unfolding clause_fits distinct mem
   two_is (a ∷ b ∷ []) e p q = rw (p, q)
   two_is (a ∷ b ∷ c ∷ ls) e p q = absurd (omega arith)
   two_is (a ∷ []) e p q = absurd (omega arith)
   two_is [] e p q = absurd (omega arith)
 
   pub three_is : (ls : List ℕ) {x y z : ℕ} → length ls ≡ 3 → x ≡ get_or ls 0 0 / 2 → y ≡ get_or ls 1 0 / 2 → z ≡ get_or ls 2 0 / 2 → clause_fits n ls ≡ three_fit n x y z
-  unfolding clause_fits all distinct mem any
+  unfolding clause_fits distinct mem
   three_is (a ∷ b ∷ c ∷ []) e p q r = rw (p, q, r)
   three_is (a ∷ b ∷ c ∷ d ∷ ls) e p q r = absurd (omega arith)
   three_is (a ∷ b ∷ []) e p q r = absurd (omega arith)
@@ -171,7 +171,6 @@ module _ {ws : List ℕ} {n at : ℕ} (p : Judging ws n at) where
   -- the clause at `at`, and what comes after it
   at-clause : at < length ws → (whole ws && all (clause_fits n) (clauses_in ws))
       ≡ ((leb (get_or ws at 0) (length ws - (at + 1)) && whole (drop (at + 1 + get_or ws at 0) ws)) && (clause_fits n (take (get_or ws at 0) (drop (at + 1) ws)) && all (clause_fits n) (clauses_in (drop (at + 1 + get_or ws at 0) ws))))
-  unfolding all
   at-clause h = p.meets ∙ rw (drop-cons ws at 0 h, whole-cons, clauses_cons, ← add-one at, length-drop, drop-drop)
 
   pub judge_short : at < length ws → length ws - (at + 1) < get_or ws at 0 → false ≡ (whole ws && all (clause_fits n) (clauses_in ws))
@@ -188,5 +187,4 @@ module _ {ws : List ℕ} {n at : ℕ} (p : Judging ws n at) where
     judge_on f = record { inside = omega arith; meets = at-whole ∙ rw f }
 
   pub judge_all : length ws ≤ at → true ≡ (whole ws && all (clause_fits n) (clauses_in ws))
-  unfolding all
   judge_all h = sym (p.meets ∙ rw (drop_of_length-le ws h, whole-nil, clauses_nil))

@@ -4,8 +4,6 @@ ghost use Rattle.lists.specs.Lists.{all};
 ghost use Rattle.cnf.specs.Clauses.{clauses_in, whole, clause_fits};
 ghost use Rattle.search.specs.Marks.{MarksBelow};
 
-use sat_trail::wide;
-
 // A mark for each variable, none in use.
 fn no_marks() -> [usize; 780]
     ensures { MarksBelow result 1 }
@@ -18,8 +16,8 @@ fn two_fit(literals: &[u16], variables: usize) -> bool
     requires { length literals.now ≡ 2 }
     ensures { result ≡ clause_fits variables literals.now }
 {
-    let x = wide(literals[0] / 2);
-    let y = wide(literals[1] / 2);
+    let x = usize::from(literals[0] / 2);
+    let y = usize::from(literals[1] / 2);
     if variables <= x {
         return false;
     }
@@ -37,9 +35,9 @@ fn three_fit(literals: &[u16], variables: usize) -> bool
     requires { length literals.now ≡ 3 }
     ensures { result ≡ clause_fits variables literals.now }
 {
-    let x = wide(literals[0] / 2);
-    let y = wide(literals[1] / 2);
-    let z = wide(literals[2] / 2);
+    let x = usize::from(literals[0] / 2);
+    let y = usize::from(literals[1] / 2);
+    let z = usize::from(literals[2] / 2);
     if variables <= x {
         return false;
     }
@@ -73,10 +71,8 @@ fn clause_fits(literals: &[u16], variables: usize, marks: &mut [usize; 780], mar
     if literals.len() == 2 {
         return two_fit(literals, variables);
     }
-    let mut i = literals.len();
-    'literals: while 0 < i {
-        i -= 1;
-        let x = wide(literals[i] / 2);
+    'literals: for i in (0..literals.len()).rev() {
+        let x = usize::from(literals[i] / 2);
         if variables <= x {
             return false;
         }
@@ -96,7 +92,7 @@ pub fn list_fits(list: &[u16], variables: usize) -> bool
     let mut marks = no_marks();
     let mut at: usize = 0;
     'clauses: while at < list.len() {
-        let k = wide(list[at]);
+        let k = usize::from(list[at]);
         at += 1;
         if list.len() - at < k {
             return false;

@@ -8,9 +8,9 @@ ghost use Rattle.search_spec.specs.Answers.{Searched, search_at, search_of, Sear
 ghost use Rattle.search_spec.specs.Demands.{SearchSound};
 
 use limits::{Limits, limits_fit};
+use refusals::Refusal;
 use sat_decide::Ending;
 use sat_solve::{none_set, solve};
-use search_spec::Solution;
 
 mod fits;
 
@@ -23,19 +23,19 @@ fn search_at(
     variables: usize,
     budget: u64,
     answer: &mut [u8],
-) -> Solution
+) -> Result<u64, Refusal>
     requires { most ≤ 780 }
     ensures answers { ◌≡◌ {A = Searched} (record { solution = result; answer = answer.new }) (search_at most list.now variables budget answer.old) }
     ensures sound { SearchSound list.now variables result answer.new }
 {
     if most < variables {
-        return Solution::Refused(11);
+        return Err(Refusal::ListForm);
     }
     if !list_fits(list, variables) {
-        return Solution::Refused(11);
+        return Err(Refusal::ListForm);
     }
     if answer.len() < variables {
-        return Solution::Refused(14);
+        return Err(Refusal::AnswerLength);
     }
     let mut values = none_set();
     let end = solve(list, 0, &mut values[..variables], budget);
@@ -43,10 +43,10 @@ fn search_at(
     match ending {
         Ending::Found(k) => {
             answer[..variables].copy_from_slice(&values[..variables]);
-            Solution::Solved(k)
+            Ok(k)
         }
-        Ending::Absent(_) => Solution::Refused(12),
-        Ending::Spent(_) => Solution::Refused(13),
+        Ending::Absent(_) => Err(Refusal::NoneExists),
+        Ending::Spent(_) => Err(Refusal::Spent),
     }
 }
 
@@ -66,19 +66,24 @@ pub fn search_within(
     variables: usize,
     budget: u64,
     answer: &mut [u8],
-) -> Solution
+) -> Result<u64, Refusal>
     ensures answers { ◌≡◌ {A = Searched} (record { solution = result; answer = answer.new }) (search_of limits list.now variables budget answer.old) }
     ensures number { SearchSays limits list.now variables budget answer.old result }
     ensures sound { SearchSound list.now variables result answer.new }
 {
     if !limits_fit(limits) {
-        return Solution::Refused(39);
+        return Err(Refusal::LimitsRange);
     }
     search_at(most_variables(limits), list, variables, budget, answer)
 }
 
 // The search at the limits of a caller that gives none.
-pub fn search(list: &[u16], variables: usize, budget: u64, answer: &mut [u8]) -> Solution
+pub fn search(
+    list: &[u16],
+    variables: usize,
+    budget: u64,
+    answer: &mut [u8],
+) -> Result<u64, Refusal>
     ensures answers { ◌≡◌ {A = Searched} (record { solution = result; answer = answer.new }) (search_of standard list.now variables budget answer.old) }
     ensures number { SearchSays standard list.now variables budget answer.old result }
     ensures sound { SearchSound list.now variables result answer.new }

@@ -1,14 +1,15 @@
 -- The operation search: what is refused, the answer, and the answer bytes at exit (document 01, "The search" and "Refused calls").
 -- Assumes nothing.
-use Rattle.std.specs.Prelude.{Bool, true, false, ◌&&◌, List, [], ◌∷◌, ℕ, length, eqb, leb}
+use Rattle.std.specs.Prelude.{Bool, true, false, ◌&&◌, Result, Ok, Err, List, [], ◌∷◌, ℕ, length, eqb, leb}
 use Rattle.lists.specs.Lists.{all, over, first_failed, stage, Says}
 use Rattle.limits.specs.declared.Limits.{Limits}
 use Rattle.limits.specs.Limits.{limits_fit}
+use Rattle.refusals.specs.declared.Refusal.{Refusal}
+use Rattle.refusals.specs.declared.Refusal.TheVariants.{NoneExists, Spent, LimitsRange}
+use Rattle.refusals.specs.Refusals.{refusal, number_in, one_value, values_in}
 use Rattle.cnf.specs.Clauses.{clauses_in, whole, clause_fits}
 use Rattle.cnf.specs.Search.{Outcome, solved, none_exists, spent, unfinished, search_from, made_of}
 use Rattle.pairs.specs.Pairs.{pairs}
-use Rattle.search_spec.specs.declared.Solution.{Solution}
-use Rattle.search_spec.specs.declared.Solution.TheVariants.{Solved, Refused}
 
 -- 11: "over 276 variables, a clause past the end, a variable past the count or twice in a clause"; most is the 276, or what the limits in force have
 unfoldable pub list_fits : ℕ → List ℕ → ℕ → Bool
@@ -20,38 +21,29 @@ search_number most list variables answer = first_failed ((11, list_fits most lis
 
 -- the answer, and the answer bytes at exit
 pub record Searched : Type 0 where
-  pub solution : Solution
+  pub solution : Result ℕ Refusal
   pub answer : List ℕ
 
 -- "Solved writes 1 or 0 a variable; later bytes keep their content"; "12 none exists", "13 spent"
 unfoldable pub searched : List ℕ → Outcome → Searched
-searched answer (solved v k) = record { solution = Solved k; answer = over v answer }
-searched answer (none_exists k) = record { solution = Refused 12; answer = answer }
-searched answer (spent k) = record { solution = Refused 13; answer = answer }
-searched answer unfinished = record { solution = Refused 13; answer = answer }
+searched answer (solved v k) = record { solution = Ok k; answer = over v answer }
+searched answer (none_exists k) = record { solution = Err NoneExists; answer = answer }
+searched answer (spent k) = record { solution = Err Spent; answer = answer }
+searched answer unfinished = record { solution = Err Spent; answer = answer }
 
 -- what a search over at most so many variables answers
 unfoldable pub search_at : ℕ → List ℕ → ℕ → ℕ → List ℕ → Searched
 search_at most list variables budget answer = elim (eqb (search_number most list variables answer) 0) [
   | true ↦ searched answer (search_from (clauses_in list) variables budget)
-  | false ↦ record { solution = Refused (search_number most list variables answer); answer = answer }
+  | false ↦ record { solution = Err (refusal (search_number most list variables answer)); answer = answer }
 ]
 
 -- the operation: 39, "a limit of zero or past its maximum comes first"; a variable for each pair of the states that the limits permit
 unfoldable pub search_of : Limits → List ℕ → ℕ → ℕ → List ℕ → Searched
 search_of L list variables budget answer = elim (limits_fit L) [
   | true ↦ search_at (pairs L.states) list variables budget answer
-  | false ↦ record { solution = Refused 39; answer = answer }
+  | false ↦ record { solution = Err LimitsRange; answer = answer }
 ]
-
--- an answer's number, 0 where it is none, and its values
-unfoldable pub solution_number : Solution → ℕ
-solution_number (Solved k) = 0
-solution_number (Refused n) = n
-
-unfoldable pub solution_values : Solution → List ℕ
-solution_values (Solved k) = k ∷ []
-solution_values (Refused n) = []
 
 -- "12 none exists, where the search ends so by (a); 13 spent, where it ends by (d)"; or 0
 unfoldable pub end_number : Outcome → ℕ
@@ -70,5 +62,5 @@ searching_number L list variables budget answer =
     ∷ [])
 
 -- the answer by its number and its values
-abbrev pub SearchSays : Limits → List ℕ → ℕ → ℕ → List ℕ → Solution → Type 0
-SearchSays L list variables budget answer r = Says (solution_number r) (solution_values r) (searching_number L list variables budget answer) (made_of (search_from (clauses_in list) variables budget) ∷ [])
+abbrev pub SearchSays : Limits → List ℕ → ℕ → ℕ → List ℕ → Result ℕ Refusal → Type 0
+SearchSays L list variables budget answer r = Says (number_in r) (values_in one_value r) (searching_number L list variables budget answer) (made_of (search_from (clauses_in list) variables budget) ∷ [])

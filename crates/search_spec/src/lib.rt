@@ -1,11 +1,2 @@
-// The search over clause words: what is refused, definitions, laws, and the answer's form. No code.
+// The search over clause words: what is refused, definitions and laws. No code.
 #![tactic(auto)]
-
-// What the search answers.
-#[derive(Clone, Copy)]
-pub enum Solution {
-    // solved: the guesses made
-    Solved(u64),
-    // 39, 11 to 14
-    Refused(u8),
-}

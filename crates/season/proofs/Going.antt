@@ -10,9 +10,10 @@ use lib.ListN.{length, get_or, take, drop, replicate, length-append, length-drop
 use lib.Seq.{paste, drop-cons, drop-drop, take_all, take-append-add, drop-append-add, length-take-le, length-paste, take-paste, drop-paste}
 use Rattle.lists.specs.Lists.{concat_map, over, sum}
 use Rattle.limits.specs.declared.Limits.{Limits}
-use Rattle.reduce_spec.specs.Reduce.{Reduced, reduce_of, reduction_values}
+use Rattle.refusals.specs.declared.Refusal.{Refusal}
+use Rattle.std.specs.Prelude.{Result, Ok, Err}
+use Rattle.reduce_spec.specs.Reduce.{Reduced, reduce_of}
 use Rattle.reduce_spec.specs.declared.Reduction.{Reduction}
-use Rattle.reduce_spec.specs.declared.Reduction.TheVariants.{Delivered, Refused}
 use Rattle.season_spec.specs.Seasons.{row, guesses_in, map_taken, out_taken, Reductions, reductions_from, lengths_fit}
 use Rattle.season_spec.proofs.Lone.{leaves}
 use Rattle.season.specs.declared.Turn.{Turn}
@@ -21,10 +22,10 @@ use Rattle.season.proofs.Sums.{fitting, sum-next}
 
 -- ---- a row among the values
 
-row-long : (r : Reduction) → length (row r) ≡ 8
-unfolding over row reduction_values
-row-long (Delivered c g w l j u s) = refl
-row-long (Refused k) = refl
+row-long : (r : Result Reduction Refusal) → length (row r) ≡ 8
+unfolding over row
+row-long (Ok d) = refl
+row-long (Err r) = refl
 
 -- rows laid over a buffer: the first, and the others after it
 over_first : (x ys buffer : List ℕ) (n : ℕ) → length x ≡ n → over (x ++ ys) buffer ≡ x ++ over ys (drop n buffer)
@@ -118,7 +119,7 @@ module _ (L : Limits) (share : ℕ) (lengths tables list maps out : List ℕ) wh
   module _ {values list' maps' out' : List ℕ} {saved at m o i : ℕ} (g : Going values list' maps' out' saved at m o i) where
     -- after the last table
     pub ended : length lengths ≤ i → Ran L share lengths tables list maps out values list' maps' out'
-    unfolding reductions_from concat_map
+    unfolding reductions_from
     ended h =
         let e : drop i lengths ≡ [] = drop_of_length-le lengths h in
         let r : Rest list' maps' out' saved at m o i ≡ record { answers = []; list = list'; maps = drop m maps'; out = drop o out' } = ap (λ (ns : List ℕ). reductions_from L share saved ns (drop at tables) list' (drop m maps') (drop o out')) e in
@@ -198,7 +199,6 @@ module _ (L : Limits) (share : ℕ) (lengths tables list maps out : List ℕ) wh
 
         next : {values' : List ℕ} → values' ≡ paste values (8 * i) turn.row 8 → length list'' ≡ length list' → length map'' ≡ length (drop m maps') → length out'' ≡ length (drop o out')
             → Going values' list'' (take m maps' ++ map'') (take o out' ++ out'') (share + saved - turn.guesses) (at + n) (m + turn.states) (o + turn.length) (i + 1)
-        unfolding concat_map
         next {values'} e ll lm lo =
             let w = turn.row in
             let long : length w ≡ 8 = turn_row_long in

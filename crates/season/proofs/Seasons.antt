@@ -6,11 +6,15 @@ use Prim.Native.Nat.{ℕ, ◌*◌, ◌/◌, ◌≤◌}
 use native.Mathlib.Nat.{mul_comm, div-add-mod'}
 use native.Mathlib.Omega.{arith}
 use lib.ListN.{length}
-use Rattle.lists.proofs.Refusals.{passes, fails, no_test, refuses, not_refused}
+use Rattle.lists.proofs.Refusals.{passes, fails, no_test, not_refused}
 use Rattle.limits.specs.declared.Limits.{Limits}
 use Rattle.limits.specs.Limits.{limits_fit}
-use Rattle.season_spec.specs.declared.Season.{Season}
-use Rattle.season_spec.specs.Seasons.{share_of, lengths_fit, season_number, SeasonDone, refused_by, season_of}
+use Rattle.std.specs.Prelude.{Ok, Err}
+use Rattle.refusals.specs.declared.Refusal.{Refusal}
+use Rattle.refusals.specs.declared.Refusal.TheVariants.{Lengths, LimitsRange}
+use Rattle.refusals.specs.Refusals.{number_of}
+use Rattle.refusals.proofs.Numbers.{refuses_by}
+use Rattle.season_spec.specs.Seasons.{share_of, lengths_fit, season_number, SeasonDone, season_of}
 use Rattle.season.specs.Turns.{Ran}
 
 -- the shares of all tables are within the guesses
@@ -18,30 +22,26 @@ pub shares_within : (guesses k : ℕ) → k * (guesses / k) ≤ guesses
 shares_within guesses k = omega (arith, div-add-mod' guesses k, mul_comm k (guesses / k))
 
 module _ (L : Limits) (tables lengths : List ℕ) (guesses : ℕ) (list maps out : List ℕ) where
-  refused_number : (k : ℕ) → season_number L tables lengths ≡ k → (k ≡ 0 → ⊥) → {r : Season} → r ≡ refused_by k
-      → ◌≡◌ {A = SeasonDone} (record { answer = r; list = list; maps = maps; out = out }) (season_of L tables lengths guesses list maps out)
+  refused : {r : Refusal} → season_number L tables lengths ≡ number_of r → ◌≡◌ {A = SeasonDone} (record { answer = Err r; list = list; maps = maps; out = out }) (season_of L tables lengths guesses list maps out)
   unfolding season_of
-  refused_number k e n {r} f = (λ j. record { answer = f j; list = list; maps = maps; out = out }) ∙ refuses (season_number L tables lengths) _ (λ k. record { answer = refused_by k; list = list; maps = maps; out = out }) e n
+  refused e = refuses_by (λ r. record { answer = Err r; list = list; maps = maps; out = out }) _ e
 
   -- "39 .. before anything else"
-  pub refused_limits :
-      limits_fit L ≡ false → {r : Season} → r ≡ refused_by 39
-      → ◌≡◌ {A = SeasonDone} (record { answer = r; list = list; maps = maps; out = out }) (season_of L tables lengths guesses list maps out)
+  pub refused_limits : limits_fit L ≡ false → ◌≡◌ {A = SeasonDone} (record { answer = Err LimitsRange; list = list; maps = maps; out = out }) (season_of L tables lengths guesses list maps out)
   unfolding season_number
-  refused_limits p = refused_number 39 (fails 39 _ p) (λ z. omega (arith, z))
+  refused_limits p = refused (fails 39 _ p)
 
   -- "then 34"
   pub refused_lengths :
-      limits_fit L ≡ true → lengths_fit (length tables) lengths ≡ false → {r : Season} → r ≡ refused_by 34
-      → ◌≡◌ {A = SeasonDone} (record { answer = r; list = list; maps = maps; out = out }) (season_of L tables lengths guesses list maps out)
+      limits_fit L ≡ true → lengths_fit (length tables) lengths ≡ false → ◌≡◌ {A = SeasonDone} (record { answer = Err Lengths; list = list; maps = maps; out = out }) (season_of L tables lengths guesses list maps out)
   unfolding season_number
-  refused_lengths p q = refused_number 34 (passes 39 _ p ∙ fails 34 _ q) (λ z. omega (arith, z))
+  refused_lengths p q = refused (passes 39 _ p ∙ fails 34 _ q)
 
   pub reduced :
       limits_fit L ≡ true → lengths_fit (length tables) lengths ≡ true → {values list' maps' out' : List ℕ}
       → Ran L (guesses / length lengths) lengths tables list maps out values list' maps' out'
-      → ◌≡◌ {A = SeasonDone} (record { answer = record { number = 0; values = values }; list = list'; maps = maps'; out = out' }) (season_of L tables lengths guesses list maps out)
+      → ◌≡◌ {A = SeasonDone} (record { answer = Ok values; list = list'; maps = maps'; out = out' }) (season_of L tables lengths guesses list maps out)
   unfolding season_number season_of share_of
   reduced p q {values} {list'} {maps'} {out'} w =
-      (λ j. record { answer = record { number = 0; values = w.rows j }; list = w.kept-list j; maps = w.new-maps j; out = w.new-out j })
+      (λ j. record { answer = Ok (w.rows j); list = w.kept-list j; maps = w.new-maps j; out = w.new-out j })
       ∙ not_refused (season_number L tables lengths) _ _ (passes 39 _ p ∙ passes 34 _ q ∙ no_test)

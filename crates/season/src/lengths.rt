@@ -13,13 +13,11 @@ pub fn lengths_fit(all: usize, lengths: &[u64]) -> bool
         return false;
     }
     let mut left = all as u64;
-    let mut i: usize = 0;
-    'lengths: while i < lengths.len() {
-        if left < lengths[i] {
+    'lengths: for length in lengths {
+        if left < *length {
             return false;
         }
-        left -= lengths[i];
-        i += 1;
+        left -= *length;
     }
     left == 0
 }

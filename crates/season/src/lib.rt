@@ -4,15 +4,15 @@
 ghost use Rattle.std.specs.Prelude.{◌≡◌, true, ◌*◌, ◌<◌, ◌^◌, length};
 ghost use Rattle.std.proofs.Math.Seq.{paste};
 ghost use Rattle.limits.specs.Limits.{standard};
-ghost use Rattle.season_spec.specs.Seasons.{lengths_fit, SeasonDone, refused_by, season_of};
+ghost use Rattle.refusals.specs.Refusals.{number_in};
+ghost use Rattle.season_spec.specs.Seasons.{lengths_fit, season_number, SeasonDone, season_of};
 ghost use Rattle.season_spec.specs.Demands.{SeasonPromises};
 ghost use Rattle.season.specs.Turns.{Turned, Ran};
 
 use capi_values::yes_value;
 use limits::Limits;
 use reduce::state_count;
-use reduce_spec::Reduction;
-use season_spec::Season;
+use refusals::Refusal;
 
 mod lengths;
 
@@ -40,31 +40,23 @@ fn take_turn(
 {
     let answer = reduce::reduce_within(limits, table, budget, list, map, out);
     match answer {
-        Reduction::Delivered {
-            classes,
-            guesses,
-            words,
-            length,
-            joined,
-            ceiling,
-            spent,
-        } => Turn {
+        Ok(reduction) => Turn {
             row: [
                 0,
-                classes as u64,
-                guesses,
-                words as u64,
-                length as u64,
-                joined as u64,
-                ceiling as u64,
-                yes_value(spent),
+                reduction.classes as u64,
+                reduction.guesses,
+                reduction.words as u64,
+                reduction.length as u64,
+                reduction.joined as u64,
+                reduction.ceiling as u64,
+                yes_value(reduction.spent),
             ],
             states: state_count(limits, table),
-            length,
-            guesses,
+            length: reduction.length,
+            guesses: reduction.guesses,
         },
-        Reduction::Refused(number) => Turn {
-            row: [number as u64, 0, 0, 0, 0, 0, 0, 0],
+        Err(refusal) => Turn {
+            row: [u64::from(refusal), 0, 0, 0, 0, 0, 0, 0],
             states: 0,
             length: 0,
             guesses: 0,
@@ -77,11 +69,7 @@ fn put_row(values: &mut [u64; 64], i: usize, row: [u64; 8])
     requires { (i < 8) × (length values.old ≡ 64) × (length row ≡ 8) }
     ensures { values.new ≡ paste values.old (8 * i) row 8 }
 {
-    let mut k: usize = 0;
-    'numbers: while k < 8 {
-        values[8 * i + k] = row[k];
-        k += 1;
-    }
+    values[8 * i..8 * i + 8].copy_from_slice(&row);
 }
 
 // Every table in turn, with its share and what earlier ones left: of the maps and of the output each is lent the part after what the earlier ones took.
@@ -103,9 +91,8 @@ fn run(
     let mut at: usize = 0;
     let mut map_at: usize = 0;
     let mut out_at: usize = 0;
-    let mut i: usize = 0;
-    'tables: while i < lengths.len() {
-        let next = at + lengths[i] as usize;
+    'tables: for (i, length) in lengths.iter().enumerate() {
+        let next = at + *length as usize;
         let turn = take_turn(
             limits,
             &tables[at..next],
@@ -120,23 +107,13 @@ fn run(
         map_at += turn.states;
         out_at += turn.length;
         at = next;
-        i += 1;
     }
     values
 }
 
-// A refusal returns its number alone.
-fn refused(number: u8) -> Season
-    ensures { result ≡ refused_by number }
-{
-    Season {
-        number,
-        values: [0u64; 64],
-    }
-}
-
 // Reduces up to 8 tables that stand back to back, read at limits, with so many guesses for all: the maps and the reduced tables back to back; or 39 or
-// 34, every buffer then unchanged.
+// 34, every buffer then unchanged. The answer has 8 numbers for each of 8 tables: its refusal's number or 0, classes, guesses, words, length, joined pairs,
+// their ceiling, and 1 where guesses were spent; zeros past the count.
 pub fn season_within(
     limits: Limits,
     tables: &[u8],
@@ -145,21 +122,21 @@ pub fn season_within(
     list: &mut [u16],
     maps: &mut [u8],
     out: &mut [u8],
-) -> Season
+) -> Result<[u64; 64], Refusal>
     ensures answers { ◌≡◌ {A = SeasonDone} (record { answer = result; list = list.new; maps = maps.new; out = out.new })
         (season_of limits tables.now lengths.now guesses list.old maps.old out.old) }
     ensures promises { SeasonPromises limits tables.now lengths.now guesses list.old maps.old out.old result
         maps.new out.new }
+    ensures number { number_in result ≡ season_number limits tables.now lengths.now }
 {
     if !limits::limits_fit(limits) {
-        return refused(39);
+        return Err(Refusal::LimitsRange);
     }
     if !lengths_fit(tables.len(), lengths) {
-        return refused(34);
+        return Err(Refusal::Lengths);
     }
     let count = lengths.len() as u64;
-    let values = run(limits, tables, lengths, guesses / count, list, maps, out);
-    Season { number: 0, values }
+    Ok(run(limits, tables, lengths, guesses / count, list, maps, out))
 }
 
 // Reduces up to 8 tables, at the limits of a caller that gives none.
@@ -170,11 +147,12 @@ pub fn season(
     list: &mut [u16],
     maps: &mut [u8],
     out: &mut [u8],
-) -> Season
+) -> Result<[u64; 64], Refusal>
     ensures answers { ◌≡◌ {A = SeasonDone} (record { answer = result; list = list.new; maps = maps.new; out = out.new })
         (season_of standard tables.now lengths.now guesses list.old maps.old out.old) }
     ensures promises { SeasonPromises standard tables.now lengths.now guesses list.old maps.old out.old result
         maps.new out.new }
+    ensures number { number_in result ≡ season_number standard tables.now lengths.now }
 {
     season_within(
         limits::standard(),

@@ -6,8 +6,10 @@ use native.Mathlib.Nat.{suc-mul}
 use native.Mathlib.Omega.{arith}
 use lib.ListN.{length, get_or, take, drop}
 use lib.Seq.{drop-drop, drop-append-add, take-append-le, length-take-le, take-take}
+use Rattle.std.specs.Prelude.{Result}
 use Rattle.lists.specs.Lists.{sum}
 use Rattle.limits.specs.declared.Limits.{Limits}
+use Rattle.refusals.specs.declared.Refusal.{Refusal}
 use Rattle.reduce_spec.specs.Reduce.{Reduced, reduce_of}
 use Rattle.reduce_spec.specs.declared.Reduction.{Reduction}
 use Rattle.season_spec.specs.Seasons.{guesses_in, map_taken, out_taken, Reductions, reductions_from}
@@ -16,17 +18,17 @@ use Rattle.season_spec.proofs.Lone.{Leaves, leaves, same_reduced}
 
 -- ---- a lone reduction over equal bytes, guesses and buffers, and any clause buffer of the same length
 
-relisted : (L : Limits) (b : List ℕ) (a : ℕ) (list other map out : List ℕ) → length list ≡ length other → {xs : List Reduction} {map' out' : List ℕ}
+relisted : (L : Limits) (b : List ℕ) (a : ℕ) (list other map out : List ℕ) → length list ≡ length other → {xs : List (Result Reduction Refusal)} {map' out' : List ℕ}
     → IsLone L b a list map out xs map' out' → IsLone L b a other map out xs map' out'
 relisted L b a list other map out e {xs} {map'} {out'} h =
     let s = same_reduced L b list other map out e a in
     record {
-      same_answer = h.same_answer ∙ ap (λ (x : Reduction). x ∷ []) s.answer;
-      same_map = subst (λ (x : Reduction). take (map_taken b x) map' ≡ take (map_taken b x) (reduce_of L b a other map out).map) s.answer (h.same_map ∙ ap (take (map_taken b (reduce_of L b a list map out).answer)) s.map);
-      same_out = subst (λ (x : Reduction). take (out_taken x) out' ≡ take (out_taken x) (reduce_of L b a other map out).out) s.answer (h.same_out ∙ ap (take (out_taken (reduce_of L b a list map out).answer)) s.out);
+      same_answer = h.same_answer ∙ ap (λ (x : Result Reduction Refusal). x ∷ []) s.answer;
+      same_map = subst (λ (x : Result Reduction Refusal). take (map_taken b x) map' ≡ take (map_taken b x) (reduce_of L b a other map out).map) s.answer (h.same_map ∙ ap (take (map_taken b (reduce_of L b a list map out).answer)) s.map);
+      same_out = subst (λ (x : Result Reduction Refusal). take (out_taken x) out' ≡ take (out_taken x) (reduce_of L b a other map out).out) s.answer (h.same_out ∙ ap (take (out_taken (reduce_of L b a list map out).answer)) s.out);
     }
 
-pub moved : (L : Limits) (list : List ℕ) {b c : List ℕ} {a k : ℕ} {map map2 out out2 map' map2' out' out2' : List ℕ} {xs : List Reduction}
+pub moved : (L : Limits) (list : List ℕ) {b c : List ℕ} {a k : ℕ} {map map2 out out2 map' map2' out' out2' : List ℕ} {xs : List (Result Reduction Refusal)}
     → b ≡ c → a ≡ k → map ≡ map2 → out ≡ out2 → map' ≡ map2' → out' ≡ out2' → IsLone L b a list map out xs map' out' → IsLone L c k list map2 out2 xs map2' out2'
 moved L list {xs = xs} e f g h p q w = subst (λ x. x) (λ i. IsLone L (e i) (f i) list (g i) (h i) xs (p i) (q i)) w
 
@@ -38,7 +40,7 @@ next_table n ns tables i = ap (take (get_or ns i 0)) (drop-drop (sum (take i ns)
 
 module _ (L : Limits) (share : ℕ) where
   -- all shares so far, and what was saved before, less the guesses reported
-  unfoldable pub allowed : ℕ → List Reduction → ℕ → ℕ
+  unfoldable pub allowed : ℕ → List (Result Reduction Refusal) → ℕ → ℕ
   allowed saved rs i = (i + 1) * share + saved - sum (map guesses_in (take i rs))
 
   -- table i of a season stands as a lone reduction

@@ -8,12 +8,14 @@ use native.Mathlib.Omega.{arith}
 use lib.ListN.{length, drop}
 use lib.Seq.{drop-append_seam}
 use lib.Dec.{eqb, leb}
+use Rattle.std.specs.Prelude.{Ok, Err}
 use Rattle.lists.specs.Lists.{over, first_failed, stage}
 use Rattle.lists.proofs.Copying.{length_over}
 use Rattle.cnf.specs.Trials.{ceiling_of, Tried}
 use Rattle.cnf.specs.Search.{made_of, is_spent}
 use Rattle.cnf.proofs.Budgets.{made-within}
 use Rattle.limits.specs.declared.Limits.{Limits}
+use Rattle.refusals.specs.Refusals.{refusal}
 use Rattle.pairs.specs.Pairs.{pairs}
 use Rattle.table_spec.specs.File.{table_of}
 use Rattle.table_spec.specs.Reading.{read_number}
@@ -24,8 +26,7 @@ use Rattle.clauses_spec.specs.Clauses.{clause_list, short_words}
 use Rattle.clauses_spec.specs.Maps.{map_of}
 use Rattle.clauses_spec.proofs.Theorems.{map_proper}
 use Rattle.quotient_spec.specs.Quotient.{quotient_bytes, quotient_number}
-use Rattle.reduce_spec.specs.Reduce.{Reduced, before_search, search_of_table, tried_of_table, joined_pairs, deliver, after_search, reduce_of, reduction_values}
-use Rattle.reduce_spec.specs.declared.Reduction.TheVariants.{Delivered, Refused}
+use Rattle.reduce_spec.specs.Reduce.{Reduced, before_search, search_of_table, tried_of_table, joined_pairs, deliver, after_search, reduce_of}
 use Rattle.reduce_spec.proofs.Ways.{Held, Ways, refused_first, refused_short, delivers, reduce_ways}
 use Rattle.season_spec.specs.Seasons.{guesses_in, map_taken, out_taken}
 
@@ -48,8 +49,8 @@ module _ (L : Limits) (b : List ℕ) (budget : ℕ) (list map out : List ℕ) wh
   map-long v g u z s = (map_proper L (table_of b) (read_well_formed L b s.begun.readable) v s.model).long
 
   leaves_ways : {r : Reduced} → Ways L b budget list map out r → Leaves b budget list map out r
-  unfolding guesses_in map_taken out_taken reduction_values search_of_table
-  leaves_ways (refused_first k e n) = record { guesses = omega arith; list-long = refl; map-fits = omega arith; map-rest = refl; out-fits = omega arith; out-rest = refl }
+  unfolding guesses_in map_taken out_taken search_of_table
+  leaves_ways (refused_first r e) = record { guesses = omega arith; list-long = refl; map-fits = omega arith; map-rest = refl; out-fits = omega arith; out-rest = refl }
   leaves_ways (refused_short v g u z s l) = record { guesses = omega arith; list-long = length_over _ list s.begun.listed; map-fits = omega arith; map-rest = refl; out-fits = omega arith; out-rest = refl }
   leaves_ways (delivers v g u z s l) =
       let m = map_of v (count (table_of b)) in
@@ -88,12 +89,12 @@ module _ (L : Limits) (b list other map out : List ℕ) (e : length list ≡ len
       done : List ℕ → Bool → Reduced
       done xs t = elim t [
         | true ↦ record {
-          answer = Delivered (classes m) k (length (short_words (table_of b))) (length (quotient_bytes b m)) (joined_pairs (count (table_of b)) m) u z;
+          answer = Ok (record { classes = classes m; guesses = k; words = length (short_words (table_of b)); length = length (quotient_bytes b m); joined = joined_pairs (count (table_of b)) m; ceiling = u; spent = z });
           list = over (short_words (table_of b)) xs;
           map = over m map;
           out = over (quotient_bytes b m) out;
         }
-        | false ↦ record { answer = Refused (quotient_number L b m out); list = over (short_words (table_of b)) xs; map = map; out = out }
+        | false ↦ record { answer = Err (refusal (quotient_number L b m out)); list = over (short_words (table_of b)) xs; map = map; out = out }
       ]
 
       go : (t : Bool) → Same (done list t) (done other t)
@@ -111,7 +112,7 @@ module _ (L : Limits) (b list other map out : List ℕ) (e : length list ≡ len
       found xs = deliver L b xs map out (map_of t.trials.held (count (table_of b))) (made_of t.outcome) (ceiling_of t.trials.ceiling) (is_spent t.outcome)
 
       by : List ℕ → ℕ → Bool → Reduced
-      by xs k z = elim z [ true ↦ found xs | false ↦ record { answer = Refused k; list = xs; map = map; out = out } ]
+      by xs k z = elim z [ true ↦ found xs | false ↦ record { answer = Err (refusal k); list = xs; map = map; out = out } ]
 
       done : List ℕ → ℕ → Reduced
       done xs k = by xs k (eqb k 0)

@@ -1,6 +1,5 @@
 -- What a season promises holds of the definition, and of whatever answers as it does. Assumes nothing.
 use mathlib.Core.Path.{◌≡◌, refl, sym, ap, ◌∙◌, subst}
-use mathlib.Core.Logic.{◌≢◌}
 use mathlib.Core.Bool.{false}
 use mathlib.Core.List.{List, [], ◌∷◌, ◌++◌, map}
 use Prim.Native.Nat.{ℕ, zero, suc, ◌+◌, ◌*◌, ◌≤◌, ◌<◌}
@@ -9,12 +8,17 @@ use native.Mathlib.Omega.{arith}
 use lib.ListN.{length, get_or, take, drop, replicate}
 use lib.Seq.{get_or-take, get_or-drop, take-length}
 use borrow.Author.Tests.{leb-true}
-use Rattle.lists.specs.Lists.{concat_map, parts, sum, over}
+use Rattle.std.specs.Prelude.{Result, Ok, Err}
+use Rattle.lists.specs.Lists.{concat_map, parts, sum, over, Says}
 use Rattle.lists.proofs.Members.{and-true}
-use Rattle.lists.proofs.Refusals.{passed, by_number}
+use Rattle.lists.proofs.Refusals.{passed, by_number, says}
 use Rattle.cnf.specs.Search.{made_of, is_spent}
 use Rattle.cnf.proofs.Budgets.{enough}
 use Rattle.limits.specs.declared.Limits.{Limits}
+use Rattle.refusals.specs.declared.Refusal.{Refusal}
+use Rattle.refusals.specs.declared.Refusal.TheVariants.{Lengths, LimitsRange}
+use Rattle.refusals.specs.Refusals.{refusal, Known, number_in, values_in}
+use Rattle.refusals.proofs.Numbers.{some_number, known_of, failed_known, none_known}
 use Rattle.pairs.specs.Pairs.{pairs}
 use Rattle.table_spec.specs.File.{table_of}
 use Rattle.table_spec.specs.Language.{count, SameWords, SameMarks, OpenByNeither}
@@ -26,14 +30,12 @@ use Rattle.check_spec.specs.Demands.{AcceptedWith}
 use Rattle.script_spec.specs.Script.{yes_value}
 use Rattle.clauses_spec.specs.Clauses.{clause_list}
 use Rattle.quotient_spec.specs.Demands.{IsQuotient, ShowsSteps}
-use Rattle.reduce_spec.specs.Reduce.{search_of_table, joined_pairs, reduce_of, reduction_number, reduction_values}
+use Rattle.reduce_spec.specs.Reduce.{search_of_table, joined_pairs, reduce_of, reduction_values}
 use Rattle.reduce_spec.specs.Demands.{OnDelivery, Promises, map_written}
 use Rattle.reduce_spec.specs.declared.Reduction.{Reduction}
-use Rattle.reduce_spec.specs.declared.Reduction.TheVariants.{Delivered, Refused}
 use Rattle.reduce_spec.proofs.Ways.{list-formed}
 use Rattle.reduce_spec.proofs.Theorems.{promises, on_delivery}
-use Rattle.season_spec.specs.declared.Season.{Season}
-use Rattle.season_spec.specs.Seasons.{row, guesses_in, map_taken, out_taken, Reductions, reductions_from, share_of, lengths_fit, season_number, SeasonDone, refused_by, season_of}
+use Rattle.season_spec.specs.Seasons.{row, guesses_in, map_taken, out_taken, Reductions, reductions_from, share_of, lengths_fit, season_number, SeasonDone, season_of, season_values}
 use Rattle.season_spec.specs.Demands.{table_at, answer_at, allowed_to, maps_before, out_before, IsLone, answers_of, Alone, SolvedWithin, EachPromised, guesses_reported, WithinAll, SeasonPromises}
 use Rattle.season_spec.proofs.Each.{allowed, moved, used, counted, alone_in}
 
@@ -59,27 +61,27 @@ unfolding parts sum
 none_reported zero zs h = refl
 none_reported (suc k) zs h = omega (arith, get_or-take 8 zs 2 0 (omega arith), h 2, none_reported k (drop 8 zs) (later_zeros 8 zs h))
 
-rows_reported : (rs : List Reduction) (n : ℕ) (zs : List ℕ) → length rs ≤ n → Zeros zs → reported_in (parts n 8 (concat_map row rs ++ zs)) ≡ sum (map guesses_in rs)
-unfolding parts sum concat_map over row guesses_in reduction_number reduction_values
+rows_reported : (rs : List (Result Reduction Refusal)) (n : ℕ) (zs : List ℕ) → length rs ≤ n → Zeros zs → reported_in (parts n 8 (concat_map row rs ++ zs)) ≡ sum (map guesses_in rs)
+unfolding parts sum over row guesses_in
 rows_reported [] n zs l h = none_reported n zs h
 rows_reported (r ∷ rs) zero zs l h = absurd (omega arith)
-rows_reported (Delivered c g w k j u s ∷ rs) (suc n) zs l h = ap (λ (m : ℕ). g + m) (rows_reported rs n zs (omega arith) h)
-rows_reported (Refused k ∷ rs) (suc n) zs l h = ap (λ (m : ℕ). 0 + m) (rows_reported rs n zs (omega arith) h)
+rows_reported (Ok d ∷ rs) (suc n) zs l h = ap (λ (m : ℕ). d.guesses + m) (rows_reported rs n zs (omega arith) h)
+rows_reported (Err e ∷ rs) (suc n) zs l h = ap (λ (m : ℕ). 0 + m) (rows_reported rs n zs (omega arith) h)
 
 -- ---- of the definition
 
 -- what a reduction took of the maps and of the reduced tables is what it delivered
 taken : (L : Limits) (b : List ℕ) (a : ℕ) (list map out : List ℕ) → let r = (reduce_of L b a list map out).answer in OnDelivery r (λ c g w l j u s. (map_taken b r ≡ count (table_of b)) × (out_taken r ≡ l))
-unfolding map_taken out_taken reduction_values
+unfolding map_taken out_taken
 taken L b a list map out = on_delivery L b a list map out (λ d c g w l j u s. (map_taken b d.answer ≡ count (table_of b)) × (out_taken d.answer ≡ l)) (λ v g u z s l. (refl, refl))
 
 -- what is promised of a reduction is promised of what stands at its place
-carried : (L : Limits) (b : List ℕ) (a : ℕ) (r : Reduction) (map map' out out' : List ℕ) → OnDelivery r (λ c g w l j u s. (map_taken b r ≡ count (table_of b)) × (out_taken r ≡ l))
+carried : (L : Limits) (b : List ℕ) (a : ℕ) (r : Result Reduction Refusal) (map map' out out' : List ℕ) → OnDelivery r (λ c g w l j u s. (map_taken b r ≡ count (table_of b)) × (out_taken r ≡ l))
     → take (map_taken b r) map' ≡ take (map_taken b r) map → take (out_taken r) out' ≡ take (out_taken r) out → Promises L b a r map out → Promises L b a r map' out'
 carried L b a r map map' out out' k e f p = record {
   words = λ q. subst (λ (x : List ℕ). SameWords b x) (sym (table q)) (p.words q);
   exact = λ q. subst (λ x. x) (λ i. IsQuotient L b (sym (classes q) i) (sym (table q) i)) (p.exact q);
-  checked = λ q. subst (λ (m : List ℕ). AcceptedWith (check_of L b m) (get_or (reduction_values r) 0 0)) (sym (classes q)) (p.checked q);
+  checked = λ q. subst (λ (m : List ℕ). AcceptedWith (check_of L b m) (get_or (values_in reduction_values r) 0 0)) (sym (classes q)) (p.checked q);
   maximal = λ q z. subst (λ (m : List ℕ). NoneCoarser (table_of b) m) (sym (classes q)) (p.maximal q z);
   few = p.few;
   ceiling = λ q. record { joined = (p.ceiling q).joined ∙ ap (joined_pairs (count (table_of b))) (sym (classes q)); most = (p.ceiling q).most };
@@ -92,10 +94,10 @@ carried L b a r map map' out out' k e f p = record {
   scripts = λ q. subst (λ (x : List ℕ). SameScripts L b x) (sym (table q)) (p.scripts q);
 }
   where
-    classes : reduction_number r ≡ 0 → map_written b map' ≡ map_written b map
+    classes : number_in r ≡ 0 → map_written b map' ≡ map_written b map
     classes q = subst (λ (n : ℕ). take n map' ≡ take n map) (k q).0 e
 
-    table : reduction_number r ≡ 0 → take (get_or (reduction_values r) 3 0) out' ≡ take (get_or (reduction_values r) 3 0) out
+    table : number_in r ≡ 0 → take (get_or (values_in reduction_values r) 3 0) out' ≡ take (get_or (values_in reduction_values r) 3 0) out
     table q = subst (λ (n : ℕ). take n out' ≡ take n out) (k q).1 f
 
 -- a search that needs at most so many guesses is not spent under a budget that has them
@@ -128,15 +130,15 @@ module _ (L : Limits) (tables lengths : List ℕ) (guesses : ℕ) (list maps out
   unfolding share_of
   all-within h =
       let k = length lengths in
-      let u : sum (map guesses_in run.answers) ≤ k * share = omega (arith, ap (λ (rs : List Reduction). sum (map guesses_in rs)) (sym (ap (λ (n : ℕ). take n run.answers) (sym (counted L share 0 lengths tables list maps out)) ∙ take-length run.answers)), used L share 0 lengths tables list maps out k) in
+      let u : sum (map guesses_in run.answers) ≤ k * share = omega (arith, ap (λ (rs : List (Result Reduction Refusal)). sum (map guesses_in rs)) (sym (ap (λ (n : ℕ). take n run.answers) (sym (counted L share 0 lengths tables list maps out)) ∙ take-length run.answers)), used L share 0 lengths tables list maps out k) in
       omega (arith, u, div-add-mod' guesses k, mul_comm k share)
 
   -- the two ways in which a season ends
   data Ends : SeasonDone → Type 0 where
-    refused : (k : ℕ) → k ≢ 0 → Ends (record { answer = record { number = k; values = replicate 64 0 }; list = list; maps = maps; out = out })
+    refused : (r : Refusal) → Ends (record { answer = Err r; list = list; maps = maps; out = out })
     reduced :
         1 ≤ length lengths → length lengths ≤ 8
-        → Ends (record { answer = record { number = 0; values = over (concat_map row run.answers) (replicate 64 0) }; list = run.list; maps = run.maps; out = run.out })
+        → Ends (record { answer = Ok (over (concat_map row run.answers) (replicate 64 0)); list = run.list; maps = run.maps; out = run.out })
 
   lengths_few : season_number L tables lengths ≡ 0 → (1 ≤ length lengths) × (length lengths ≤ 8)
   unfolding season_number lengths_fit
@@ -148,17 +150,26 @@ module _ (L : Limits) (tables lengths : List ℕ) (guesses : ℕ) (list maps out
       (leb-true _ _ d.0, leb-true _ _ d.1)
 
   season_ends : Ends (season_of L tables lengths guesses list maps out)
-  unfolding season_of refused_by
-  season_ends = by_number _ _ _ Ends (λ z. let f = lengths_few z in reduced f.0 f.1) (refused (season_number L tables lengths))
+  unfolding season_of
+  season_ends = by_number _ _ _ Ends (λ z. let f = lengths_few z in reduced f.0 f.1) (λ n. refused (refusal (season_number L tables lengths)))
+
+  -- the answer's number is the first of the tests that fails, and its values are the rows and zeros
+  season-known : Known (season_number L tables lengths)
+  unfolding season_number
+  season-known = failed_known _ _ (known_of LimitsRange) (failed_known _ _ (known_of Lengths) none_known)
+
+  pub season-says : (let r = (season_of L tables lengths guesses list maps out).answer in Says (number_in r) (season_values r) (season_number L tables lengths) (over (concat_map row run.answers) (replicate 64 0)))
+  unfolding season_of
+  season-says = says (season_number L tables lengths) _ _ (λ (d : SeasonDone). number_in d.answer) (λ (d : SeasonDone). season_values d.answer) refl refl season-known refl
 
   alone-ends : {d : SeasonDone} → Ends d → Alone L tables lengths guesses list maps out d.answer d.maps d.out
   unfolding answers_of
-  alone-ends (refused k n) = λ e. absurd (n e)
+  alone-ends (refused r) = λ e. absurd (some_number r e)
   alone-ends (reduced h k) = λ e. record { count = counted L share 0 lengths tables list maps out; rows = refl; each = each_lone }
 
   promised_ends : {d : SeasonDone} → Ends d → EachPromised L tables lengths guesses list maps out d.answer d.maps d.out
   unfolding answers_of
-  promised_ends (refused k n) = λ e. absurd (n e)
+  promised_ends (refused r) = λ e. absurd (some_number r e)
   promised_ends (reduced h k) = λ e i l.
       let b = table_at tables lengths i in
       let a = allowed_to share run.answers i in
@@ -170,18 +181,18 @@ module _ (L : Limits) (tables lengths : List ℕ) (guesses : ℕ) (list maps out
 
   solved-ends : {d : SeasonDone} → Ends d → SolvedWithin L tables lengths guesses list maps out d.answer
   unfolding answers_of
-  solved-ends (refused k n) = λ e. absurd (n e)
+  solved-ends (refused r) = λ e. absurd (some_number r e)
   solved-ends (reduced h k) = λ e i l z.
       solved-enough L (table_at tables lengths i) (allowed_to share run.answers i) z.budget list _ _ z.unspent (omega (arith, z.few, share_allowed i))
 
   within-ends : {d : SeasonDone} → Ends d → WithinAll guesses d.answer
   unfolding guesses_reported over
-  within-ends (refused k n) = omega (arith, none_reported 8 (replicate 64 0) (zeros 64))
+  within-ends (refused r) = omega (arith, none_reported 8 [] (λ j. refl))
   within-ends (reduced h k) =
       omega (arith, rows_reported run.answers 8 (drop (length (concat_map row run.answers)) (replicate 64 0)) (omega (arith, counted L share 0 lengths tables list maps out)) (later_zeros (length (concat_map row run.answers)) (replicate 64 0) (zeros 64)), all-within h)
 
 -- what the contract of a season says, of the answer and the buffers that the definition gives
-pub promised : (L : Limits) (tables lengths : List ℕ) (guesses : ℕ) (list maps out : List ℕ) {r : Season} {list' maps' out' : List ℕ}
+pub promised : (L : Limits) (tables lengths : List ℕ) (guesses : ℕ) (list maps out : List ℕ) {r : Result (List ℕ) Refusal} {list' maps' out' : List ℕ}
     → record { answer = r; list = list'; maps = maps'; out = out' } ≡ season_of L tables lengths guesses list maps out
     → (◌≡◌ {A = SeasonDone} (record { answer = r; list = list'; maps = maps'; out = out' }) (season_of L tables lengths guesses list maps out)) × SeasonPromises L tables lengths guesses list maps out r maps' out'
 promised L tables lengths guesses list maps out {r} {list'} {maps'} {out'} e =
@@ -194,3 +205,8 @@ promised L tables lengths guesses list maps out {r} {list'} {maps'} {out'} e =
         each = promised_ends L tables lengths guesses list maps out d;
       },
     )
+
+pub number_run : (L : Limits) (tables lengths : List ℕ) (guesses : ℕ) (list maps out : List ℕ) {r : Result (List ℕ) Refusal} {list' maps' out' : List ℕ}
+    → record { answer = r; list = list'; maps = maps'; out = out' } ≡ season_of L tables lengths guesses list maps out
+    → number_in r ≡ season_number L tables lengths
+number_run L tables lengths guesses list maps out e = ap (λ (d : SeasonDone). number_in d.answer) e ∙ (season-says L tables lengths guesses list maps out).numbered

@@ -1,32 +1,33 @@
 -- A season on one budget (document 02, request (ix)): tables back to back, reduced in order with shared guesses. Assumes nothing.
-use Rattle.std.specs.Prelude.{Bool, true, false, ◌&&◌, List, [], ◌∷◌, ◌++◌, ℕ, ◌+◌, ◌-◌, ◌/◌, length, get_or, take, drop, replicate, eqb, leb}
+use Rattle.std.specs.Prelude.{Bool, true, false, ◌&&◌, Result, Ok, Err, List, [], ◌∷◌, ◌++◌, ℕ, ◌+◌, ◌-◌, ◌/◌, length, get_or, take, drop, replicate, eqb, leb}
 use Rattle.lists.specs.Lists.{concat_map, sum, over, first_failed}
 use Rattle.limits.specs.declared.Limits.{Limits}
+use Rattle.refusals.specs.declared.Refusal.{Refusal}
+use Rattle.refusals.specs.Refusals.{refusal, number_in, values_in}
 use Rattle.limits.specs.Limits.{limits_fit}
 use Rattle.table_spec.specs.File.{table_of}
 use Rattle.table_spec.specs.Language.{count}
-use Rattle.reduce_spec.specs.Reduce.{reduce_of, reduction_number, reduction_values}
+use Rattle.reduce_spec.specs.Reduce.{reduce_of, reduction_values}
 use Rattle.reduce_spec.specs.declared.Reduction.{Reduction}
-use Rattle.season_spec.specs.declared.Season.{Season}
 
 -- an answer as 8 numbers: its number and its values, zeros with a refusal
-unfoldable pub row : Reduction → List ℕ
-row r = reduction_number r ∷ over (reduction_values r) (replicate 7 0)
+unfoldable pub row : Result Reduction Refusal → List ℕ
+row r = number_in r ∷ over (values_in reduction_values r) (replicate 7 0)
 
 -- "A refused table .. counts as no guesses"
-unfoldable pub guesses_in : Reduction → ℕ
-guesses_in r = get_or (reduction_values r) 1 0
+unfoldable pub guesses_in : Result Reduction Refusal → ℕ
+guesses_in r = get_or (values_in reduction_values r) 1 0
 
 -- "A refused table writes no map or reduced table": how many bytes of the maps, and of the reduced tables, the table b took
-unfoldable pub map_taken : List ℕ → Reduction → ℕ
-map_taken b r = elim (reduction_values r) [ [] ↦ 0 | v ∷ vs ↦ count (table_of b) ]
+unfoldable pub map_taken : List ℕ → Result Reduction Refusal → ℕ
+map_taken b r = elim (values_in reduction_values r) [ [] ↦ 0 | v ∷ vs ↦ count (table_of b) ]
 
-unfoldable pub out_taken : Reduction → ℕ
-out_taken r = get_or (reduction_values r) 3 0
+unfoldable pub out_taken : Result Reduction Refusal → ℕ
+out_taken r = get_or (values_in reduction_values r) 3 0
 
 -- the answers in the tables' order, and the clause buffer, the maps and the reduced tables at exit
 pub record Reductions : Type 0 where
-  pub answers : List Reduction
+  pub answers : List (Result Reduction Refusal)
   pub list : List ℕ
   pub maps : List ℕ
   pub out : List ℕ
@@ -57,24 +58,20 @@ season_number L tables lengths = first_failed ((39, limits_fit L) ∷ (34, lengt
 
 -- the answer, and the clause buffer, the maps and the reduced tables at exit
 pub record SeasonDone : Type 0 where
-  pub answer : Season
+  pub answer : Result (List ℕ) Refusal
   pub list : List ℕ
   pub maps : List ℕ
   pub out : List ℕ
-
--- "A refusal returns its number alone; where the answer's form has further fields, they hold 0"
-unfoldable pub refused_by : ℕ → Season
-refused_by k = record { number = k; values = replicate 64 0 }
 
 -- the operation
 unfoldable pub season_of : Limits → List ℕ → List ℕ → ℕ → List ℕ → List ℕ → List ℕ → SeasonDone
 season_of L tables lengths guesses list maps out = elim (eqb (season_number L tables lengths) 0) [
   | true ↦
       let r = reductions_from L (share_of guesses lengths) 0 lengths tables list maps out in
-      record { answer = record { number = 0; values = over (concat_map row r.answers) (replicate 64 0) }; list = r.list; maps = r.maps; out = r.out }
-  | false ↦ record { answer = refused_by (season_number L tables lengths); list = list; maps = maps; out = out }
+      record { answer = Ok (over (concat_map row r.answers) (replicate 64 0)); list = r.list; maps = r.maps; out = r.out }
+  | false ↦ record { answer = Err (refusal (season_number L tables lengths)); list = list; maps = maps; out = out }
 ]
 
--- an answer's values: all 64, where its number is 0; none with a refusal
-unfoldable pub season_values : Season → List ℕ
-season_values r = elim (eqb r.number 0) [ true ↦ r.values | false ↦ [] ]
+-- an answer's values: all 64, none with a refusal
+abbrev pub season_values : Result (List ℕ) Refusal → List ℕ
+season_values r = values_in (λ vs. vs) r

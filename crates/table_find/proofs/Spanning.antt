@@ -180,7 +180,7 @@ module _ {w : ℕ} {s : List ℕ} {wanted from i : ℕ} (p : Passing w s wanted 
     pub pass_end : (m ≡ wanted → ⊥) → (k : List ℕ) → Keyed w k wanted → i ≡ from + leading (drop from (records w s)) k
     pass_end t k d = let g = here (records w s) k i in_records (starts s b d h e ∙ ne_eqb m wanted t) in omega (arith, p.meets k d)
 
-  pub passed-all : length s / w ≤ i → (k : List ℕ) → Keyed w k wanted → i ≡ from + leading (drop from (records w s)) k
+  pub passed-all : length s / w ≤ i → (k : List ℕ) → Keyed w k wanted → length s / w ≡ from + leading (drop from (records w s)) k
   unfolding leading
   passed-all h k d = let g = ap (λ x. leading x k) (drop_of_length-le (records w s) {i = i} (omega (arith, length-records w s))) in omega (arith, p.meets k d)
 

@@ -10,7 +10,7 @@ pub fn with_byte(number: u32, byte: u8) -> u32
     requires { number < 16777216 }
     ensures { result ≡ number * 256 + byte }
 {
-    number * 256 + byte as u32
+    number * 256 + u32::from(byte)
 }
 
 // The key of the moves of a state by a symbol.
@@ -97,6 +97,7 @@ fn first_at(section: &[u8], width: usize, wanted: u32) -> usize
     let lowest = lowest_at(width, wanted);
     let mut low: usize = 0;
     let mut high = section.len() / width;
+    // not `partition_point`: that goes over the elements of a slice, and a record is `width` bytes of the section
     'halves: while low < high {
         let middle = low + (high - low) / 2;
         if even_at(section, width, middle) < lowest {
@@ -114,14 +115,13 @@ fn last_at(section: &[u8], width: usize, wanted: u32, from: usize) -> usize
     ensures within { (from ≤ result) × (result ≤ length section.now / width) }
     ensures last { LastFrom width section.now wanted from result }
 {
-    let mut i = from;
-    'records: while i < section.len() / width {
+    let count = section.len() / width;
+    'records: for i in from..count {
         if key_at(section, width, i) != wanted {
             return i;
         }
-        i += 1;
     }
-    i
+    count
 }
 
 // The part of the section whose records start with the key, by the key's number.

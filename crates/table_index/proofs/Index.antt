@@ -6,9 +6,8 @@ use mathlib.Core.List.{List, [], ◌∷◌, Memᴰ}
 use Prim.Native.Nat.{ℕ, ◌+◌, ◌*◌, ◌/◌, ◌<◌, ◌≤◌}
 use native.Mathlib.Omega.{arith}
 use native.Mathlib.Nat.{add-zero}
-use native.Mathlib.Decide.{ℕ_discrete, dec_lt}
-use lib.ListN.{length, get_or, set, length-set}
-use lib.Seq.{get_or-set_same, get_or-set_other}
+use native.Mathlib.Decide.{dec_lt}
+use lib.ListN.{length, get_or}
 use Rattle.lists.proofs.Members.{get_d_mem}
 use Rattle.lists.proofs.Parts.{get_d_parts}
 use Rattle.limits.specs.Limits.{state_most, symbol_most}
@@ -52,6 +51,27 @@ module _ {w n : ℕ} {s : List ℕ} (h : Lent w n s) where
     pub state-small : (i : ℕ) → i ≢ 1 → i < w → get_or (get_or (records w s) k []) i 0 < n
     state-small = h.states _ there
 
+-- record k as the code reads it: it is there, and its state, its symbol and the place of the two
+pub record Read (w n : ℕ) (s : List ℕ) (k : ℕ) : Type 0 where
+  pub there : k * w + w ≤ length s
+  pub state : get_or s (k * w) 0 < n
+  pub symbol : get_or s (k * w + 1) 0 < symbol_most
+  pub place : get_or s (k * w) 0 * symbol_most + get_or s (k * w + 1) 0 ≡ place_of (get_or (records w s) k [])
+  pub few : k < 4096
+
+pub at_record : {w n : ℕ} {s : List ℕ} {k : ℕ} → 3 ≤ w → Lent w n s → k < length s / w → Read w n s k
+at_record {w} {n} {s} {k} wide h l =
+    let i : k < length (records w s) = omega (arith, length-records w s) in
+    let a = byte_first w s k i (omega arith) in
+    let b = byte_at w s k i 1 (omega arith) in
+    record {
+      there = record_there w s k i;
+      state = omega (arith, a, state-small h k i 0 (λ z. omega arith) (omega arith));
+      symbol = omega (arith, b, symbol-small h k i);
+      place = omega (arith, a, b);
+      few = omega (arith, h.few);
+    }
+
 -- ---- places rise
 
 two-first : (r s : List ℕ) → 2 ≤ length r → 2 ≤ length s → before r s ≡ true → (get_or r 0 0 < get_or s 0 0) ⊎ ((get_or r 0 0 ≡ get_or s 0 0) × (get_or r 1 0 ≤ get_or s 1 0))
@@ -86,56 +106,17 @@ module _ {w n : ℕ} {s : List ℕ} (wide : 3 ≤ w) (h : Lent w n s) where
       go (yes d) = by (two-first _ _ (long i (omega arith)) (long j k) (ascend-before (records w s) h.in_order i j d k))
       go (no d) = let e : i ≡ j = omega arith in omega (arith, ap (λ m. place_of (get_or (records w s) m [])) e)
 
--- ---- the entries from one place up to another: those before x are filled
-
-pub record Filling (from to k : ℕ) (old new : List ℕ) (x : ℕ) : Type 0 where
-  pub begun : from ≤ x
-  pub long : length new ≡ length old
-  pub inside : (y : ℕ) → from ≤ y → y < x → get_or new y 0 ≡ k
-  pub before : (y : ℕ) → y < from → get_or new y 0 ≡ get_or old y 0
-  pub behind : (y : ℕ) → x ≤ y → get_or new y 0 ≡ get_or old y 0
-  pub ends : (x ≤ from) ⊎ (x ≤ to)
-
-pub filling : (from to k : ℕ) (old : List ℕ) → Filling from to k old old from
-filling from to k old = record { begun = omega arith; long = refl; inside = λ y a b. absurd (omega arith); before = λ y a. refl; behind = λ y a. refl; ends = inl (omega arith) }
-
-module _ {from to k : ℕ} {old new : List ℕ} {x : ℕ} (p : Filling from to k old new x) where
-  pub fill_on : x < to → to ≤ length old → Filling from to k old (set new x k) (x + 1)
-  fill_on l m =
-      record {
-        begun = omega (arith, p.begun);
-        long = length-set new x k ∙ p.long;
-        inside = λ y a b. go y a (ℕ_discrete y x) b;
-        before = λ y a. get_or-set_other new x y k 0 (λ e. omega (arith, p.begun, e)) ∙ p.before y a;
-        behind = λ y a. get_or-set_other new x y k 0 (λ e. omega (arith, e)) ∙ p.behind y (omega arith);
-        ends = inr (omega arith);
-      }
-    where
-      go : (y : ℕ) → from ≤ y → Dec (y ≡ x) → y < x + 1 → get_or (set new x k) y 0 ≡ k
-      go y a (yes e) b = ap (λ i. get_or (set new x k) i 0) e ∙ get_or-set_same new x k 0 (omega (arith, p.long))
-      go y a (no d) b = get_or-set_other new x y k 0 d ∙ p.inside y a (omega (arith, d))
-
-  pub filled : to ≤ x → Filled from to k old new
-  filled l = record { long = p.long; inside = λ y a b. p.inside y a (omega arith); before = p.before; behind = λ y a. rest y a p.ends }
-    where
-      rest : (y : ℕ) → to ≤ y → (x ≤ from) ⊎ (x ≤ to) → get_or new y 0 ≡ get_or old y 0
-      rest y a (inl e) = go (dec_lt y from)
-        where
-          go : Dec (y < from) → get_or new y 0 ≡ get_or old y 0
-          go (yes b) = p.before y b
-          go (no b) = p.behind y (omega arith)
-      rest y a (inr e) = p.behind y (omega arith)
-
 -- ---- the pass: k records are passed, and the entries before x are made
 
 pub record Indexing (rs : List (List ℕ)) (starts : List ℕ) (x k : ℕ) : Type 0 where
   pub inside : k ≤ length rs
   pub long : length starts ≡ places state_most + 1
   pub passed : (j : ℕ) → j < k → place_of (get_or rs j []) < x
+  pub reached : (x ≡ 0) ⊎ ((j : ℕ) × (j < k) × (x ≡ place_of (get_or rs j []) + 1))
   pub made : (y : ℕ) → y < x → Begins rs y (get_or starts y 0)
 
 pub indexing : (rs : List (List ℕ)) (starts : List ℕ) → length starts ≡ places state_most + 1 → Indexing rs starts 0 0
-indexing rs starts e = record { inside = omega arith; long = e; passed = λ j l. absurd (omega arith); made = λ y l. absurd (omega arith) }
+indexing rs starts e = record { inside = omega arith; long = e; passed = λ j l. absurd (omega arith); reached = inl refl; made = λ y l. absurd (omega arith) }
 
 module _ {rs : List (List ℕ)} {starts : List ℕ} {x k : ℕ} (p : Indexing rs starts x k) where
   -- what the entries from x on begin with: no record before the one at k reaches x, and those from it on reach z
@@ -150,13 +131,21 @@ module _ {rs : List (List ℕ)} {starts : List ℕ} {x k : ℕ} (p : Indexing rs
       go (no d) = rw (f.inside y (omega arith) l) (here (omega arith))
 
   -- all records are passed
-  pub indexed : {n : ℕ} {new : List ℕ} → length rs ≤ k → Filled x (places n + 1) k starts new → Indexed n rs new
-  indexed l f = record { each = λ y m. made_on f (λ j a b. absurd (omega (arith, a, b))) y (omega arith) }
+  pub indexed : {n m : ℕ} {new : List ℕ} → length rs ≤ k → m ≡ k → Filled x (places n + 1) m starts new → Indexed n rs new
+  indexed l e f = record { each = λ y m. made_on (rw e at f) (λ j a b. absurd (omega (arith, a, b))) y (omega arith) }
 
 module _ {w n : ℕ} {s : List ℕ} (wide : 3 ≤ w) (few : n ≤ state_most) (h : Lent w n s) {starts : List ℕ} {x k : ℕ} (p : Indexing (records w s) starts x k) (l : k < length (records w s)) where
   module _ {place : ℕ} (e : place ≡ place_of (get_or (records w s) k [])) where
     pub place-room : place + 1 ≤ places state_most
     place-room = omega (arith, e, symbol-small h k l, state-small h k l 0 (λ z. omega arith) (omega arith))
+
+    -- the entries made reach no further
+    pub before_place : x ≤ place + 1
+    before_place = go p.reached
+      where
+        go : (x ≡ 0) ⊎ ((j : ℕ) × (j < k) × (x ≡ place_of (get_or (records w s) j []) + 1)) → x ≤ place + 1
+        go (inl z) = omega arith
+        go (inr r) = omega (arith, e, r.1, r.2, rises wide h r.0 k (omega (arith, r.1)) l)
 
     pub index_on : {new : List ℕ} → Filled x (place + 1) k starts new → Indexing (records w s) new (place + 1) (k + 1)
     index_on f =
@@ -164,5 +153,16 @@ module _ {w n : ℕ} {s : List ℕ} (wide : 3 ≤ w) (few : n ≤ state_most) (h
           inside = omega arith;
           long = f.long ∙ p.long;
           passed = λ j m. omega (arith, e, rises wide h j k (omega arith) l);
+          reached = inr (k, omega arith, ap (λ v. v + 1) e);
           made = made_on p f (λ j a b. omega (arith, e, rises wide h k j a b));
         }
+
+-- the entries made are entries of the n states
+pub before_end : {w n : ℕ} {s starts : List ℕ} {x k : ℕ} → 3 ≤ w → Lent w n s → Indexing (records w s) starts x k → x ≤ places n + 1
+before_end {w} {n} {s} {starts} {x} {k} wide h p = go p.reached
+  where
+    go : (x ≡ 0) ⊎ ((j : ℕ) × (j < k) × (x ≡ place_of (get_or (records w s) j []) + 1)) → x ≤ places n + 1
+    go (inl z) = omega arith
+    go (inr r) =
+        let l : r.0 < length (records w s) = omega (arith, r.1, p.inside) in
+        omega (arith, r.2, symbol-small h r.0 l, state-small h r.0 l 0 (λ z. omega arith) (omega arith))

@@ -45,7 +45,7 @@ word-behind p g n = rw (add_assoc, get_or-append-add p g n 0, get_or-append-add 
 
 -- word k of words written one after the other
 word_gathered : (ds : List ℕ) (k : ℕ) → k < length ds → get_or ds k 0 < 65536 → word16 (concat_map bytes16 ds) (2 * k) ≡ get_or ds k 0
-unfolding word16 bytes16 concat_map
+unfolding word16 bytes16
 word_gathered [] k l h = absurd (omega arith)
 word_gathered (d ∷ ds) zero l h = omega arith
 word_gathered (d ∷ ds) (suc k) l h = rw (mul-suc 2 k, add-two, suc-add, suc-add) (word_gathered ds k (omega arith) h)
@@ -166,7 +166,7 @@ module _ (L : Limits) (b : List ℕ) (p : ReadPasses L b) where
       bytes_on b h (trailer b + 2 * k) (omega arith) ∙ ap (λ n. bytes16 (distance b k) ++ drop n b) e
 
   trailing : Bytes b → concat_map bytes16 (distance b 0 ∷ distance b 1 ∷ distance b 2 ∷ distance b 3 ∷ distance b 4 ∷ distance b 5 ∷ []) ≡ drop (trailer b) b
-  unfolding concat_map trailer
+  unfolding trailer
   trailing h =
       let next : ℕ → List ℕ → List ℕ = λ k e. bytes16 (distance b k) ++ e in
       let past : length b ≤ trailer b + 12 = omega arith in
@@ -208,7 +208,7 @@ pub record Lengths (t : Table) : Type 0 where
   pub bytes : length (bytes_of t) ≡ length (from_symbols t) + 12
 
 pub lengths : (t : Table) → Wide t → Lengths t
-unfolding from_returns from_calls from_internals from_states from_symbols bytes_of trailer_of concat_map bytes16
+unfolding from_returns from_calls from_internals from_states from_symbols bytes_of trailer_of bytes16
 lengths t w = record {
   returns = omega (arith, length-concat 4 t.returns w.returns);
   calls = omega (arith, length-concat 3 t.calls w.calls, length-append (concat t.calls) (from_returns t));
@@ -348,12 +348,11 @@ bytes-append (x ∷ p) q h k zero = h 0
 bytes-append (x ∷ p) q h k (suc i) = bytes-append p q (λ j. h (suc j)) k i
 
 bytes-concat : (rs : List (List ℕ)) → ((r : List ℕ) → Memᴰ r rs → Bytes r) → Bytes (concat rs)
-unfolding concat
 bytes-concat [] h i = omega arith
 bytes-concat (r ∷ rs) h i = bytes-append r (concat rs) (h r (Memᴰ.head refl)) (bytes-concat rs (λ s m. h s (Memᴰ.tail m))) i
 
 bytes-words : (ds : List ℕ) → Bytes (concat_map bytes16 ds)
-unfolding concat_map bytes16
+unfolding bytes16
 bytes-words [] i = omega arith
 bytes-words (d ∷ ds) zero = omega arith
 bytes-words (d ∷ ds) (suc zero) = omega arith

@@ -4,13 +4,14 @@ use mathlib.Core.Path.{◌≡◌, refl}
 use mathlib.Core.List.{List, [], ◌∷◌, ◌++◌, map}
 use Prim.Native.Nat.{ℕ}
 use lib.ListN.{replicate}
-use Rattle.lists.specs.Lists.{any, all, parts, concat_map, first_failed}
+use Rattle.lists.specs.Lists.{parts, concat_map, first_failed}
 use Rattle.limits.specs.declared.Limits.{Limits}
 use Rattle.limits.specs.Limits.{limits_fit}
 use Rattle.limits.specs.Limits.{standard}
 use Rattle.table_spec.specs.Limits.{longest}
 use Rattle.table_spec.specs.File.{word16, trailer, distance, version, start, records, table_of, bytes16}
-use Rattle.table_spec.specs.Reading.{length_fits, version_fits, distances_fit, counts_fit, state_byte_most, bytes_fit, is_initial, start_fits, record_fits, records_fit, before, ascend_from, ascend, order_fits, table_tests, read_number, starts_of, read_of, reading_values}
+use Rattle.refusals.specs.Refusals.{values_in}
+use Rattle.table_spec.specs.Reading.{length_fits, version_fits, distances_fit, counts_fit, state_byte_most, bytes_fit, is_initial, start_fits, record_fits, records_fit, before, ascend_from, ascend, order_fits, table_tests, read_number, starts_of, read_of, start_values}
 
 -- sections, the five distances and the version
 abbrev file : List ℕ → ℕ → ℕ → ℕ → ℕ → ℕ → ℕ → List ℕ
@@ -74,7 +75,7 @@ files =
     ∷ []
 
 numbers : map (read_number standard) files ≡ 0 ∷ 0 ∷ 1 ∷ 1 ∷ 2 ∷ 2 ∷ 2 ∷ 2 ∷ 3 ∷ 3 ∷ 3 ∷ 3 ∷ 3 ∷ 4 ∷ 4 ∷ 4 ∷ 5 ∷ 5 ∷ 0 ∷ 5 ∷ 6 ∷ 6 ∷ 7 ∷ 7 ∷ 8 ∷ 8 ∷ 8 ∷ []
-unfolding any all parts concat_map first_failed limits_fit longest word16 trailer distance version start records table_of bytes16 length_fits version_fits distances_fit counts_fit state_byte_most bytes_fit is_initial start_fits record_fits records_fit before ascend_from ascend order_fits table_tests read_number
+unfolding parts first_failed limits_fit longest word16 trailer distance version start records table_of bytes16 length_fits version_fits distances_fit counts_fit state_byte_most bytes_fit is_initial start_fits record_fits records_fit before ascend_from ascend order_fits table_tests read_number
 numbers = refl
 
 abbrev within : ℕ → ℕ → Limits
@@ -93,10 +94,10 @@ limited :
     ∷ read_number (within 4 3) T
     ∷ []
     ≡ 39 ∷ 39 ∷ 39 ∷ 39 ∷ 1 ∷ 2 ∷ 6 ∷ 4 ∷ 0 ∷ []
-unfolding any all parts concat_map first_failed limits_fit longest word16 trailer distance version start records table_of bytes16 length_fits version_fits distances_fit counts_fit state_byte_most bytes_fit is_initial start_fits record_fits records_fit before ascend_from ascend order_fits table_tests read_number
+unfolding parts first_failed limits_fit longest word16 trailer distance version start records table_of bytes16 length_fits version_fits distances_fit counts_fit state_byte_most bytes_fit is_initial start_fits record_fits records_fit before ascend_from ascend order_fits table_tests read_number
 limited = refl
 
 -- "Reading answers the five section starts."
-starts_of-T : reading_values (read_of standard T) ≡ 0 ∷ 3 ∷ 7 ∷ 16 ∷ 19 ∷ []
-unfolding any all parts concat_map first_failed limits_fit longest word16 trailer distance version start records table_of bytes16 length_fits version_fits distances_fit counts_fit state_byte_most bytes_fit is_initial start_fits record_fits records_fit before ascend_from ascend order_fits table_tests read_number starts_of read_of reading_values
+starts_of-T : values_in start_values (read_of standard T) ≡ 0 ∷ 3 ∷ 7 ∷ 16 ∷ 19 ∷ []
+unfolding parts first_failed limits_fit longest word16 trailer distance version start records table_of bytes16 length_fits version_fits distances_fit counts_fit state_byte_most bytes_fit is_initial start_fits record_fits records_fit before ascend_from ascend order_fits table_tests read_number starts_of read_of
 starts_of-T = refl

@@ -5,3 +5,5 @@ pub mod Order
 pub mod Facts
 pub mod Examples
 pub mod Open
+pub mod Chunks
+pub mod Wider

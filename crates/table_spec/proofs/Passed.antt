@@ -9,16 +9,20 @@ use native.Mathlib.Omega.{arith}
 use lib.ListN.{length}
 use lib.Dec.{eqb, leb}
 use borrow.Author.Tests.{eqb-true, leb-true, eq-eqb, le-leb}
+use Rattle.std.specs.Prelude.{Result}
 use Rattle.lists.specs.Lists.{any, all, first_failed}
 use Rattle.lists.proofs.Members.{and-true, and_of, all_true, all_of}
-use Rattle.lists.proofs.Refusals.{passed, passes, fails, failed_within, none_failed, no_test, says}
+use Rattle.lists.proofs.Refusals.{passed, passes, fails, failed_within, none_failed, no_test}
 use Rattle.limits.specs.Limits.{limits_fit, standard}
 use Rattle.limits.specs.declared.Limits.{Limits}
+use Rattle.refusals.specs.declared.Refusal.{Refusal}
+use Rattle.refusals.specs.declared.Refusal.TheVariants.{Length, Version, Distances, Counts, Bytes, NoInitial, Records, Order, LimitsRange}
+use Rattle.refusals.specs.Refusals.{Known}
+use Rattle.refusals.proofs.Numbers.{known_of, failed_known, none_known, answered_says}
 use Rattle.table_spec.specs.Limits.{longest, move_limit, return_limit}
 use Rattle.table_spec.specs.File.{Table, trailer, distance, version, table_of}
-use Rattle.table_spec.specs.Reading.{length_fits, version_fits, distances_fit, counts_fit, state_byte_most, bytes_fit, is_initial, start_fits, record_fits, records_fit, before, ascend_from, ascend, order_fits, table_tests, read_number, Readable, starts_of, read_of, reading_number, reading_values, ReadSays, WellFormed}
-use Rattle.table_spec.specs.declared.Reading.{Reading}
-use Rattle.table_spec.specs.declared.Reading.TheVariants.{Sections, Refused}
+use Rattle.table_spec.specs.Reading.{length_fits, version_fits, distances_fit, counts_fit, state_byte_most, bytes_fit, is_initial, start_fits, record_fits, records_fit, before, ascend_from, ascend, order_fits, table_tests, read_number, Readable, starts_of, read_of, start_values, ReadSays, WellFormed}
+use Rattle.table_spec.specs.declared.Starts.{Starts}
 
 -- ---- the first refusal that applies is given
 
@@ -28,7 +32,7 @@ twice = record { version = 1; symbols = []; states = 1 ∷ []; internals = (0 �
 
 -- 39 before 1, of no bytes at limits of no state; 7 before 8
 first_given : read_number (record { states = 0; symbols = 32 }) [] ∷ first_failed (table_tests standard twice) ∷ [] ≡ 39 ∷ 7 ∷ []
-unfolding any all first_failed limits_fit length_fits counts_fit state_byte_most bytes_fit is_initial start_fits record_fits records_fit before ascend_from ascend order_fits table_tests read_number
+unfolding first_failed limits_fit length_fits counts_fit state_byte_most bytes_fit is_initial start_fits record_fits records_fit before ascend_from ascend order_fits table_tests read_number
 first_given = refl
 
 -- ---- what it says that bytes are readable
@@ -221,10 +225,17 @@ read-within L b = go (limits_fit L) refl
     go true e = inr (subst (λ (k : ℕ). k ≤ 8) (sym (passes 39 _ e)) after)
     go false e = inl (fails 39 _ e)
 
+-- reading refuses by numbers that are known
+pub read-known : (L : Limits) (b : List ℕ) → Known (read_number L b)
+unfolding read_number table_tests
+read-known L b =
+    failed_known _ _ (known_of LimitsRange) (failed_known _ _ (known_of Length) (failed_known _ _ (known_of Version) (failed_known _ _ (known_of Distances) (failed_known _ _ (known_of Counts)
+    (failed_known _ _ (known_of Bytes) (failed_known _ _ (known_of NoInitial) (failed_known _ _ (known_of Records) (failed_known _ _ (known_of Order) none_known))))))))
+
 -- what reading answers, by its number and its values
 read_says : (L : Limits) (b : List ℕ) → ReadSays L b (read_of L b)
-unfolding read_of reading_number reading_values
-read_says L b = says _ (Sections (starts_of b)) (Refused (read_number L b)) reading_number reading_values refl refl refl refl
+unfolding read_of
+read_says L b = answered_says (starts_of b) start_values (read-known L b)
 
-pub read_promised : (L : Limits) (b : List ℕ) {r : Reading} → r ≡ read_of L b → (r ≡ read_of L b) × ReadSays L b r
+pub read_promised : (L : Limits) (b : List ℕ) {r : Result Starts Refusal} → r ≡ read_of L b → (r ≡ read_of L b) × ReadSays L b r
 read_promised L b e = (e, subst (ReadSays L b) (sym e) (read_says L b))

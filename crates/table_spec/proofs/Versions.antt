@@ -20,19 +20,7 @@ version-small {v} e = go (or-true (eqb v 1) (eqb v 2) e)
     go (inl h) = omega (arith, eqb-true v 1 h)
     go (inr h) = omega (arith, eqb-true v 2 h)
 
-pub version-first : {v : ℕ} → v ≡ 1 → true ≡ version_fits v
-unfolding version_fits
-version-first {v} e = sym (rw (eq-eqb v 1 e))
-
-pub version-later : {v : ℕ} → (v ≡ 1 → ⊥) → eqb v 2 ≡ version_fits v
-unfolding version_fits
-version-later {v} n = sym (rw (ne_eqb v 1 n))
-
 -- ---- 5: the limit of a state byte
-
-pub later-most : {v : ℕ} → v ≡ 2 → 63 ≡ state_byte_most v
-unfolding state_byte_most
-later-most {v} e = sym (rw (eq-eqb v 2 e, state_byte_most))
 
 pub other-most : {v : ℕ} → (v ≡ 2 → ⊥) → 3 ≡ state_byte_most v
 unfolding state_byte_most

@@ -1,14 +1,14 @@
 -- Reading a table: the refusals 39 and 1 to 8 in their order, and the answer (document 01, "The table file" and "Refused calls"; document 02,
 -- (v)). Assumes nothing.
-use Rattle.std.specs.Prelude.{◌≡◌, Bool, true, false, ◌&&◌, ◌||◌, List, [], ◌∷◌, ℕ, ◌-◌, ◌/◌, ◌%◌, length, get_or, eqb, ltb, leb}
+use Rattle.std.specs.Prelude.{◌≡◌, Bool, true, false, ◌&&◌, ◌||◌, Result, List, [], ◌∷◌, ℕ, ◌-◌, ◌/◌, ◌%◌, length, get_or, eqb, ltb, leb}
 use Rattle.lists.specs.Lists.{any, all, first_failed, Says}
 use Rattle.limits.specs.Limits.{limits_fit}
 use Rattle.limits.specs.declared.Limits.{Limits}
+use Rattle.refusals.specs.declared.Refusal.{Refusal}
+use Rattle.refusals.specs.Refusals.{answered, number_in, values_in}
 use Rattle.table_spec.specs.Limits.{longest, move_limit, return_limit}
 use Rattle.table_spec.specs.File.{Table, table_of, trailer, distance, version, start}
 use Rattle.table_spec.specs.declared.Starts.{Starts}
-use Rattle.table_spec.specs.declared.Reading.{Reading}
-use Rattle.table_spec.specs.declared.Reading.TheVariants.{Sections, Refused}
 
 -- 1: "under 12 or over 22,596 bytes", or what the longest file of the limits in force has
 unfoldable pub length_fits : Limits → List ℕ → Bool
@@ -100,21 +100,16 @@ unfoldable pub starts_of : List ℕ → Starts
 starts_of b = record { symbols = start b 0; states = start b 1; internals = start b 2; calls = start b 3; returns = start b 4 }
 
 -- the operation: no buffer is lent for writing
-unfoldable pub read_of : Limits → List ℕ → Reading
-read_of L b = elim (eqb (read_number L b) 0) [ true ↦ Sections (starts_of b) | false ↦ Refused (read_number L b) ]
+unfoldable pub read_of : Limits → List ℕ → Result Starts Refusal
+read_of L b = answered (read_number L b) (starts_of b)
 
--- an answer's number, 0 where it is none, and its values
-unfoldable pub reading_number : Reading → ℕ
-reading_number (Sections s) = 0
-reading_number (Refused k) = k
-
-unfoldable pub reading_values : Reading → List ℕ
-reading_values (Sections s) = s.symbols ∷ s.states ∷ s.internals ∷ s.calls ∷ s.returns ∷ []
-reading_values (Refused k) = []
+-- its values
+abbrev pub start_values : Starts → List ℕ
+start_values s = s.symbols ∷ s.states ∷ s.internals ∷ s.calls ∷ s.returns ∷ []
 
 -- the answer by its number and its values
-abbrev pub ReadSays : Limits → List ℕ → Reading → Type 0
-ReadSays L b r = Says (reading_number r) (reading_values r) (read_number L b) (reading_values (Sections (starts_of b)))
+abbrev pub ReadSays : Limits → List ℕ → Result Starts Refusal → Type 0
+ReadSays L b r = Says (number_in r) (values_in start_values r) (read_number L b) (start_values (starts_of b))
 
 -- a table whose bytes are readable: its version is 1 or 2, its records have their widths, and 39 and 4 to 8 do not apply
 pub record WellFormed (L : Limits) (t : Table) : Type 0 where

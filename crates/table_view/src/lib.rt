@@ -1,5 +1,4 @@
-// A read table as it is passed on: the lent bytes together with the five section starts. Few functions take or make the view, and each hands the bytes
-// and the starts to a function that does not. `part` has plain parameters and serves every caller.
+// A read table as it is passed on: the lent bytes together with the five section starts, and the five sections that these cut.
 // Nothing is asked of the starts: bytes that are not there are left out of a section.
 #![tactic(auto)]
 
@@ -11,7 +10,7 @@ ghost use Rattle.table_view.specs.Sections.{part_of, state_byte};
 use table_spec::Starts;
 
 // Which of the five sections.
-#[derive(Clone, Copy)]
+#[derive(Clone, Copy, Debug, PartialEq, Eq)]
 pub enum Section {
     Symbols,
     States,
@@ -25,6 +24,16 @@ pub enum Section {
 pub struct TableView<'a> {
     pub bytes: &'a [u8],
     pub starts: Starts,
+}
+
+// The five sections of a read table, as they are handed on: each is a part of the file.
+#[derive(Clone, Copy)]
+pub struct Sections<'a> {
+    pub symbols: &'a [u8],
+    pub states: &'a [u8],
+    pub internals: &'a [u8],
+    pub calls: &'a [u8],
+    pub returns: &'a [u8],
 }
 
 // The length of the "12-byte trailer".
@@ -108,4 +117,21 @@ pub fn part<'a>(table: &'a [u8], starts: Starts, which: Section) -> &'a [u8]
     ensures { result.now ≡ part_of table.now starts which }
 {
     view_part(view_of(table, starts), which)
+}
+
+// The sections of a read table, by its bytes and starts.
+pub fn sections_of<'a>(table: &'a [u8], starts: Starts) -> Sections<'a>
+    ensures symbols { result.symbols.now ≡ part_of table.now starts Section.Symbols }
+    ensures states { result.states.now ≡ part_of table.now starts Section.States }
+    ensures internals { result.internals.now ≡ part_of table.now starts Section.Internals }
+    ensures calls { result.calls.now ≡ part_of table.now starts Section.Calls }
+    ensures returns { result.returns.now ≡ part_of table.now starts Section.Returns }
+{
+    Sections {
+        symbols: part(table, starts, Section::Symbols),
+        states: part(table, starts, Section::States),
+        internals: part(table, starts, Section::Internals),
+        calls: part(table, starts, Section::Calls),
+        returns: part(table, starts, Section::Returns),
+    }
 }

@@ -15,12 +15,10 @@ use Rattle.table_write.specs.Tables.{keyed_table, trailer_from}
 use Rattle.table_write.proofs.Keys.{length_last}
 
 concat_map-concat : (f : ℕ → List ℕ) (ks : List ℕ) → concat_map f ks ≡ concat (map f ks)
-unfolding concat_map concat
 concat_map-concat f [] = refl
 concat_map-concat f (k ∷ ks) = ap (λ xs. f k ++ xs) (concat_map-concat f ks)
 
 pub concat_map-long : (w : ℕ) (f : ℕ → List ℕ) → ((k : ℕ) → length (f k) ≡ w) → (ks : List ℕ) → length (concat_map f ks) ≡ w * length ks
-unfolding concat_map
 concat_map-long w f h [] = sym (mul-zero w)
 concat_map-long w f h (k ∷ ks) = omega (arith, length-append (f k) (concat_map f ks), h k, concat_map-long w f h ks, mul-suc w (length ks))
 
@@ -75,7 +73,7 @@ module _ (v : ℕ) (y s i c r : List ℕ) where
       ∙ regroup y s (concat_map (record_of 3) i) (concat_map (record_of 3) c) (concat_map (record_of 4) r) behind_returns
 
   pub length-trailer : length behind_returns ≡ 12
-  unfolding trailer_from concat_map bytes16
+  unfolding trailer_from bytes16
   length-trailer = refl
 
   pub bytes-long : length (bytes_of keyed) ≡ length y + length s + 3 * length i + 3 * length c + 4 * length r + 12

@@ -1,7 +1,7 @@
 -- What is still to be written at each place of a writer, and a law for each way to write. One invariant for every writer. Assumes nothing.
 use mathlib.Core.Path.{◌≡◌, refl, sym, ap, ◌∙◌, subst}
-use mathlib.Core.List.{List, [], ◌++◌, append_assoc, append-nil}
-use Prim.Native.Nat.{ℕ, ◌+◌, ◌-◌, ◌<◌, ◌≤◌}
+use mathlib.Core.List.{List, [], ◌∷◌, ◌++◌, append_assoc, append-nil}
+use Prim.Native.Nat.{ℕ, ◌+◌, ◌-◌, ◌/◌, ◌%◌, ◌^◌, ◌<◌, ◌≤◌}
 use native.Mathlib.Omega.{arith}
 use native.Mathlib.Nat.{zero-add}
 use native.Mathlib.Numerals.{add-one}
@@ -78,6 +78,11 @@ pub last-part : (w k : ℕ) → w ≤ 4 → take (4 - (4 - w)) (drop (4 - w) (by
 unfolding record_of bytes32
 last-part w k h = take_all (4 - (4 - w)) (drop (4 - w) (bytes32 k)) (omega (arith, length-drop (4 - w) (bytes32 k)))
 
+-- the bytes of a 32-bit number as std says them
+pub be_bytes : {k : ℕ} {bs : List ℕ} → k < 2 ^ 32 → bs ≡ (k / 16777216 % 256) ∷ (k / 65536 % 256) ∷ (k / 256 % 256) ∷ (k % 256) ∷ [] → bs ≡ bytes32 k
+unfolding bytes32
+be_bytes {k} h e = let l : k / 16777216 % 256 ≡ k / 16777216 = omega arith in e ∙ λ i. l i ∷ (k / 65536 % 256) ∷ (k / 256 % 256) ∷ (k % 256) ∷ []
+
 pub length-word : (k : ℕ) → length (bytes16 k) ≡ 2
 unfolding bytes16
 length-word k = refl
@@ -91,7 +96,6 @@ listing f ks out h = record { rest = writing (concat_map f ks) out h }
 
 module _ {f : ℕ → List ℕ} {ks end out : List ℕ} {at i : ℕ} (l : Listing f ks end out at i) where
   key_on : i < length ks → concat_map f (drop i ks) ≡ f (get_or ks i 0) ++ concat_map f (drop (i + 1) ks)
-  unfolding concat_map
   key_on h = rw (add-one, drop-cons ks i 0 h)
 
   pub key-room : {w : ℕ} → ((k : ℕ) → length (f k) ≡ w) → i < length ks → at + w ≤ length out
@@ -101,5 +105,4 @@ module _ {f : ℕ → List ℕ} {ks end out : List ℕ} {at i : ℕ} (l : Listin
   key-listed h p e = record { rest = written (f (get_or ks i 0)) l.rest (key_on p) (h (get_or ks i 0)) e }
 
   pub listed : length ks ≤ i → out ≡ end
-  unfolding concat_map
   listed h = finished (subst (λ (xs : List ℕ). Writing (concat_map f xs) end out at) (drop_of_length-le ks h) l.rest)

@@ -1,9 +1,9 @@
 -- A table that is written from the keys of its records, its trailer, and the answer where bytes are to be written. Assumes nothing.
-use Rattle.std.specs.Prelude.{true, false, List, [], ◌∷◌, map, ℕ, ◌+◌, ◌*◌, length, leb}
+use Rattle.std.specs.Prelude.{true, false, Ok, Err, List, [], ◌∷◌, map, ℕ, ◌+◌, ◌*◌, length, leb}
 use Rattle.lists.specs.Lists.{concat_map, over}
 use Rattle.table_spec.specs.File.{Table, bytes16}
 use Rattle.quotient_spec.specs.Quotient.{QuotientDone}
-use Rattle.quotient_spec.specs.declared.Written.TheVariants.{Length, Refused}
+use Rattle.refusals.specs.declared.Refusal.TheVariants.{OutputLength}
 use Rattle.table_write.specs.Keys.{record_of}
 
 -- a table of a version whose records are given by their keys
@@ -25,6 +25,6 @@ trailer_from v y s i c r = concat_map bytes16 ((y + (s + (3 * i + (3 * c + 4 * r
 -- the answer and the output where these bytes are to be written: "21 output short"
 unfoldable pub written_for : List ℕ → List ℕ → QuotientDone
 written_for bytes out = elim (leb (length bytes) (length out)) [
-  | true ↦ record { answer = Length (length bytes); out = over bytes out }
-  | false ↦ record { answer = Refused 21; out = out }
+  | true ↦ record { answer = Ok (length bytes); out = over bytes out }
+  | false ↦ record { answer = Err OutputLength; out = out }
 ]

@@ -20,12 +20,7 @@ fn put_key(width: usize, key: u32, out: &mut [u8])
     requires { (width ≤ 4) × (width ≤ length out.old) }
     ensures { out.new ≡ over (record_of width key) out.old }
 {
-    let bytes = [
-        (key / 16777216) as u8,
-        (key / 65536 % 256) as u8,
-        (key / 256 % 256) as u8,
-        (key % 256) as u8,
-    ];
+    let bytes = key.to_be_bytes();
     let from = 4 - width;
     put_bytes(&bytes[from..], out);
 }
@@ -36,11 +31,9 @@ fn put_keys(width: usize, keys: &[u32], out: &mut [u8])
     ensures { out.new ≡ over (concat_map (record_of width) keys.now) out.old }
 {
     let mut at: usize = 0;
-    let mut i: usize = 0;
-    'keys: while i < keys.len() {
-        put_key(width, keys[i], &mut out[at..]);
+    'keys: for key in keys {
+        put_key(width, *key, &mut out[at..]);
         at += width;
-        i += 1;
     }
 }
 
@@ -59,11 +52,9 @@ fn put_words(words: &[usize], out: &mut [u8])
     ensures { out.new ≡ over (concat_map bytes16 words.now) out.old }
 {
     let mut at: usize = 0;
-    let mut i: usize = 0;
-    'words: while i < words.len() {
-        put_word(words[i], &mut out[at..]);
+    'words: for word in words {
+        put_word(*word, &mut out[at..]);
         at += 2;
-        i += 1;
     }
 }
 

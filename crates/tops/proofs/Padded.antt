@@ -2,7 +2,7 @@
 use mathlib.Core.Path.{◌≡◌, refl, sym, ap, ◌∙◌}
 use mathlib.Core.Bool.{Bool, true, false, ◌&&◌}
 use mathlib.Core.List.{List, [], ◌∷◌, ◌++◌, Memᴰ}
-use Prim.Native.Nat.{ℕ, zero, suc, ◌+◌, ◌-◌, ◌*◌, ◌^◌, ◌<◌}
+use Prim.Native.Nat.{ℕ, zero, suc, ◌-◌, ◌*◌, ◌^◌, ◌<◌}
 use native.Mathlib.Omega.{arith}
 use lib.ListN.{length, get_or, set, take, replicate, length-map}
 use lib.Seq.{set-append_left}
@@ -133,8 +133,8 @@ words-made {s} {i} {c} {r} h e f = f ∙ ap (rounds (suc (length s * suc (length
 -- .. and the answer made of them
 pub answer-made :
     {s i c r words : List ℕ} {found : ℕ} → StateParts s i c r → words ≡ top_words (sectioned 0 [] s i c r) → found ≡ ones_over 64 (take (length s) words)
-    → record { number = 0; words = words; found = found } ≡ tops_found (sectioned 0 [] s i c r)
+    → record { words = words; found = found } ≡ tops_found (sectioned 0 [] s i c r)
 unfolding tops_found sectioned
 answer-made {s} h e f =
     let n = f ∙ ap (λ (ws : List ℕ). ones_over 64 (take (length s) ws)) e ∙ ones_first (sections_bounded h) 64 ∙ count_ones (sections_bounded h) 64 (omega arith) in
-    λ j. record { number = 0; words = e j; found = n j }
+    λ j. record { words = e j; found = n j }

@@ -6,15 +6,17 @@ use Prim.Native.Nat.{ℕ, zero, suc, ◌-◌, ◌*◌, ◌%◌}
 use native.Mathlib.Omega.{arith}
 use lib.ListN.{length, replicate}
 use lib.Seq.{slice}
-use borrow.Author.Tests.{eq-eqb, ne_eqb}
+use Rattle.std.specs.Prelude.{Result, Ok, Err}
 use Rattle.lists.specs.Lists.{same}
 use Rattle.lists.specs.Bits.{ones_over}
 use Rattle.limits.specs.declared.Limits.{Limits}
+use Rattle.refusals.specs.declared.Refusal.{Refusal}
+use Rattle.refusals.specs.Refusals.{number_of}
+use Rattle.refusals.proofs.Numbers.{refused_by, ok_by}
 use Rattle.limits.specs.Limits.{state_most}
 use Rattle.table_spec.specs.File.{Table, trailer, start, table_of}
 use Rattle.table_spec.specs.Reading.{read_number, Readable, read_of}
 use Rattle.table_spec.specs.declared.Starts.{Starts}
-use Rattle.table_spec.specs.declared.Reading.TheVariants.{Sections as SectionsAt, Refused as RefusedBy}
 use Rattle.table_spec.proofs.Passed.{ReadPasses, read-passed}
 use Rattle.table_spec.proofs.Bytes.{length-between, length_from, read_well_formed}
 use Rattle.table_spec.proofs.Facts.{internals-fit, calls-fit, returns-fit, most-states}
@@ -27,7 +29,6 @@ use Rattle.tops_spec.specs.Demands.{TopsExact}
 use Rattle.tops_spec.specs.declared.TopWords.{TopWords}
 use Rattle.tops_spec.proofs.Theorems.{tops-exact}
 use Rattle.tops.specs.Steps.{StateParts, tops_found, examined_of}
-use Rattle.tops.specs.declared.Examined.{Examined}
 
 -- ---- the tops do not look at the version and the symbols
 
@@ -51,7 +52,7 @@ module _ (states : List ℕ) (internals calls returns : List (List ℕ)) where
 
   pub found_alike : (y z : ℕ × List ℕ) → tops_found (headed y) ≡ tops_found (headed z)
   unfolding tops_found top_count
-  found_alike y z = let e = words-alike y z in λ i. record { number = 0; words = e i; found = ones_over (suc state_most) (e i) }
+  found_alike y z = let e = words-alike y z in λ i. record { words = e i; found = ones_over (suc state_most) (e i) }
 
 -- ---- the sections
 
@@ -90,35 +91,40 @@ module _ (b : List ℕ) {s : Starts} (h : HasRead b s) {states internals calls r
 -- ---- the answer with the starts
 
 module _ (L : Limits) (b : List ℕ) where
-  pub read-handed : {s : Starts} → SectionsAt s ≡ read_of L b → HasRead b s
+  pub read-handed : {s : Starts} → Ok s ≡ read_of L b → HasRead b s
   read-handed {s} e = record { limits = L; known = read_as L b s (sym e) }
 
-  pub examined : {s : Starts} {t : TopWords} → SectionsAt s ≡ read_of L b → t ≡ tops_found (table_of b) → record { number = 0; starts = s; words = t.words; found = t.found } ≡ examined_of L b
+  -- what is handed on are its starts and tops
+  pub examined : {s : Starts} {t : TopWords} → Ok s ≡ read_of L b → t ≡ tops_found (table_of b) → Ok (record { starts = s; words = t.words; found = t.found }) ≡ examined_of L b
   unfolding examined_of tops_found
   examined {s} {t} e f =
       let r = read_as L b s (sym e) in
-      rw (eq-eqb (read_number L b) 0 r.readable, examined_of) (λ i. record { number = 0; starts = r.starts i; words = (f i).words; found = (f i).found })
+      (λ i. Ok (record { starts = r.starts i; words = (f i).words; found = (f i).found })) ∙ ok_by _ r.readable
 
-  pub examined_refused :
-      {k : ℕ} → RefusedBy k ≡ read_of L b
-      → record { number = k; starts = record { symbols = 0; states = 0; internals = 0; calls = 0; returns = 0 }; words = replicate state_most 0; found = 0 } ≡ examined_of L b
+  pub examined_err : {r : Refusal} → read_number L b ≡ number_of r → Err r ≡ examined_of L b
   unfolding examined_of
-  examined_refused {k} e =
-      let r = read_refused L b k (sym e) in
-      rw (ne_eqb (read_number L b) 0 (λ z. r.1 (sym r.0 ∙ z)), examined_of) (λ i. record { number = sym r.0 i; starts = record { symbols = 0; states = 0; internals = 0; calls = 0; returns = 0 }; words = replicate state_most 0; found = 0 })
+  examined_err e = refused_by _ e
+
+  pub examined_refused : {r : Refusal} → Err r ≡ read_of L b → read_number L b ≡ number_of r
+  examined_refused {r} e = read_refused L b r (sym e)
 
   -- the tops alone
-  pub tops-answer : {s : Starts} {t : TopWords} → SectionsAt s ≡ read_of L b → t ≡ tops_found (table_of b) → (t ≡ tops_of L b) × TopsExact L b t
-  unfolding tops_of tops_found
-  tops-answer {s} {t} e f =
-      let g : t ≡ tops_of L b = rw (eq-eqb (read_number L b) 0 (read_as L b s (sym e)).readable, tops_of) f in
-      (g, subst (λ (t : TopWords). TopsExact L b t) (sym g) (tops-exact L b))
+  pub tops-promised : {r : Result TopWords Refusal} → r ≡ tops_of L b → (r ≡ tops_of L b) × TopsExact L b r
+  tops-promised e = (e, subst (TopsExact L b) (sym e) (tops-exact L b))
 
-  pub tops_refused :
-      {k : ℕ} → RefusedBy k ≡ read_of L b
-      → (record { number = k; words = replicate state_most 0; found = 0 } ≡ tops_of L b) × TopsExact L b (record { number = k; words = replicate state_most 0; found = 0 })
+  pub tops-answer : {x : TopWords} → Readable L b → x.words ≡ top_words (table_of b) → x.found ≡ top_count (table_of b) → Ok x ≡ tops_of L b
   unfolding tops_of
-  tops_refused {k} e =
-      let r = read_refused L b k (sym e) in
-      let g : record { number = k; words = replicate state_most 0; found = 0 } ≡ tops_of L b = rw (ne_eqb (read_number L b) 0 (λ z. r.1 (sym r.0 ∙ z)), tops_of) (λ i. record { number = sym r.0 i; words = replicate state_most 0; found = 0 }) in
-      (g, subst (λ (t : TopWords). TopsExact L b t) (sym g) (tops-exact L b))
+  tops-answer h e f = (λ i. Ok (record { words = e i; found = f i })) ∙ ok_by _ h
+
+  pub tops_refused : {r : Refusal} → read_number L b ≡ number_of r → Err r ≡ tops_of L b
+  unfolding tops_of
+  tops_refused e = refused_by _ e
+
+  -- of a table as it is read
+  pub tops-read_answer : {s : Starts} {t : TopWords} → Ok s ≡ read_of L b → t ≡ tops_found (table_of b) → Ok t ≡ tops_of L b
+  unfolding tops_of tops_found
+  tops-read_answer {s} {t} e f = ap {B = Result TopWords Refusal} (λ x. Ok x) f ∙ ok_by _ (read_as L b s (sym e)).readable
+
+  pub tops-unread : {r : Refusal} → Err r ≡ read_of L b → Err r ≡ tops_of L b
+  unfolding tops_of
+  tops-unread {r} e = refused_by _ (read_refused L b r (sym e))

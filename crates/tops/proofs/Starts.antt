@@ -1,48 +1,35 @@
 -- What is still to come at each turn of the loops. Assumes nothing.
-use mathlib.Core.Path.{◌≡◌, sym, ap, ◌∙◌}
-use mathlib.Core.List.{List, [], ◌∷◌, ◌++◌, append-nil, map, map-append}
+use mathlib.Core.Path.{◌≡◌, sym, ap, ◌∙◌, subst}
+use mathlib.Core.List.{List, [], ◌∷◌, ◌++◌, map, map-append}
 use Prim.Native.Nat.{ℕ, suc, ◌+◌, ◌-◌, ◌<◌, ◌≤◌}
 use native.Mathlib.Omega.{arith}
 use native.Mathlib.Numerals.{add-one}
-use lib.ListN.{length, get_or, take, drop, set, replicate, length-map, length-append, length-replicate, length-drop, drop_of_length-le}
+use native.Mathlib.Decide.{dec_lt}
+use Rattle.std.proofs.lemmas.List.{ext_get_or, get_or-replicate}
+use lib.ListN.{length, get_or, take, set, replicate, length-map, length-append, length-replicate}
 use lib.Seq.{length-take-le, take-suc, take_all, append_snoc, set_at}
-use borrow.Author.Fill.{fill_none, fill_more}
 use Rattle.limits.specs.Limits.{state_most}
 use Rattle.table_view.specs.Sections.{sectioned}
 use Rattle.tops_spec.specs.Tops.{start_words}
 use Rattle.tops.specs.First.{start_word}
 
--- ---- the words cleared
-
-pub record Clearing (old words : List ℕ) (q : ℕ) : Type 0 where
-  pub inside : q ≤ state_most
-  pub long : length old ≡ state_most
-  pub meets : words ≡ replicate q 0 ++ drop q old
-
-pub clearing : (old : List ℕ) → length old ≡ state_most → Clearing old old 0
-clearing old h = record { inside = omega arith; long = h; meets = fill_none old 0 }
-
-module _ {old words : List ℕ} {q : ℕ} (p : Clearing old words q) where
-  pub clear_on : q < state_most → Clearing old (set words q 0) (q + 1)
-  clear_on h = record { inside = omega arith; long = p.long; meets = ap (λ ws. set ws q 0) p.meets ∙ fill_more q 0 old (omega (arith, p.long)) }
-
-  pub clear_long : length words ≡ length old
-  clear_long = ap length p.meets ∙ length-append (replicate q 0) (drop q old) ∙ (λ i. length-replicate {A = ℕ} q 0 i + length-drop q old i) ∙ omega (arith, p.inside, p.long)
-
-  pub cleared : state_most ≤ q → words ≡ replicate state_most 0
-  cleared h =
-      let e : q ≡ state_most = omega (arith, p.inside) in
-      p.meets ∙ (λ i. replicate {A = ℕ} (e i) 0 ++ drop (e i) old) ∙ rw (drop_of_length-le old {i = state_most} (omega (arith, p.long)), append-nil (replicate {A = ℕ} state_most 0))
-
 -- ---- the words at the start
+
+-- all words are zero, as filling them leaves them
+pub all_zero : (ws : List ℕ) (n : ℕ) → length ws ≡ n → ((k d : ℕ) → 0 ≤ k → k < n - 1 → get_or ws k d ≡ 0) → (0 < n → (d : ℕ) → get_or ws (n - 1) d ≡ 0) → ws ≡ replicate n 0
+all_zero ws n l first last = ext_get_or 0 ws (replicate n 0) (l ∙ sym (length-replicate n 0)) (λ k h. go k h (dec_lt k (n - 1)) ∙ sym (get_or-replicate n k 0 0 (omega arith)))
+  where
+    go : (k : ℕ) → k < length ws → Dec (k < n - 1) → get_or ws k 0 ≡ 0
+    go k h (yes b) = first k 0 (omega arith) b
+    go k h (no b) = let e : n - 1 ≡ k = omega arith in subst (λ i. get_or ws i 0 ≡ 0) e (last (omega arith) 0)
 
 pub record Starting (s words : List ℕ) (q : ℕ) : Type 0 where
   pub few : length s ≤ state_most
   pub inside : q ≤ length s
   pub meets : words ≡ map start_word (take q s) ++ replicate (state_most - q) 0
 
-pub equal_range : (s : List ℕ) {words : List ℕ} → length s ≤ state_most → words ≡ replicate state_most 0 → Starting s words 0
-equal_range s h e = record { few = h; inside = omega arith; meets = e }
+pub starting : (s : List ℕ) {words : List ℕ} → length s ≤ state_most → words ≡ replicate state_most 0 → Starting s words 0
+starting s h e = record { few = h; inside = omega arith; meets = e }
 
 module _ {s words : List ℕ} {q : ℕ} (p : Starting s words q) where
   zeros : q < length s → replicate {A = ℕ} (state_most - q) 0 ≡ 0 ∷ replicate (state_most - (q + 1)) 0

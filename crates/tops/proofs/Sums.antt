@@ -9,6 +9,8 @@ use native.Mathlib.Decide.{ℕ_discrete, dec_lt}
 use lib.ListN.{length, get_or, replicate, length-append, length-map, length-replicate, get_or-eq_default}
 use lib.Seq.{get_or-set_same, get_or-set_other}
 use lib.Dec.{eqb}
+use Rattle.std.specs.List.{sum}
+use Rattle.std.proofs.lemmas.List.Sums.{sum_by-cons}
 use lib.Pow.{pow-lt}
 use lib.Bits.{bit_or, or_add_and, and_le_r, or_lt}
 use Rattle.lists.specs.Lists.{same}
@@ -21,9 +23,9 @@ use Rattle.table_view.specs.Sections.{sectioned}
 use Rattle.tops_spec.specs.Tops.{add, live, by_internals, by_calls, by_returns, round, start_words}
 use Rattle.tops_spec.proofs.Bounded.{Bounded}
 use Rattle.tops_spec.proofs.Walks.{internal_step, call_step, return_step, round-walk, walk-keeps, length-add}
-use Rattle.tops.specs.Steps.{StateParts, Small, total, sum_of}
+use Rattle.tops.specs.Steps.{StateParts, Small}
 use Rattle.tops.proofs.Padded.{sections_bounded}
-use Rattle.tops.proofs.Loops.{Resting, rest_on, rested}
+use Rattle.tops.proofs.Loops.{Resting, rest_on, rested, sum_most}
 
 or-more : (a b : ℕ) → a ≤ bit_or a b
 or-more a b = omega (arith, or_add_and a b, and_le_r a b)
@@ -81,20 +83,20 @@ module _ (f : List ℕ) where
 
 -- ---- the sum of lists of which one is nowhere less
 
-sum_more : (f g : List ℕ) → length g ≡ length f → ((q : ℕ) → get_or f q 0 ≤ get_or g q 0) → sum_of f ≤ sum_of g
-unfolding total
+sum_more : (f g : List ℕ) → length g ≡ length f → ((q : ℕ) → get_or f q 0 ≤ get_or g q 0) → sum f ≤ sum g
 sum_more [] [] l h = omega arith
 sum_more [] (y ∷ g) l h = absurd (omega arith)
 sum_more (x ∷ f) [] l h = absurd (omega arith)
-sum_more (x ∷ f) (y ∷ g) l h = omega (arith, h 0, sum_more f g (omega arith) (λ q. h (suc q)))
+sum_more (x ∷ f) (y ∷ g) l h = omega (arith, h 0, sum_more f g (omega arith) (λ q. h (suc q)), sum_by-cons (λ w. w) x f, sum_by-cons (λ w. w) y g)
 
-sum_tells : (f g : List ℕ) → length g ≡ length f → ((q : ℕ) → get_or f q 0 ≤ get_or g q 0) → sum_of g ≡ sum_of f → g ≡ f
-unfolding total
+sum_tells : (f g : List ℕ) → length g ≡ length f → ((q : ℕ) → get_or f q 0 ≤ get_or g q 0) → sum g ≡ sum f → g ≡ f
 sum_tells [] [] l h e = refl
 sum_tells [] (y ∷ g) l h e = absurd (omega arith)
 sum_tells (x ∷ f) [] l h e = absurd (omega arith)
 sum_tells (x ∷ f) (y ∷ g) l h e =
     let m = sum_more f g (omega arith) (λ q. h (suc q)) in
+    let a = sum_by-cons (λ w. w) x f in
+    let b = sum_by-cons (λ w. w) y g in
     let here : y ≡ x = omega (arith, h 0) in
     let rest = sum_tells f g (omega arith) (λ q. h (suc q)) (omega arith) in
     λ i. here i ∷ rest i
@@ -104,18 +106,22 @@ module _ {s i c r f g : List ℕ} (h : StateParts s i c r) (small : Small f) (e 
   small_on = rw e (round-grown f (sections_bounded h) small).small
 
   -- a round that leaves the sum changes nothing; one that does not, does
-  pub sum_same : sum_of g ≡ sum_of f → same g f ≡ true
+  pub sum_same : sum g ≡ sum f → same g f ≡ true
   sum_same k =
       let p = round-grown f (sections_bounded h) small in
       let d = sum_tells f (round (sectioned 0 [] s i c r) f) p.wide p.more (rw e at k) in
       rw (e, d) (same_refl f)
 
-  pub sum-other : sum_of g ≢ sum_of f → same g f ≡ false
+  pub sum-other : sum g ≢ sum f → same g f ≡ false
   sum-other k = go (same g f) refl
     where
       go : (b : Bool) → same g f ≡ b → same g f ≡ false
       go false d = d
-      go true d = absurd (k (ap sum_of (same_true g f d)))
+      go true d = absurd (k (ap sum (same_true g f d)))
+
+-- the sum of small words fits a word of the machine
+pub sum_fits : {ws : List ℕ} → Small ws → sum ws < 2 ^ 64
+sum_fits {ws} s = let m = sum_most (λ w. w) (2 ^ suc state_most) ws (λ q. let h = s.each q in omega arith) in omega (arith, m, s.long)
 
 -- ---- the words at the start are small
 
@@ -137,17 +143,17 @@ start_small s few e = record { long = ap length e ∙ long; each = λ q. rw (e, 
 
 -- ---- the rounds, with the sum of the words
 
-pub record SumKnown (t : Table) (end words : List ℕ) (left sum : ℕ) : Type 0 where
+pub record SumKnown (t : Table) (end words : List ℕ) (left was : ℕ) : Type 0 where
   pub rest : Resting t end words left
   pub small : Small words
-  pub summed : sum ≡ sum_of words
+  pub summed : was ≡ sum words
 
-module _ {s i c r end words new : List ℕ} {left sum : ℕ} (p : SumKnown (sectioned 0 [] s i c r) end words left sum) (h : StateParts s i c r) (l : 0 < left) (e : new ≡ round (sectioned 0 [] s i c r) words) where
+module _ {s i c r end words new : List ℕ} {left was : ℕ} (p : SumKnown (sectioned 0 [] s i c r) end words left was) (h : StateParts s i c r) (l : 0 < left) (e : new ≡ round (sectioned 0 [] s i c r) words) where
   pub told_small : Small new
   told_small = small_on h p.small e
 
-  pub told_on : {told : ℕ} → told ≡ sum_of new → told ≢ sum → SumKnown (sectioned 0 [] s i c r) end new (left - 1) told
-  told_on k n = record { rest = rest_on p.rest l e (sum-other h p.small e (λ d. n (k ∙ d ∙ sym p.summed))); small = told_small; summed = k }
+  pub told_on : {told less : ℕ} → less ≡ left - 1 → told ≡ sum new → told ≢ was → SumKnown (sectioned 0 [] s i c r) end new less told
+  told_on m k n = record { rest = rest_on p.rest l m e (sum-other h p.small e (λ d. n (k ∙ d ∙ sym p.summed))); small = told_small; summed = k }
 
-  pub told_end : {told : ℕ} → told ≡ sum_of new → told ≡ sum → new ≡ end
+  pub told_end : {told : ℕ} → told ≡ sum new → told ≡ was → new ≡ end
   told_end k n = rested p.rest l e (sum_same h p.small e (sym k ∙ n ∙ p.summed))

@@ -1,14 +1,18 @@
 -- The sections of a table that the tops are worked out from, as parts of the file, and what is handed on with them. Assumes nothing.
-use Rattle.std.specs.Prelude.{◌≡◌, ◌≢◌, true, false, ℕ, suc, ◌+◌, ◌%◌, ◌^◌, ◌<◌, ◌≤◌, length, get_or, replicate, eqb}
-use mathlib.Core.List.{List, [], ◌∷◌, Memᴰ}
+use Rattle.std.specs.Prelude.{◌≡◌, ◌≢◌, true, false, Result, ℕ, suc, ◌%◌, ◌^◌, ◌<◌, ◌≤◌, length, get_or, eqb, []}
+use mathlib.Core.List.{List, Memᴰ}
 use Rattle.lists.specs.Bits.{has}
-use Rattle.limits.specs.declared.Limits.{Limits}
 use Rattle.limits.specs.Limits.{state_most}
+use Rattle.limits.specs.declared.Limits.{Limits}
+use Rattle.refusals.specs.declared.Refusal.{Refusal}
+use Rattle.refusals.specs.Refusals.{answered}
 use Rattle.table_spec.specs.File.{Table, records, table_of}
 use Rattle.table_spec.specs.Reading.{read_number, starts_of}
+use Rattle.table_spec.specs.declared.Starts.{Starts}
+use Rattle.table_view.specs.Sections.{sectioned}
+use Rattle.table_view.specs.declared.Sections.{Sections}
 use Rattle.tops_spec.specs.declared.TopWords.{TopWords}
 use Rattle.tops_spec.specs.Tops.{add, by_internals, by_calls, by_returns, top_words, top_count}
-use Rattle.tops.specs.declared.Examined.{Examined}
 use Rattle.tops.specs.declared.Kind.{Kind}
 use Rattle.tops.specs.declared.Kind.TheVariants.{Internal, Call, Return}
 
@@ -42,27 +46,28 @@ pub record StateParts (states internals calls returns : List ℕ) : Type 0 where
   pub calls-whole : StateRecords 3 (length states) calls
   pub returns-whole : StateRecords 4 (length states) returns
 
+-- the same of the sections of a table, and the table that they are: nothing is looked at but its states and records
+abbrev pub StateSections : Sections → Type 0
+StateSections s = StateParts s.states.now s.internals.now s.calls.now s.returns.now
+
+abbrev pub table_in : Sections → Table
+table_in s = sectioned 0 [] s.states.now s.internals.now s.calls.now s.returns.now
+
 -- a word for each possible state, none with a bit past bottom's
 pub record Small (f : List ℕ) : Type 0 where
   pub long : length f ≡ state_most
   pub each : (q : ℕ) → get_or f q 0 < 2 ^ suc state_most
 
--- the sum of what f gives for the words
-unfoldable pub total : (ℕ → ℕ) → List ℕ → ℕ
-total f [] = 0
-total f (w ∷ ws) = f w + total f ws
-
--- their own sum
-abbrev pub sum_of : List ℕ → ℕ
-sum_of ws = total (λ w. w) ws
-
 -- the answer of a table that was read
 unfoldable pub tops_found : Table → TopWords
-tops_found t = record { number = 0; words = top_words t; found = top_count t }
+tops_found t = record { words = top_words t; found = top_count t }
 
--- the answer that other operations go on with: the section starts and the tops, or the refusal's number and zeros
-unfoldable pub examined_of : Limits → List ℕ → Examined
-examined_of L b = elim (eqb (read_number L b) 0) [
-  | true ↦ record { number = 0; starts = starts_of b; words = top_words (table_of b); found = top_count (table_of b) }
-  | false ↦ record { number = read_number L b; starts = record { symbols = 0; states = 0; internals = 0; calls = 0; returns = 0 }; words = replicate state_most 0; found = 0 }
-]
+-- what other operations go on with: the section starts and the tops
+pub record Examination : Type 0 where
+  pub starts : Starts
+  pub words : List ℕ
+  pub found : ℕ
+
+-- "is lent the whole file and reads it first": those of a readable table, else the refusal
+unfoldable pub examined_of : Limits → List ℕ → Result Examination Refusal
+examined_of L b = answered (read_number L b) (record { starts = starts_of b; words = top_words (table_of b); found = top_count (table_of b) })

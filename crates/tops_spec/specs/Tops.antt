@@ -1,10 +1,12 @@
 -- Reachable tops as words, and which returns are live (document 01, "Runs and reachable tops"). Assumes nothing.
-use Rattle.std.specs.Prelude.{Bool, true, false, List, [], ◌∷◌, ◌++◌, map, ℕ, zero, suc, ◌-◌, ◌*◌, ◌^◌, get_or, set, replicate, eqb}
+use Rattle.std.specs.Prelude.{Bool, true, false, Result, List, [], ◌∷◌, ◌++◌, map, ℕ, zero, suc, ◌-◌, ◌*◌, ◌^◌, get_or, set, replicate, eqb}
 use Rattle.std.proofs.Math.Option.{Option, none, some}
 use Rattle.std.specs.Int.Bits.{bit_or}
 use Rattle.lists.specs.Lists.{filter, same}
 use Rattle.lists.specs.Bits.{has, ones_over}
 use Rattle.limits.specs.declared.Limits.{Limits}
+use Rattle.refusals.specs.declared.Refusal.{Refusal}
+use Rattle.refusals.specs.Refusals.{answered}
 use Rattle.limits.specs.Limits.{state_most}
 use Rattle.table_spec.specs.File.{Table, table_of}
 use Rattle.table_spec.specs.Reading.{is_initial, read_number}
@@ -64,15 +66,12 @@ unfoldable pub top_count : Table → ℕ
 top_count t = ones_over (suc state_most) (top_words t)
 
 -- the operation
-unfoldable pub tops_of : Limits → List ℕ → TopWords
-tops_of L b = elim (eqb (read_number L b) 0) [
-  | true ↦ record { number = 0; words = top_words (table_of b); found = top_count (table_of b) }
-  | false ↦ record { number = read_number L b; words = replicate state_most 0; found = 0 }
-]
+unfoldable pub tops_of : Limits → List ℕ → Result TopWords Refusal
+tops_of L b = answered (read_number L b) (record { words = top_words (table_of b); found = top_count (table_of b) })
 
--- an answer's values: the words, then the number of tops found; none where its number is not 0
-unfoldable pub tops_values : TopWords → List ℕ
-tops_values r = elim (eqb r.number 0) [ true ↦ r.words ++ (r.found ∷ []) | false ↦ [] ]
+-- an answer's values: the words, then the number of tops found
+abbrev pub tops_values : TopWords → List ℕ
+tops_values r = r.words ++ (r.found ∷ [])
 
 -- the live returns, in file order
 unfoldable pub live_returns : Table → List (List ℕ)

@@ -10,7 +10,7 @@ use Rattle.uses_spec.specs.Uses.{line_of, lines_of, states_fit}
 
 -- 33 is told by the records
 pub states_tests : (n : ℕ) (s : List ℕ) → states_fit n s ≡ all (λ r. ltb (line_of r).state n) (records 5 s)
-unfolding states_fit lines_of all
+unfolding states_fit lines_of
 states_tests n s = go (records 5 s)
   where
     go : (rs : List (List ℕ)) → all (λ l. ltb l.state n) (map line_of rs) ≡ all (λ r. ltb (line_of r).state n) rs

@@ -2,11 +2,12 @@
 ghost use Rattle.std.specs.Prelude.{◌≡◌, ◌≤◌, length};
 ghost use Rattle.lists.specs.Lists.{first_failed};
 ghost use Rattle.uses_spec.specs.Uses.{line_of, states_fit, lines_tests};
+ghost use Rattle.refusals.specs.Refusals.{tested};
 
-use bits::{long, wide};
+use refusals::Refusal;
 
 // The bytes of a line: "a state (one byte) and a use count (32 bits, little-endian)".
-const LINE: usize = 5;
+pub const LINE: usize = 5;
 
 // "over 65,536 lines"
 const LINES: usize = 65536;
@@ -16,7 +17,7 @@ pub fn state_in(line: &[u8]) -> usize
     requires { length line.now ≡ 5 }
     ensures { result ≡ (line_of line.now).state }
 {
-    wide(line[0])
+    usize::from(line[0])
 }
 
 // The use count of a line, the lowest byte first.
@@ -25,36 +26,33 @@ pub fn uses_in(line: &[u8]) -> u64
     ensures value { result ≡ (line_of line.now).uses }
     ensures small { result ≤ 4294967295 }
 {
-    long(line[1]) + 256 * long(line[2]) + 65536 * long(line[3]) + 16777216 * long(line[4])
+    u64::from(u32::from_le_bytes([line[1], line[2], line[3], line[4]]))
 }
 
 // 33: every line's state is below n.
 fn states_fit(lines: &[u8], n: usize) -> bool
     ensures { result ≡ states_fit n lines.now }
 {
-    let mut at: usize = 0;
-    'lines: while LINE <= lines.len() - at {
-        let next = at + LINE;
-        if n <= state_in(&lines[at..next]) {
+    'lines: for line in lines.chunks_exact(LINE) {
+        if n <= state_in(line) {
             return false;
         }
-        at = next;
     }
     true
 }
 
-// The first of 32 and 33 that applies, for a table of n states; or 0.
-pub fn lines_number(lines: &[u8], n: usize) -> u8
-    ensures { result ≡ first_failed (lines_tests n lines.now) }
+// 32 and 33, for a table of n states: the first that applies is the refusal.
+pub fn test_lines(lines: &[u8], n: usize) -> Result<(), Refusal>
+    ensures { result ≡ tested (first_failed (lines_tests n lines.now)) }
 {
     if lines.len() % LINE != 0 {
-        return 32;
+        return Err(Refusal::Lines);
     }
     if LINES < lines.len() / LINE {
-        return 32;
+        return Err(Refusal::Lines);
     }
     if !states_fit(lines, n) {
-        return 33;
+        return Err(Refusal::LineState);
     }
-    0
+    Ok(())
 }

@@ -1,5 +1,5 @@
 -- The numbers and answers of src/, one law for each way to a return, and what an answer promises. Assumes nothing.
-use mathlib.Core.Path.{◌≡◌, refl, sym, ap, ◌∙◌, subst}
+use mathlib.Core.Path.{◌≡◌, sym, ap, ◌∙◌, subst}
 use mathlib.Core.Bool.{true, false, ◌&&◌}
 use mathlib.Core.List.{List, [], ◌∷◌, map, Memᴰ}
 use Prim.Native.Nat.{ℕ, ◌/◌, ◌%◌, ◌*◌, ◌≤◌, ◌<◌}
@@ -8,10 +8,17 @@ use native.Mathlib.Decide.{dec_lt}
 use lib.ListN.{length, get_or, get_or-eq_default}
 use lib.Dec.{eqb, leb, ltb}
 use borrow.Author.Tests.{eqb-true, eq-eqb, ne_eqb, leb-true, le-leb, lt-leb, ltb-true}
-use Rattle.lists.specs.Lists.{upto, first_failed, stage, sum}
-use Rattle.lists.proofs.Members.{and-true, all_true, zeros}
+use Rattle.std.specs.Prelude.{Result, Ok, Err}
+use Rattle.std.specs.Result.{IfOk}
+use Rattle.std.proofs.lemmas.Result.{IfOk-weaker}
+use Rattle.lists.specs.Lists.{upto, first_failed, stage, sum, Says}
+use Rattle.lists.proofs.Members.{and-true, all_true}
 use Rattle.lists.proofs.Refusals.{passed, passes, fails, no_test, stage-passes, stage_fails, stage-passed, by_number}
 use Rattle.limits.specs.declared.Limits.{Limits}
+use Rattle.refusals.specs.declared.Refusal.{Refusal}
+use Rattle.refusals.specs.declared.Refusal.TheVariants.{Lines, LineState}
+use Rattle.refusals.specs.Refusals.{number_of, Known, answered, tested, number_in, values_in}
+use Rattle.refusals.proofs.Numbers.{some_number, known_of, failed_known, none_known, refused_by, ok_by, answered_says}
 use Rattle.limits.specs.Limits.{state_most}
 use Rattle.table_spec.specs.File.{table_of}
 use Rattle.table_spec.specs.Language.{count}
@@ -20,36 +27,37 @@ use Rattle.table_spec.proofs.Bytes.{read_well_formed}
 use Rattle.table_spec.proofs.Facts.{most-states}
 use Rattle.check_spec.specs.Check.{check_number}
 use Rattle.check_spec.proofs.Accepted.{accepted}
+use Rattle.check_spec.proofs.Answers.{check-known}
 use Rattle.check_spec.proofs.Numbered.{class-below, classes-few, class-under}
 use Rattle.uses_spec.specs.declared.Counted.{Counted}
-use Rattle.uses_spec.specs.Uses.{Line, lines_of, uses_in, class_sum, state_sum, class_sums, lines_fit, states_fit, lines_tests, uses_number, counted, refused_by, answer_by, uses_of}
+use Rattle.uses_spec.specs.Uses.{Line, lines_of, uses_in, class_sum, state_sum, class_sums, lines_fit, states_fit, lines_tests, uses_number, counted, answer_by, uses_of, counted_values}
 use Rattle.uses_spec.specs.Demands.{AnyOrder, ByStates, MakeTotal, ZeroPast, Fits, Promises}
 use Rattle.uses_spec.proofs.Sums.{sum_no_part, by_key, by_every_key, any_order, all-any-order, total-any-order, length-sums, sum-at}
 
 -- ---- 32 and 33
 
 module _ (n : ℕ) (s : List ℕ) where
-  pub not-whole : (length s % 5 ≡ 0 → ⊥) → 32 ≡ first_failed (lines_tests n s)
+  pub not-whole : (length s % 5 ≡ 0 → ⊥) → Err Lines ≡ tested (first_failed (lines_tests n s))
   unfolding lines_tests lines_fit
-  not-whole h = sym (fails 32 _ (rw (ne_eqb (length s % 5) 0 h)))
+  not-whole h = refused_by tt (fails 32 _ (rw (ne_eqb (length s % 5) 0 h)))
 
   module _ (p : length s % 5 ≡ 0) where
-    pub too_many : 65536 < length s / 5 → 32 ≡ first_failed (lines_tests n s)
+    pub too_many : 65536 < length s / 5 → Err Lines ≡ tested (first_failed (lines_tests n s))
     unfolding lines_tests lines_fit
-    too_many h = sym (fails 32 _ (rw (eq-eqb (length s % 5) 0 p, lt-leb (length s / 5) 65536 h)))
+    too_many h = refused_by tt (fails 32 _ (rw (eq-eqb (length s % 5) 0 p, lt-leb (length s / 5) 65536 h)))
 
     module _ (q : length s / 5 ≤ 65536) where
       fit : lines_fit s ≡ true
       unfolding lines_fit
       fit = rw (eq-eqb (length s % 5) 0 p, le-leb (length s / 5) 65536 q)
 
-      pub past-count : states_fit n s ≡ false → 33 ≡ first_failed (lines_tests n s)
+      pub past-count : states_fit n s ≡ false → Err LineState ≡ tested (first_failed (lines_tests n s))
       unfolding lines_tests
-      past-count h = sym (passes 32 _ fit ∙ fails 33 _ h)
+      past-count h = refused_by tt (passes 32 _ fit ∙ fails 33 _ h)
 
-      pub no_refusal : states_fit n s ≡ true → 0 ≡ first_failed (lines_tests n s)
+      pub no_refusal : states_fit n s ≡ true → Ok tt ≡ tested (first_failed (lines_tests n s))
       unfolding lines_tests
-      no_refusal h = sym (passes 32 _ fit ∙ passes 33 _ h ∙ no_test)
+      no_refusal h = ok_by tt (passes 32 _ fit ∙ passes 33 _ h ∙ no_test)
 
   module _ (z : first_failed (lines_tests n s) ≡ 0) where
     pub lines_few : length s ≤ 5 * 65536
@@ -67,17 +75,17 @@ module _ (n : ℕ) (s : List ℕ) where
 -- ---- answers
 
 module _ {k : ℕ} (m s : List ℕ) where
-  pub answer-counted : k ≡ 0 → counted m s ≡ answer_by k m s
+  pub answer-counted : k ≡ 0 → Ok (counted m s) ≡ answer_by k m s
   unfolding answer_by
-  answer-counted e = sym (rw (eq-eqb k 0 e, answer_by))
+  answer-counted e = ok_by (counted m s) e
 
-  pub answer_refused : (k ≡ 0 → ⊥) → refused_by k ≡ answer_by k m s
+  pub answer_refused : {r : Refusal} → k ≡ number_of r → Err r ≡ answer_by k m s
   unfolding answer_by
-  answer_refused h = sym (rw (ne_eqb k 0 h, answer_by))
+  answer_refused e = refused_by (counted m s) e
 
-pub refused_fits : (k : ℕ) → Fits (refused_by k)
-unfolding refused_by
-refused_fits k = record { total = omega arith; sums = λ c. omega (arith, zeros state_most c) }
+pub tests-known : (n : ℕ) (s : List ℕ) → Known (first_failed (lines_tests n s))
+unfolding lines_tests
+tests-known n s = failed_known _ _ (known_of Lines) (failed_known _ _ (known_of LineState) none_known)
 
 -- ---- a map that the check accepts
 
@@ -97,10 +105,9 @@ module _ (L : Limits) (b m : List ℕ) (e : check_number L b m ≡ 0) where
 
 module _ (L : Limits) (b m s : List ℕ) where
   -- a map that is refused, and lines under one that is accepted
-  pub uses_refused : {k : ℕ} → check_number L b m ≡ k → (k ≡ 0 → ⊥) → refused_by k ≡ uses_of L b m s
+  pub uses_refused : {r : Refusal} → check_number L b m ≡ number_of r → Err r ≡ uses_of L b m s
   unfolding uses_of uses_number
-  uses_refused {k} e h =
-      answer_refused m s h ∙ ap (λ j. answer_by j m s) (sym (stage_fails _ _ e h))
+  uses_refused {r} e = answer_refused m s (stage_fails _ _ e (some_number r))
 
   pub uses-accepted : check_number L b m ≡ 0 → answer_by (first_failed (lines_tests (length m) s)) m s ≡ uses_of L b m s
   unfolding uses_of uses_number
@@ -118,8 +125,8 @@ module _ (L : Limits) (b m s : List ℕ) where
     by_states : ByStates b m s (counted m s)
     unfolding counted class_sum state_sum
     by_states = record {
-      classes = λ e c h. sum-at m (lines_of s) c h ∙ sym (by_key (λ l. l.state) (count (table_of b)) (λ q. eqb (class_of m q) c) (lines_of s) below);
-      total = λ e. sym (by_every_key (λ l. l.state) (count (table_of b)) (lines_of s) below);
+      classes = λ c h. sum-at m (lines_of s) c h ∙ sym (by_key (λ l. l.state) (count (table_of b)) (λ q. eqb (class_of m q) c) (lines_of s) below);
+      total = sym (by_every_key (λ l. l.state) (count (table_of b)) (lines_of s) below);
     }
 
     sums-total : sum (class_sums m (lines_of s)) ≡ uses_in (lines_of s)
@@ -137,20 +144,13 @@ module _ (L : Limits) (b m s : List ℕ) where
         go (yes l) = sum-at m (lines_of s) c l ∙ sum_no_part (λ x. x.uses) (λ x. eqb (class_of m x.state) c) (lines_of s) other
         go (no l) = get_or-eq_default (class_sums m (lines_of s)) 0 {n = c} (omega (arith, length-sums m (lines_of s)))
 
-  -- what holds of an answer, counted or refused
+  -- what holds of an answer
   abbrev Kept : Counted → Type 0
   Kept r = ByStates b m s r × MakeTotal r × ZeroPast m r
 
-  kept : Kept (uses_of L b m s)
-  unfolding uses_of answer_by refused_by sum counted
-  kept =
-      by_number
-      _
-      _
-      _
-      Kept
-      (λ z. (by_states z, sums-total z, none-past z))
-      (λ n. (record { classes = λ e. absurd (n e); total = λ e. absurd (n e) }, refl, λ c h. zeros state_most c))
+  kept : IfOk (uses_of L b m s) Kept
+  unfolding uses_of answer_by sum counted
+  kept = by_number _ _ _ (λ (r : Result Counted Refusal). IfOk r Kept) (λ z. let k : Kept (counted m s) = (by_states z, sums-total z, none-past z) in k) (λ n. tt)
 
   same-order : AnyOrder L b m s (uses_of L b m s)
   unfolding uses_of uses_number answer_by counted class_sums class_sum lines_tests lines_fit states_fit
@@ -161,10 +161,30 @@ module _ (L : Limits) (b m s : List ℕ) where
       let number : uses_number L b m other ≡ uses_number L b m s =
       ap (λ ts. first_failed (stage (check_number L b m) ∷ ts)) tests in
       let counts : counted m other ≡ counted m s =
-      λ i. record { number = 0; sums = map (λ c. sym (any_order (λ x. eqb (class_of m x.state) c) p) i) (upto state_most); total = sym (total-any-order p) i } in
-      λ i. elim (eqb (number i) 0) as (λ _. Counted) [ true ↦ counts i | false ↦ refused_by (number i) ]
+      λ i. record { sums = map (λ c. sym (any_order (λ x. eqb (class_of m x.state) c) p) i) (upto state_most); total = sym (total-any-order p) i } in
+      λ i. answered (number i) (counts i)
 
-  pub promised : {r : Counted} → r ≡ uses_of L b m s → Fits r → (r ≡ uses_of L b m s) × Promises L b m s r
+  -- the answer's number is the first of the tests that fails, and its values are the sums and the total
+  uses-known : Known (uses_number L b m s)
+  unfolding uses_number
+  uses-known = failed_known _ _ (check-known L b m) (tests-known (count (table_of b)) s)
+
+  pub uses-says : Says (number_in (uses_of L b m s)) (values_in counted_values (uses_of L b m s)) (uses_number L b m s) (counted_values (counted m s))
+  unfolding uses_of answer_by
+  uses-says = answered_says (counted m s) counted_values uses-known
+
+  pub number_counted : {r : Result Counted Refusal} → r ≡ uses_of L b m s → number_in r ≡ uses_number L b m s
+  number_counted e = ap number_in e ∙ uses-says.numbered
+
+  pub promised : {r : Result Counted Refusal} → r ≡ uses_of L b m s → IfOk r Fits → (r ≡ uses_of L b m s) × Promises L b m s r
   promised {r} e f =
-      let k = subst Kept (sym e) kept in
-      (e, record { order = λ other l p. same-order other l p ∙ sym e; states = k.0; total = k.1; past = k.2; fits = f })
+      let k = subst (λ (x : Result Counted Refusal). IfOk x Kept) (sym e) kept in (
+        e,
+        record {
+          order = λ other l p. same-order other l p ∙ sym e;
+          states = IfOk-weaker r Kept (ByStates b m s) (λ _ x. x.0) k;
+          total = IfOk-weaker r Kept MakeTotal (λ _ x. x.1) k;
+          past = IfOk-weaker r Kept (ZeroPast m) (λ _ x. x.2) k;
+          fits = f;
+        },
+      )

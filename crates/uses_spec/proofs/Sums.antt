@@ -139,7 +139,6 @@ module _ (f : Line → Bool) where
   any_order (Permᴰ.trans d e) = any_order d ∙ any_order e
 
   pub all-any-order : {ls ks : List Line} → Permᴰ ls ks → all f ls ≡ all f ks
-  unfolding all
   all-any-order Permᴰ.nil = refl
   all-any-order (Permᴰ.cons e d) = λ i. f (e i) && all-any-order d i
   all-any-order (Permᴰ.swap {a = a} {b = b} {a' = a'} {b' = b'} {l = ls} e d) = (λ i. f (e i) && (f (d i) && all f ls)) ∙ turned (f b') (f a') (all f ls)

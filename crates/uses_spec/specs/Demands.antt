@@ -1,9 +1,11 @@
 -- What the use counts promise (document 02, request (vii)): "Summing by state, by class, or over the lines in another order gives the same
 -- totals, and the class sums make the grand total." Assumes nothing.
-use Rattle.std.specs.Prelude.{◌≡◌, ℕ, ◌*◌, ◌<◌, ◌≤◌, length, get_or, eqb}
+use Rattle.std.specs.Prelude.{◌≡◌, Result, ℕ, ◌*◌, ◌<◌, ◌≤◌, length, get_or, eqb}
 use mathlib.Core.List.{List, map, Permᴰ}
+use Rattle.std.specs.Result.{IfOk}
 use Rattle.lists.specs.Lists.{filter, upto, sum}
 use Rattle.limits.specs.declared.Limits.{Limits}
+use Rattle.refusals.specs.declared.Refusal.{Refusal}
 use Rattle.limits.specs.Limits.{state_most}
 use Rattle.table_spec.specs.File.{table_of}
 use Rattle.table_spec.specs.Language.{count}
@@ -12,13 +14,13 @@ use Rattle.uses_spec.specs.declared.Counted.{Counted}
 use Rattle.uses_spec.specs.Uses.{lines_of, state_sum, uses_of}
 
 -- "over the lines in another order": bytes with the same lines in any order have this answer, refused or not
-abbrev pub AnyOrder : Limits → List ℕ → List ℕ → List ℕ → Counted → Type 0
+abbrev pub AnyOrder : Limits → List ℕ → List ℕ → List ℕ → Result Counted Refusal → Type 0
 AnyOrder L b m s r = (other : List ℕ) → length other ≡ length s → Permᴰ (lines_of s) (lines_of other) → uses_of L b m other ≡ r
 
--- "Summing by state": where nothing is refused, a class has the sums of its states, and the total is that of all states
+-- "Summing by state": a class has the sums of its states, and the total is that of all states
 pub record ByStates (b m s : List ℕ) (r : Counted) : Type 0 where
-  pub classes : r.number ≡ 0 → (c : ℕ) → c < state_most → get_or r.sums c 0 ≡ sum (map (state_sum (lines_of s)) (filter (λ q. eqb (class_of m q) c) (upto (count (table_of b)))))
-  pub total : r.number ≡ 0 → r.total ≡ sum (map (state_sum (lines_of s)) (upto (count (table_of b))))
+  pub classes : (c : ℕ) → c < state_most → get_or r.sums c 0 ≡ sum (map (state_sum (lines_of s)) (filter (λ q. eqb (class_of m q) c) (upto (count (table_of b)))))
+  pub total : r.total ≡ sum (map (state_sum (lines_of s)) (upto (count (table_of b))))
 
 -- "zero past the class count"
 abbrev pub ZeroPast : List ℕ → Counted → Type 0
@@ -33,10 +35,10 @@ pub record Fits (r : Counted) : Type 0 where
 abbrev pub MakeTotal : Counted → Type 0
 MakeTotal r = sum r.sums ≡ r.total
 
--- all of it, of one answer
-pub record Promises (L : Limits) (b m s : List ℕ) (r : Counted) : Type 0 where
+-- all of it, of one answer: the order of the lines never matters, the rest holds where nothing is refused
+pub record Promises (L : Limits) (b m s : List ℕ) (r : Result Counted Refusal) : Type 0 where
   pub order : AnyOrder L b m s r
-  pub states : ByStates b m s r
-  pub total : MakeTotal r
-  pub past : ZeroPast m r
-  pub fits : Fits r
+  pub states : IfOk r (ByStates b m s)
+  pub total : IfOk r MakeTotal
+  pub past : IfOk r (ZeroPast m)
+  pub fits : IfOk r Fits

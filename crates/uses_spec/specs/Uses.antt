@@ -1,7 +1,9 @@
 -- Use counts by class (document 02, request (vii)). Assumes nothing.
-use Rattle.std.specs.Prelude.{Bool, true, false, ◌&&◌, List, [], ◌∷◌, ◌++◌, map, ℕ, ◌+◌, ◌*◌, ◌/◌, ◌%◌, length, get_or, replicate, eqb, leb, ltb}
+use Rattle.std.specs.Prelude.{Bool, ◌&&◌, Result, List, [], ◌∷◌, ◌++◌, map, ℕ, ◌+◌, ◌*◌, ◌/◌, ◌%◌, length, get_or, eqb, leb, ltb}
 use Rattle.lists.specs.Lists.{all, filter, upto, sum, first_failed, stage}
 use Rattle.limits.specs.declared.Limits.{Limits}
+use Rattle.refusals.specs.declared.Refusal.{Refusal}
+use Rattle.refusals.specs.Refusals.{answered}
 use Rattle.limits.specs.Limits.{state_most}
 use Rattle.table_spec.specs.File.{records, table_of}
 use Rattle.table_spec.specs.Language.{count}
@@ -55,20 +57,16 @@ uses_number L b m s = first_failed (stage (check_number L b m) ∷ lines_tests (
 
 -- the sums, then "the grand total"
 unfoldable pub counted : List ℕ → List ℕ → Counted
-counted m s = record { number = 0; sums = class_sums m (lines_of s); total = uses_in (lines_of s) }
-
--- "A refusal returns its number alone; where the answer's form has further fields, they hold 0"
-unfoldable pub refused_by : ℕ → Counted
-refused_by k = record { number = k; sums = replicate state_most 0; total = 0 }
+counted m s = record { sums = class_sums m (lines_of s); total = uses_in (lines_of s) }
 
 -- the answer whose number is k, 0 where nothing is refused
-unfoldable pub answer_by : ℕ → List ℕ → List ℕ → Counted
-answer_by k m s = elim (eqb k 0) [ true ↦ counted m s | false ↦ refused_by k ]
+unfoldable pub answer_by : ℕ → List ℕ → List ℕ → Result Counted Refusal
+answer_by k m s = answered k (counted m s)
 
 -- the operation
-unfoldable pub uses_of : Limits → List ℕ → List ℕ → List ℕ → Counted
+unfoldable pub uses_of : Limits → List ℕ → List ℕ → List ℕ → Result Counted Refusal
 uses_of L b m s = answer_by (uses_number L b m s) m s
 
--- an answer's values: the sums, then the total; none where its number is not 0
-unfoldable pub counted_values : Counted → List ℕ
-counted_values r = elim (eqb r.number 0) [ true ↦ r.sums ++ (r.total ∷ []) | false ↦ [] ]
+-- an answer's values: the sums, then the total
+abbrev pub counted_values : Counted → List ℕ
+counted_values r = r.sums ++ (r.total ∷ [])

@@ -7,5 +7,5 @@ use Rattle.capi.proofs.basilvault_check_within.Goals as goal
 pub returns : goal.returns
 unfolding check_out
 returns c =
-    let w = c.say_checked.ensures in
+    let w = c.say.ensures in
     record { answers = answered _ (sym w.number) refl w.values ∙ ap (check_out _) c.check_within-checked.ensures.answers }

@@ -7,5 +7,5 @@ use Rattle.capi.proofs.basilvault_clauses_within.Goals as goal
 pub returns : goal.returns
 unfolding clauses_out
 returns c =
-    let w = c.say_listed.ensures in
+    let w = c.say.ensures in
     record { answers = answered _ (sym w.number) refl w.values ∙ ap (clauses_out _) c.clauses_within-listed.ensures.answers }

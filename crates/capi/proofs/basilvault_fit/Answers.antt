@@ -7,5 +7,5 @@ use Rattle.capi.proofs.basilvault_fit.Goals as goal
 pub returns : goal.returns
 unfolding fit_out
 returns c =
-    let w = c.say_fitting.ensures in
+    let w = c.say.ensures in
     record { answers = answered _ (sym w.number) refl w.values ∙ ap (fit_out _) c.fit-fitting.ensures.answers }

@@ -7,5 +7,5 @@ use Rattle.capi.proofs.basilvault_generate_within.Goals as goal
 pub returns : goal.returns
 unfolding quotient_out
 returns c =
-    let w = c.say_written.ensures in
+    let w = c.say.ensures in
     record { answers = answered _ (sym w.number) refl w.values ∙ ap (quotient_out _) c.generate_within-written.ensures.answers }

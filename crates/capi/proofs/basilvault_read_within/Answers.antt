@@ -7,5 +7,5 @@ use Rattle.capi.proofs.basilvault_read_within.Goals as goal
 pub returns : goal.returns
 unfolding read_out
 returns c =
-    let w = c.say_reading.ensures in
+    let w = c.say.ensures in
     record { answers = answered _ (sym w.number) refl w.values ∙ ap (read_out _) c.read_within-reading.ensures.answers }

@@ -7,5 +7,5 @@ use Rattle.capi.proofs.basilvault_records_within.Goals as goal
 pub returns : goal.returns
 unfolding records_out
 returns c =
-    let w = c.say_recorded.ensures in
+    let w = c.say.ensures in
     record { answers = answered _ (sym w.number) refl w.values ∙ ap (records_out _) c.records_within-recorded.ensures.answers }

@@ -7,5 +7,5 @@ use Rattle.capi.proofs.basilvault_reduce_within.Goals as goal
 pub returns : goal.returns
 unfolding reduce_out
 returns c =
-    let w = c.say_reduction.ensures in
+    let w = c.say.ensures in
     record { answers = answered _ (sym w.number) refl w.values ∙ ap (reduce_out _) c.reduce_within-reduction.ensures.answers }

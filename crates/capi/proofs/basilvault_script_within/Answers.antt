@@ -7,5 +7,5 @@ use Rattle.capi.proofs.basilvault_script_within.Goals as goal
 pub returns : goal.returns
 unfolding script_out
 returns c =
-    let w = c.say_read.ensures in
+    let w = c.say.ensures in
     record { answers = answered _ (sym w.number) refl w.values ∙ ap (script_out _) c.script_within-read.ensures.answers }

@@ -7,5 +7,5 @@ use Rattle.capi.proofs.basilvault_search_within.Goals as goal
 pub returns : goal.returns
 unfolding search_out
 returns c =
-    let w = c.say_solution.ensures in
+    let w = c.say.ensures in
     record { answers = answered _ (sym w.number) refl w.values ∙ ap (search_out _) c.search_within-solution.ensures.answers }

@@ -7,5 +7,5 @@ use Rattle.capi.proofs.basilvault_season_within.Goals as goal
 pub returns : goal.returns
 unfolding season_out
 returns c =
-    let w = c.say_season.ensures in
+    let w = c.say.ensures in
     record { answers = answered _ (sym w.number) refl w.values ∙ ap (season_out _) c.season_within-answer.ensures.answers }

@@ -7,6 +7,3 @@ use Rattle.cases.proofs.lengths_from.Given as goal
 
 abbrev pub invariant-lengths : goal.invariant-lengths
 invariant-lengths l = Writing (longs_in 16 l.bytes) (replicate 16 0) l.lengths l.i
-
-abbrev pub decreases-lengths : goal.decreases-lengths
-decreases-lengths l = 16 - l.i

@@ -12,4 +12,4 @@ pub returns-then-bytes-at : goal.returns-then-bytes-at
 returns-then-bytes-at c = (word-past c.args.bytes.now c.args.at (omega arith), omega arith)
 
 pub returns : goal.returns
-returns c = (ap₂ (λ (x y : ℕ). x + 256 * y) c.long.ensures.0 c.long-2.ensures.0 ∙ word-there c.args.bytes.now c.args.at (omega arith), omega arith)
+returns c = (ap₂ (λ (x y : ℕ). x + 256 * y) c.from.ensures c.from-2.ensures ∙ word-there c.args.bytes.now c.args.at (omega arith), omega arith)

@@ -8,4 +8,4 @@ returns-then-fields-lt4 c = move_kept _ _ c.if-fields-lt4.true
 
 pub returns : goal.returns
 returns c =
-    c.has_top.ensures ∙ return_kept _ _ c.if-fields-lt4.false c.wide.ensures c.wide-2.ensures
+    c.has_top.ensures ∙ return_kept _ _ c.if-fields-lt4.false c.from.ensures c.from-2.ensures

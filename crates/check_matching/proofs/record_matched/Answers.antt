@@ -1,28 +1,15 @@
 -- `check_matching::record_matched` meets its contract: a move, or a return. Assumes nothing.
 use mathlib.Core.Path.{sym, ◌∙◌, subst}
 use mathlib.Core.List.{[], ◌∷◌}
-use native.Mathlib.Omega.{arith}
 use lib.ListN.{get_or}
 use Rattle.table_find.specs.Keys.{Keyed}
 use Rattle.check_matching.proofs.Matched.{record_move, return-lent, return-long, return-live, record_return}
 use Rattle.check_matching.proofs.record_matched.Goals as goal
 
-pub bounds-fields-1 : goal.bounds-fields-1
-bounds-fields-1 c =
-    omega (arith, c.requires.lent.0.moves, c.requires.lent.1)
-
-pub bounds-fields-2 : goal.bounds-fields-2
-bounds-fields-2 c =
-    omega (arith, c.requires.lent.0.moves, c.requires.lent.1)
-
-pub reaches-requires : goal.reaches-requires
-reaches-requires c =
-    (c.requires.lent.0.moves, c.requires.lent.0.lent.in_order)
-
 pub returns-then-width-eq3 : goal.returns-then-width-eq3
 returns-then-width-eq3 c =
     let k = subst (λ w. Keyed w (c.args.q ∷ get_or c.args.fields.now 1 0 ∷ []) c.move_key-wanted.result) (sym c.if-width-eq3.true) c.move_key-wanted.ensures in
-    c.reaches.ensures (c.args.q ∷ get_or c.args.fields.now 1 0 ∷ []) k ∙ record_move _ _ _ _ _ _ _ c.if-width-eq3.true c.requires.q_value.0 c.wide.ensures
+    c.reaches.ensures (c.args.q ∷ get_or c.args.fields.now 1 0 ∷ []) k ∙ record_move _ _ _ _ _ _ _ c.if-width-eq3.true c.requires.q_value.0 c.from.ensures
 
 pub return_met-requires : goal.return_met-requires
 return_met-requires c =

@@ -4,11 +4,7 @@ use Rattle.table_spec.specs.File.{records}
 use Rattle.lists.proofs.Upto.{Counting}
 use Rattle.lists.specs.Lists.{all}
 use lib.ListN.{length}
-use Prim.Native.Nat.{◌-◌}
 use Rattle.check_matching.proofs.record_met.Given as goal
 
 abbrev pub invariant-states : goal.invariant-states
 invariant-states l = Counting (all (record_matched l.width l.words (records l.width l.section) (length l.map) l.map l.fields)) (length l.map) l.q
-
-abbrev pub decreases-states : goal.decreases-states
-decreases-states l = length l.map - l.q

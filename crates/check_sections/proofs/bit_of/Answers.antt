@@ -4,8 +4,8 @@ use Rattle.check_sections.proofs.bit_of.Goals as goal
 
 pub returns-then-fields-lt4 : goal.returns-then-fields-lt4
 returns-then-fields-lt4 c =
-    move_bit _ c.if-fields-lt4.true c.wide.ensures
+    move_bit _ c.if-fields-lt4.true c.from.ensures
 
 pub returns : goal.returns
 returns c =
-    return-bit _ c.if-fields-lt4.false c.wide-2.ensures
+    return-bit _ c.if-fields-lt4.false c.from-2.ensures

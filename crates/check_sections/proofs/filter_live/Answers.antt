@@ -1,65 +1,30 @@
--- `check_sections::filter_live` meets its contract: the live returns before this one. Assumes nothing.
-use Rattle.check_sections.proofs.Live.{gathering, filter-live-full, filter-live-room, filter-live-past, filter-live_on, all_gathered}
-use mathlib.Core.Path.{sym, ◌∙◌}
-use Prim.Native.Nat.{◌-◌}
+-- `check_sections::filter_live` meets its contract: the live returns among the records taken. Assumes nothing.
+use mathlib.Core.Path.{◌≡◌, sym, ap, ◌∙◌}
+use mathlib.Core.List.{◌++◌}
+use Prim.Native.Nat.{◌+◌, ◌-◌}
 use native.Mathlib.Omega.{arith}
+use lib.ListN.{length, take}
+use borrow.Rule.Slice.PartMut.{same_len_mid}
+use Rattle.std.proofs.lemmas.Slice.{take-put_mid}
+use Rattle.check_sections.proofs.Live.{filter-live-full, filter-live-room, filter-live-past, filter-live_on, all_gathered}
 use Rattle.check_sections.proofs.filter_live.Goals as goal
 
-pub records-init : goal.records-init
-records-init c =
-    gathering _ _ c.requires.1 c.requires.0
-
-pub overflow_sub-section : goal.overflow_sub-section
-overflow_sub-section c = omega (arith, c.records.invariant.inside)
-
-pub bounds-live-n : goal.bounds-live-n
-bounds-live-n c =
-    omega (arith, filter-live-room c.records.invariant c.records-test.true)
-
-pub overflow_add-live-then-keeps : goal.overflow_add-live-then-keeps
-overflow_add-live-then-keeps c =
-    omega (arith, filter-live-room c.records.invariant c.records-test.true)
-
-pub bounds-live-n-then-keeps : goal.bounds-live-n-then-keeps
-bounds-live-n-then-keeps c =
-    omega (arith, filter-live-room c.records.invariant c.records-test.true)
-
-pub overflow_add-live-then-keeps-3 : goal.overflow_add-live-then-keeps-3
-overflow_add-live-then-keeps-3 c =
-    omega (arith, filter-live-room c.records.invariant c.records-test.true)
-
-pub bounds-live-n-then-keeps-2 : goal.bounds-live-n-then-keeps-2
-bounds-live-n-then-keeps-2 c =
-    omega (arith, filter-live-room c.records.invariant c.records-test.true)
-
-pub overflow_add-live-then-keeps-5 : goal.overflow_add-live-then-keeps-5
-overflow_add-live-then-keeps-5 c =
-    omega (arith, filter-live-room c.records.invariant c.records-test.true)
-
-pub bounds-live-n-then-keeps-3 : goal.bounds-live-n-then-keeps-3
-bounds-live-n-then-keeps-3 c =
-    omega (arith, filter-live-room c.records.invariant c.records-test.true)
-
-pub overflow_add-n : goal.overflow_add-n
-overflow_add-n c =
-    omega (arith, filter-live-room c.records.invariant c.records-test.true)
-
-pub records-smaller-then-keeps : goal.records-smaller-then-keeps
-records-smaller-then-keeps c =
-    omega (arith, c.records-test.true)
+pub slice_bounds-copy_from_slice-end : goal.slice_bounds-copy_from_slice-end
+slice_bounds-copy_from_slice-end c =
+    let r = filter-live-room c.records.invariant _ _ c.in-Some.ensures.steps.1 in
+    omega (arith, r.0, c.records.invariant.long)
 
 pub records-preserved-then-keeps : goal.records-preserved-then-keeps
 records-preserved-then-keeps c =
-    filter-live_on c.records.invariant c.records-test.true (sym c.keeps.ensures ∙ c.if-keeps.true)
-
-pub records-smaller : goal.records-smaller
-records-smaller c =
-    omega (arith, c.records-test.true)
+    let r = filter-live-room c.records.invariant _ _ c.in-Some.ensures.steps.1 in
+    let e = c.copy_from_slice.ensures.after in
+    let long : c.records.n + 4 ≡ c.records.n + length c.copy_from_slice.new.self = omega (arith, r.1, ap length e) in
+    filter-live_on c.records.invariant _ _ c.in-Some.ensures.steps.1 _ c.in-Some.ensures.steps.0 (sym c.keeps.ensures ∙ c.if-keeps.true) (same_len_mid c.records.n (c.records.n + 4 - c.records.n) c.records.live c.copy_from_slice.new.self c.copy_from_slice.ensures.len)
+    (take-put_mid c.records.n (c.records.n + 4 - c.records.n) c.records.live c.copy_from_slice.new.self (c.records.n + 4) long (omega (arith, r.0, c.records.invariant.long)) ∙ ap (λ ys. take c.records.n c.records.live ++ ys) e)
 
 pub records-preserved : goal.records-preserved
 records-preserved c =
-    filter-live-past c.records.invariant c.records-test.true (sym c.keeps.ensures ∙ c.if-keeps.false)
+    filter-live-past c.records.invariant _ _ c.in-Some.ensures.steps.1 c.in-Some.ensures.steps.0 (sym c.keeps.ensures ∙ c.if-keeps.false)
 
 pub returns : goal.returns
-returns c =
-    (filter-live-full c.records.invariant, all_gathered c.records.invariant c.records-test.false)
+returns c = (filter-live-full c.records.invariant, all_gathered c.records.invariant c.in-None.ensures.steps.1.0)

@@ -1,11 +1,7 @@
 -- `check_sections::joined_words` meets its contract: the states before this one have their words. Assumes nothing.
 use Rattle.check_sections.proofs.Words.{Joining}
-use Prim.Native.Nat.{◌-◌}
 use lib.ListN.{length}
 use Rattle.check_sections.proofs.joined_words.Given as goal
 
 abbrev pub invariant-states : goal.invariant-states
 invariant-states l = Joining l.map l.joined l.q
-
-abbrev pub decreases-states : goal.decreases-states
-decreases-states l = length l.map - l.q

@@ -5,17 +5,6 @@ use Prim.Native.Nat.{ℕ}
 use lib.ListN.{length-take, length-replicate}
 use Rattle.check_sections.proofs.live_matched.Goals as goal
 
-pub filter_live-n-requires : goal.filter_live-n-requires
-filter_live-n-requires c =
-    (c.requires.lent.few, length-replicate {A = ℕ} 16384 0)
-
-pub slice_bounds-live-end : goal.slice_bounds-live-end
-slice_bounds-live-end c = omega (arith, c.filter_live-n.ensures.0)
-
-pub slice_bounds-records_matched-end : goal.slice_bounds-records_matched-end
-slice_bounds-records_matched-end c =
-    simp length-take (omega (arith, c.filter_live-n.ensures.0))
-
 pub records_matched-requires-2 : goal.records_matched-requires-2
 records_matched-requires-2 c =
     gathered_lent _ _ c.requires c.filter_live-n.ensures.1

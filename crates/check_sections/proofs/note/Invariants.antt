@@ -1,11 +1,7 @@
--- `check_sections::note` meets its contract: the room has the bits of the records before this one. Assumes nothing.
+-- `check_sections::note` meets its contract: the room has the bits of the records taken. Assumes nothing.
+use Rattle.std.specs.Slice.Iter.{chunks_exact_rest, chunks_exact_size}
 use Rattle.check_sections.proofs.Rooms.{Noting}
-use Prim.Native.Nat.{◌-◌}
-use lib.ListN.{length}
 use Rattle.check_sections.proofs.note.Given as goal
 
 abbrev pub invariant-records : goal.invariant-records
-invariant-records l = Noting l.width l.section l.joined l.own l.room l.at
-
-abbrev pub decreases-records : goal.decreases-records
-decreases-records l = length l.section - l.at
+invariant-records l = Noting l.width l.section l.joined l.own l.room (chunks_exact_size l.fields-iterator) (chunks_exact_rest l.fields-iterator)

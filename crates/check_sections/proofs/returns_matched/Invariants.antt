@@ -3,12 +3,8 @@ use Rattle.check_sections.specs.Rooms.{Empty, state_matched}
 use Rattle.table_spec.specs.File.{records}
 use Rattle.lists.proofs.Upto.{Counting}
 use Rattle.lists.specs.Lists.{all}
-use Prim.Native.Nat.{◌-◌}
 use lib.ListN.{length}
 use Rattle.check_sections.proofs.returns_matched.Given as goal
 
 abbrev pub invariant-states : goal.invariant-states
 invariant-states l = Counting (all (state_matched 4 l.words (records 4 l.section) (length l.map) l.map)) (length l.map) l.q × Empty l.room
-
-abbrev pub decreases-states : goal.decreases-states
-decreases-states l = length l.map - l.q

@@ -1,33 +1,33 @@
 -- `choose::decide_within` meets its contract: refused by reading, by 40, or decided. Assumes nothing.
-use mathlib.Core.Path.{sym, ◌∙◌}
-use Rattle.check_map.proofs.Checking.{read-readable, read_known}
-use Rattle.choose_spec.proofs.Choosing.{told, decide_neither, decide-first, decide-second}
+use mathlib.Core.Path.{◌≡◌, sym, subst, ◌∙◌}
+use mathlib.Core.List.{List}
+use Prim.Native.Nat.{ℕ}
+use Rattle.std.specs.Borrow.{Bor}
+use Rattle.refusals.proofs.Numbers.{passed_up}
+use Rattle.check_map.specs.Known.{WhereReadable}
+use Rattle.choose_spec.specs.Choose.{which_of}
+use Rattle.choose_spec.proofs.Choosing.{told, number_decided, decide_neither, decide_some}
 use Rattle.choose.proofs.Unread.{decide_unread}
 use Rattle.choose.proofs.decide_within.Goals as goal
 
-pub returns-then-examined-ne0 : goal.returns-then-examined-ne0
-returns-then-examined-ne0 c =
-    let the_facts = told _ _ _ _ (decide_unread _ _ _ _ c.examine-examined.ensures c.if-examined-ne0.true) in
-    record { answers = the_facts.0; tells = the_facts.1 }
+pub returns-in_err-examined : goal.returns-in_err-examined
+returns-in_err-examined c =
+    let e = (passed_up c.from_residual.ensures ∙ decide_unread _ _ _ _ _ c.in_err-examined.ensures.err) in
+    let the_facts = told _ _ _ _ e in
+    record { answers = the_facts.0; tells = the_facts.1; number = number_decided _ _ _ _ e }
 
-pub which_known-which-requires : goal.which_known-which-requires
-which_known-which-requires c =
-    read_known _ _ c.examine-examined.ensures c.if-examined-ne0.false
+pub returns-in-Some : goal.returns-in-Some
+returns-in-Some c =
+    let ok = c.in_ok-examined.ensures.ok in
+    let which = subst (λ (t : Bor (List ℕ)). WhereReadable t.now (λ L. c.which_known-which.result ≡ which_of L t.now c.args.first.now c.args.second.now)) ok.0 c.which_known-which.ensures in
+    let e = (decide_some _ _ _ _ (sym c.in-Some.is ∙ which _ ok.1)) in
+    let the_facts = told _ _ _ _ e in
+    record { answers = the_facts.0; tells = the_facts.1; number = number_decided _ _ _ _ e }
 
-pub returns-in-Neither : goal.returns-in-Neither
-returns-in-Neither c =
-    let r = read-readable _ _ c.examine-examined.ensures c.if-examined-ne0.false in
-    let the_facts = told _ _ _ _ (decide_neither _ _ _ _ r (sym c.in-Neither.is ∙ c.which_known-which.ensures _ r)) in
-    record { answers = the_facts.0; tells = the_facts.1 }
-
-pub returns-in-First : goal.returns-in-First
-returns-in-First c =
-    let r = read-readable _ _ c.examine-examined.ensures c.if-examined-ne0.false in
-    let the_facts = told _ _ _ _ (decide-first _ _ _ _ r (sym c.in-First.is ∙ c.which_known-which.ensures _ r)) in
-    record { answers = the_facts.0; tells = the_facts.1 }
-
-pub returns-in-Second : goal.returns-in-Second
-returns-in-Second c =
-    let r = read-readable _ _ c.examine-examined.ensures c.if-examined-ne0.false in
-    let the_facts = told _ _ _ _ (decide-second _ _ _ _ r (sym c.in-Second.is ∙ c.which_known-which.ensures _ r)) in
-    record { answers = the_facts.0; tells = the_facts.1 }
+pub returns-in-None : goal.returns-in-None
+returns-in-None c =
+    let ok = c.in_ok-examined.ensures.ok in
+    let which = subst (λ (t : Bor (List ℕ)). WhereReadable t.now (λ L. c.which_known-which.result ≡ which_of L t.now c.args.first.now c.args.second.now)) ok.0 c.which_known-which.ensures in
+    let e = (decide_neither _ _ _ _ ok.1 (sym c.in-None.is ∙ which _ ok.1)) in
+    let the_facts = told _ _ _ _ e in
+    record { answers = the_facts.0; tells = the_facts.1; number = number_decided _ _ _ _ e }

@@ -1,16 +1,15 @@
 -- `clauses_states::close` meets its contract. Assumes nothing.
 use native.Mathlib.Omega.{arith}
-use Rattle.clauses_emit.proofs.Emitting.{ordered_by}
 use Rattle.clauses_states.proofs.Pairwise.{closed}
 use Rattle.clauses_states.proofs.close.Goals as goal
 
 pub put-requires-2 : goal.put-requires-2
 put-requires-2 c =
-    (omega (arith, c.three-second.ensures.count), ordered_by _ _ c.put.ensures c.requires)
+    omega (arith, c.three-second.ensures.count)
 
 pub put-requires-3 : goal.put-requires-3
 put-requires-3 c =
-    (omega (arith, c.three-third.ensures.count), ordered_by _ _ c.put-2.ensures (ordered_by _ _ c.put.ensures c.requires))
+    omega (arith, c.three-third.ensures.count)
 
 pub returns : goal.returns
 returns c =

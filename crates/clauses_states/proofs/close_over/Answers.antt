@@ -1,14 +1,10 @@
 -- `clauses_states::close_over` meets its contract: the states so far have their clauses. Assumes nothing.
-use Prim.Native.Nat.{◌-◌}
 use Rattle.clauses_emit.proofs.Stepping.{over-past, over_on, over_done}
 use Rattle.clauses_states.proofs.close_over.Goals as goal
 
 pub states-init : goal.states-init
 states-init c =
-    over-past _ _ _ _ c.requires.0 c.requires.1
-
-pub close-at-requires : goal.close-at-requires
-close-at-requires c = c.states.invariant.coming.ordered
+    over-past _ _ _ _ c.requires
 
 pub states-preserved : goal.states-preserved
 states-preserved c =

@@ -1,5 +1,4 @@
 -- `clauses_states::close_over` meets its contract: the states so far have their clauses. Assumes nothing.
-use Prim.Native.Nat.{◌-◌}
 use Rattle.lists.specs.Lists.{concat_map}
 use Rattle.pairs.specs.Triangles.{triangle, past}
 use Rattle.clauses_emit.specs.Emit.{state}
@@ -8,6 +7,3 @@ use Rattle.clauses_states.proofs.close_over.Given as goal
 
 abbrev pub invariant-states : goal.invariant-states
 invariant-states l = Over (λ s. triangle l.p l.q s) l.count (concat_map (λ s. triangle l.p l.q s) (past l.count l.q)) (state l.initial.at l.initial.list) l.s (state l.at l.list)
-
-abbrev pub decreases-states : goal.decreases-states
-decreases-states l = l.count - l.s

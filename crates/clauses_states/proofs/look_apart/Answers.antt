@@ -6,17 +6,17 @@ use Rattle.pairs.proofs.Pairs.{most-pairs}
 use Rattle.clauses_states.proofs.Pairwise.{placed, alone, look_same, look_other}
 use Rattle.clauses_states.proofs.look_apart.Goals as goal
 
-pub bounds-states-wide : goal.bounds-states-wide
-bounds-states-wide c =
-    (placed c.requires c.pair_of-pair.ensures c.wide.ensures refl).low_below
+pub bounds-states-from : goal.bounds-states-from
+bounds-states-from c =
+    (placed c.requires c.pair_of-pair.ensures c.from.ensures refl).low_below
 
-pub bounds-states-wide-2 : goal.bounds-states-wide-2
-bounds-states-wide-2 c =
-    (placed c.requires c.pair_of-pair.ensures c.wide.ensures c.wide-2.ensures).high_below
+pub bounds-states-from-2 : goal.bounds-states-from-2
+bounds-states-from-2 c =
+    (placed c.requires c.pair_of-pair.ensures c.from.ensures c.from-2.ensures).high_below
 
 pub returns-then-low-high : goal.returns-then-low-high
 returns-then-low-high c =
-    look_same _ (placed c.requires c.pair_of-pair.ensures c.wide.ensures c.wide-2.ensures) _ c.if-low-high.true
+    look_same _ (placed c.requires c.pair_of-pair.ensures c.from.ensures c.from-2.ensures) _ c.if-low-high.true
 
 pub overflow_mul-v : goal.overflow_mul-v
 overflow_mul-v c =
@@ -28,8 +28,8 @@ overflow_add-v c =
 
 pub put-requires : goal.put-requires
 put-requires c =
-    let h = alone c.no_literals.ensures c.with_literal.ensures in (omega (arith, h.count), c.requires.3)
+    let h = alone c.no_literals.ensures c.with_literal.ensures in omega (arith, h.count)
 
 pub returns : goal.returns
 returns c =
-    look_other _ (placed c.requires c.pair_of-pair.ensures c.wide.ensures c.wide-2.ensures) _ c.if-low-high.false (alone c.no_literals.ensures c.with_literal.ensures) c.put.ensures
+    look_other _ (placed c.requires c.pair_of-pair.ensures c.from.ensures c.from-2.ensures) _ c.if-low-high.false (alone c.no_literals.ensures c.with_literal.ensures) c.put.ensures

@@ -1,15 +1,11 @@
 -- `clauses_states::transitive` meets its contract: the states so far have their clauses. Assumes nothing.
-use Prim.Native.Nat.{◌-◌}
 use Rattle.pairs.specs.Triangles.{triangles}
 use Rattle.clauses_spec.specs.Clauses.{transitivity}
 use Rattle.clauses_emit.proofs.Stepping.{over-all, over_on, over_done}
 use Rattle.clauses_states.proofs.transitive.Goals as goal
 
 pub states-init : goal.states-init
-states-init c = over-all _ _ _ c.requires.1
-
-pub close_from-at-requires : goal.close_from-at-requires
-close_from-at-requires c = (c.states-test.true, c.states.invariant.coming.ordered)
+states-init c = over-all _ _ _
 
 pub states-preserved : goal.states-preserved
 states-preserved c =

@@ -1,5 +1,4 @@
 -- `clauses_targets::store_targets` meets its contract: the literals of the targets so far stand at the front. Assumes nothing.
-use Prim.Native.Nat.{◌-◌}
 use native.Mathlib.Omega.{arith}
 use Rattle.lists.proofs.Copying.{same_length as written-length}
 use Rattle.clauses_targets.proofs.Targeting.{target_storing, target_on, targets-stored}

@@ -1,7 +1,6 @@
 -- `equality_propagate::conclude` meets its contract: the variable is read as its pair. Assumes nothing.
 use Rattle.sat_trail.specs.Rows.{PairAt}
 use Rattle.sat_trail.proofs.Setting.{pair_of_lem}
-use Rattle.sat_trail.proofs.Working.{worked-length}
 use Rattle.equality_propagate.proofs.Pairing as laws
 use Rattle.equality_propagate.proofs.conclude.Goals as goal
 
@@ -15,17 +14,10 @@ pub conclude_joined-requires : goal.conclude_joined-requires
 conclude_joined-requires c =
     let pair : PairAt c.args.n c.args.x c.pair_of-pair.result.low c.pair_of-pair.result.high = pair_of_lem c.requires.ready.1 c.requires.x_in_bounds.0 c.if-n-eq0.false c.requires.pair_table c.pair_of-pair.ensures in
     let g = pair in
-    record { ready = c.requires.ready; p_lt_q = (g.order, g.inside, laws.value_joined c.requires.ready.0 g c.requires.x_in_bounds c.wide.ensures c.if-values-wide-eq1.true) }
+    record { ready = c.requires.ready; p_lt_q = (g.order, g.inside, laws.value_joined c.requires.ready.0 g c.requires.x_in_bounds c.from.ensures c.if-values-from-eq1.true) }
 
-pub shape_of-values-then-values-wide-eq1 : goal.shape_of-values-then-values-wide-eq1
-shape_of-values-then-values-wide-eq1 c =
-    worked-length c.requires.ready.0 c.conclude_joined.ensures.0.worked
-
-pub shape_of-trail-then-values-wide-eq1 : goal.shape_of-trail-then-values-wide-eq1
-shape_of-trail-then-values-wide-eq1 c = c.conclude_joined.ensures.0.worked.grown.long
-
-pub returns-then-values-wide-eq1 : goal.returns-then-values-wide-eq1
-returns-then-values-wide-eq1 c =
+pub returns-then-values-from-eq1 : goal.returns-then-values-from-eq1
+returns-then-values-from-eq1 c =
     let pair : PairAt c.args.n c.args.x c.pair_of-pair.result.low c.pair_of-pair.result.high = pair_of_lem c.requires.ready.1 c.requires.x_in_bounds.0 c.if-n-eq0.false c.requires.pair_table c.pair_of-pair.ensures in
     let e = c.conclude_joined.ensures in
     (laws.at-variable c.requires.ready.0 pair e.0, e.1)
@@ -34,14 +26,7 @@ pub conclude_apart-requires : goal.conclude_apart-requires
 conclude_apart-requires c =
     let pair : PairAt c.args.n c.args.x c.pair_of-pair.result.low c.pair_of-pair.result.high = pair_of_lem c.requires.ready.1 c.requires.x_in_bounds.0 c.if-n-eq0.false c.requires.pair_table c.pair_of-pair.ensures in
     let g = pair in
-    record { ready = c.requires.ready; p_lt_q = (g.order, g.inside, laws.value_apart c.requires.ready.0 g c.requires.x_in_bounds c.wide.ensures c.if-values-wide-eq1.false) }
-
-pub shape_of-values : goal.shape_of-values
-shape_of-values c =
-    worked-length c.requires.ready.0 c.conclude_apart.ensures.0.worked
-
-pub shape_of-trail : goal.shape_of-trail
-shape_of-trail c = c.conclude_apart.ensures.0.worked.grown.long
+    record { ready = c.requires.ready; p_lt_q = (g.order, g.inside, laws.value_apart c.requires.ready.0 g c.requires.x_in_bounds c.from.ensures c.if-values-from-eq1.false) }
 
 pub returns : goal.returns
 returns c =

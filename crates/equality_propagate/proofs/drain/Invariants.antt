@@ -8,7 +8,7 @@ use Rattle.equality_propagate.proofs.drain.Given as goal
 
 abbrev pub invariant-queue : goal.invariant-queue
 invariant-queue l =
-    laws.Queueing (triangles l.n) l.initial.values l.initial.trail l.start l.values l.trail l.count l.at × Rows l.n l.values l.joined l.apart
+    laws.Queueing (triangles l.n) l.initial.values l.initial.trail l.start l.values l.trail l.count l.at × Rows l.n l.values l.rows.joined l.rows.apart
 
 abbrev pub decreases-queue : goal.decreases-queue
 decreases-queue l =

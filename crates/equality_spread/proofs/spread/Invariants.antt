@@ -5,7 +5,7 @@ use Rattle.equality_spread.proofs.spread.Given as goal
 
 abbrev pub invariant-states : goal.invariant-states
 invariant-states l =
-    laws.Spreading l.n l.initial.values l.initial.trail l.start l.q l.todo l.x l.values l.trail l.count l.joined l.apart l.rest
+    laws.Spreading l.n l.initial.values l.initial.trail l.start l.q l.todo l.x l.values l.trail l.count l.rows.joined l.rows.apart l.rest
 
 abbrev pub decreases-states : goal.decreases-states
 decreases-states l =

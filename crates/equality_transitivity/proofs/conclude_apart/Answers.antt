@@ -1,5 +1,4 @@
 -- `equality_transitivity::conclude_apart` meets its contract: what is set is all that p ≠ q says. Assumes nothing.
-use Rattle.sat_trail.proofs.Working.{worked-length}
 use Rattle.equality_transitivity.proofs.Concluding as laws
 use Rattle.equality_transitivity.proofs.conclude_apart.Goals as goal
 
@@ -11,15 +10,6 @@ spread_both-requires c =
     let f = c.lacking-from_q.ensures in
     let g = c.lacking-from_p.ensures in
     record { ready = (w, rows); spreads = (laws.parts_q w rows _ _ o.0 o.1 o.2 f g, laws.parts-p w rows _ _ o.0 o.1 o.2 f g) }
-
-pub shape_of-values : goal.shape_of-values
-shape_of-values c =
-    let w = c.requires.ready.0 in
-    let k = c.spread_both.ensures.0 in
-    worked-length w k.worked
-
-pub shape_of-trail : goal.shape_of-trail
-shape_of-trail c = c.spread_both.ensures.0.worked.grown.long
 
 pub returns : goal.returns
 returns c =

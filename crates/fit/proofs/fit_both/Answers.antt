@@ -1,8 +1,7 @@
 -- `fit::fit_both` meets its contract: 37, 38, or the answer. Assumes nothing.
-use borrow.Author.Tests.{not-true, not-false}
 use mathlib.Core.Path.{sym, ◌∙◌}
 use mathlib.Core.Bool.{true≢false}
-use Rattle.fit.proofs.Answers.{symbols_differ, has_choice, says_yes, says_no}
+use Rattle.fit.proofs.Answers.{symbols_differ, has_choice, says}
 use Rattle.fit.proofs.fit_both.Goals as goal
 
 pub returns-then-not-same : goal.returns-then-not-same
@@ -13,10 +12,6 @@ pub returns-then-not-no_choice : goal.returns-then-not-no_choice
 returns-then-not-no_choice c =
     has_choice c.requires c.part-symbols.ensures c.part.ensures (c.same.ensures.0 c.if-not-same.false) (sym c.no_choice.ensures ∙ c.if-not-no_choice.true)
 
-pub returns-then-fits : goal.returns-then-fits
-returns-then-fits c =
-    says_yes c.requires c.part-symbols.ensures c.part.ensures (c.same.ensures.0 c.if-not-same.false) (sym c.no_choice.ensures ∙ c.if-not-no_choice.false) (sym c.fits.ensures ∙ c.if-fits.true)
-
 pub returns : goal.returns
 returns c =
-    says_no c.requires c.part-symbols.ensures c.part.ensures (c.same.ensures.0 c.if-not-same.false) (sym c.no_choice.ensures ∙ c.if-not-no_choice.false) (sym c.fits.ensures ∙ c.if-fits.false)
+    says c.requires c.part-symbols.ensures c.part.ensures (c.same.ensures.0 c.if-not-same.false) (sym c.no_choice.ensures ∙ c.if-not-no_choice.false) c.fits.ensures

@@ -5,4 +5,4 @@ use Rattle.fit_links.proofs.after_move.Goals as goal
 
 pub returns : goal.returns
 returns c =
-    (c.wide.ensures, omega (arith, c.wide.ensures, c.requires.0.within (c.args.b * 32 + c.args.a)))
+    (c.from.ensures, omega (arith, c.from.ensures, c.requires.0.within (c.args.b * 32 + c.args.a)))

@@ -4,6 +4,3 @@ use Rattle.fit_links.proofs.covers.Given as goal
 
 abbrev pub invariant-words : goal.invariant-words
 invariant-words l = Covering l.u l.v l.rows l.k
-
-abbrev pub decreases-words : goal.decreases-words
-decreases-words l = l.k

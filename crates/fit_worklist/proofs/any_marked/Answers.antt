@@ -1,5 +1,4 @@
 -- `fit_worklist::any_marked` meets its contract: the marks still to come. Assumes nothing.
-use Prim.Native.Nat.{◌-◌}
 use Rattle.fit_links.proofs.Quickly.{marking, none-marked, one-marked, marking_on}
 use Rattle.fit_worklist.proofs.any_marked.Goals as goal
 

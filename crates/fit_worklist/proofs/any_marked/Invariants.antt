@@ -1,10 +1,6 @@
 -- `fit_worklist::any_marked` meets its contract: the marks still to come. Assumes nothing.
-use Prim.Native.Nat.{◌-◌}
 use Rattle.fit_links.proofs.Quickly.{Marking}
 use Rattle.fit_worklist.proofs.any_marked.Given as goal
 
 abbrev pub invariant-pairs : goal.invariant-pairs
 invariant-pairs l = Marking l.marks l.pairs l.u
-
-abbrev pub decreases-pairs : goal.decreases-pairs
-decreases-pairs l = l.pairs - l.u

@@ -4,8 +4,4 @@ use Rattle.fit_worklist.proofs.looks.Given as goal
 
 abbrev pub invariant-passes : goal.invariant-passes
 invariant-passes l =
-    LooksOn l.calls l.returns l.pushes l.pops l.k l.n l.initial.rows l.initial.links l.rows l.links
-
-abbrev pub decreases-passes : goal.decreases-passes
-decreases-passes l =
-    l.left
+    LooksOn l.input.calls.now l.input.returns.now l.input.pushes.now l.input.pops.now l.input.k l.input.n l.initial.rows l.initial.links l.rows l.links

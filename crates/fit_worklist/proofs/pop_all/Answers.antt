@@ -1,6 +1,5 @@
 -- `fit_worklist::pop_all` meets its contract. The invariant: the rows hold tops and links only. Assumes nothing.
 use mathlib.Core.Path.{sym, ◌∙◌}
-use Prim.Native.Nat.{◌-◌}
 use native.Mathlib.Omega.{arith}
 use borrow.Author.Rules.{rules}
 use Rattle.fit_rounds.proofs.Passing.{few-pairs}

@@ -1,11 +1,13 @@
 -- `fit_worklist::push_all` meets its contract. The invariant: the rows hold tops only. Assumes nothing.
-use Prim.Native.Nat.{◌-◌}
-use lib.ListN.{length}
+use mathlib.Core.Path.{◌≡◌}
+use Prim.Native.Nat.{◌<◌}
+use Rattle.std.specs.Slice.Iter.{chunks_exact_rest, chunks_exact_size}
 use Rattle.fit_links.proofs.Quickly.{PushingOn}
 use Rattle.fit_worklist.proofs.push_all.Given as goal
 
 abbrev pub invariant-records : goal.invariant-records
-invariant-records l = PushingOn l.p l.b l.n l.calls l.pushes l.initial.rows l.rows l.at
-
-abbrev pub decreases-records : goal.decreases-records
-decreases-records l = length l.calls - l.at
+invariant-records l = record {
+  can_next : 0 < chunks_exact_size l.fields-iterator;
+  size : chunks_exact_size l.fields-iterator ≡ 3;
+  walk : PushingOn l.p l.b l.n l.calls l.pushes l.initial.rows l.rows (chunks_exact_rest l.fields-iterator);
+}

@@ -1,6 +1,5 @@
 -- `fit_worklist::spread` meets its contract. The invariant: the rows hold tops only. Assumes nothing.
 use mathlib.Core.Path.{sym, ◌∙◌}
-use Prim.Native.Nat.{◌-◌}
 use native.Mathlib.Omega.{arith}
 use Rattle.fit_links.proofs.Quickly.{spreading, spread_on}
 use Rattle.fit_worklist.proofs.spread.Goals as goal

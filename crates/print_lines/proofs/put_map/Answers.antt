@@ -1,7 +1,6 @@
 -- `print_lines::put_map` meets its contract: the classes of the states before this one are put. Assumes nothing.
 use mathlib.Core.Path.{◌∙◌}
 use native.Mathlib.Omega.{arith}
-use Prim.Native.Nat.{◌-◌}
 use Rattle.print_lines.proofs.Mapping.{mapping, map_on, mapped}
 use Rattle.print_lines.proofs.put_map.Goals as goal
 
@@ -14,7 +13,7 @@ put_number-to-requires c =
 
 pub states-preserved : goal.states-preserved
 states-preserved c =
-    map_on c.states.invariant c.states-test.true c.long.ensures.0 c.put_number-to.ensures.put c.put_number-to.ensures.few
+    map_on c.states.invariant c.states-test.true c.from.ensures c.put_number-to.ensures.put c.put_number-to.ensures.few
 
 pub put-requires : goal.put-requires
 put-requires c =

@@ -1,18 +1,14 @@
--- `read_contents::records_fit` meets its contract: the records so far fit. Assumes nothing.
-use mathlib.Core.Path.{sym, ◌∙◌}
-use Rattle.table_find.proofs.Walks as walks
+-- `read_contents::records_fit` meets its contract: a record that does not fit ends it, and the others leave the answer to the rest. Assumes nothing.
+use Rattle.std.proofs.Common.{sym, ◌∙◌}
+use Rattle.table_spec.proofs.Chunks.{taken, on, ended}
 use Rattle.read_contents.proofs.records_fit.Goals as goal
 
-pub records-init : goal.records-init
-records-init c = walks.begin _ _
-
 pub returns-then-not-record_fits : goal.returns-then-not-record_fits
-returns-then-not-record_fits c =
-    walks.records_failed _ _ c.records.invariant c.requires c.records-test.true (sym c.record_fits.ensures ∙ c.if-not-record_fits.true)
+returns-then-not-record_fits c = sym (taken c.records.invariant _ _ c.in-Some.ensures.steps.1 ∙ rw (sym c.record_fits.ensures ∙ c.if-not-record_fits.true))
 
 pub records-preserved : goal.records-preserved
 records-preserved c =
-    walks.records-passed _ _ c.records.invariant c.requires c.records-test.true (sym c.record_fits.ensures ∙ c.if-not-record_fits.false)
+    on c.records.invariant _ _ c.in-Some.ensures.steps.0 c.in-Some.ensures.steps.1 (rw (sym c.record_fits.ensures ∙ c.if-not-record_fits.false))
 
 pub returns : goal.returns
-returns c = walks.records-done _ _ c.records.invariant c.records-test.false
+returns c = sym (ended c.records.invariant c.in-None.ensures.steps.1.0)

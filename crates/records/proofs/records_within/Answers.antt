@@ -1,18 +1,23 @@
 -- `records::records_within` meets its contract: refused by reading, or as a table that was read. Assumes nothing.
-use Rattle.check_map.proofs.Checking.{read-readable, read_known, unread}
+use mathlib.Core.Path.{◌≡◌, subst}
+use mathlib.Core.List.{List}
+use Prim.Native.Nat.{ℕ}
+use Rattle.std.specs.Borrow.{Bor}
+use Rattle.refusals.proofs.Numbers.{passed_up}
+use Rattle.check_map.specs.Known.{WhereReadable}
+use Rattle.check_map.proofs.Checking.{unread}
+use Rattle.records_spec.specs.Fates.{records_of}
 use Rattle.records_spec.proofs.Answers.{records_refused, promised}
 use Rattle.records.proofs.records_within.Goals as goal
 
-pub returns-then-examined-ne0 : goal.returns-then-examined-ne0
-returns-then-examined-ne0 c =
-    let the_facts = promised _ _ _ _ (records_refused _ _ _ _ (unread _ _ _ c.examine-examined.ensures c.if-examined-ne0.true) c.if-examined-ne0.true) in
+pub returns-in_err-examined : goal.returns-in_err-examined
+returns-in_err-examined c =
+    let the_facts = promised _ _ _ _ (records_refused _ _ _ _ (passed_up c.from_residual.ensures) (unread _ _ _ _ c.in_err-examined.ensures.err)) in
     record { answers = the_facts.0; number = the_facts.1.0; promises = the_facts.1.1 }
-
-pub records_known-requires : goal.records_known-requires
-records_known-requires c =
-    read_known _ _ c.examine-examined.ensures c.if-examined-ne0.false
 
 pub returns : goal.returns
 returns c =
-    let the_facts = promised _ _ _ _ (c.records_known.ensures _ (read-readable _ _ c.examine-examined.ensures c.if-examined-ne0.false)) in
+    let ok = c.in_ok-examined.ensures.ok in
+    let told = subst (λ (t : Bor (List ℕ)). WhereReadable t.now (λ L. record { answer = c.records_known.result; out = c.records_known.new.out } ≡ records_of L t.now c.args.map.now c.args.out.now)) ok.0 c.records_known.ensures in
+    let the_facts = promised _ _ _ _ (told _ ok.1) in
     record { answers = the_facts.0; number = the_facts.1.0; promises = the_facts.1.1 }

@@ -1,14 +1,12 @@
--- `records_fates::count_of` meets its contract: the marks from here on are still to be counted. Assumes nothing.
-use Prim.Native.Nat.{◌-◌}
-use Rattle.records_fates.proofs.Counting.{counting, counted, one_more, another}
+-- `records_fates::count_of` meets its contract: the marks that are this one are as many. Assumes nothing.
+use mathlib.Core.Path.{◌≡◌, ◌∙◌}
+use borrow.Author.Rules.{rules}
+use lib.Dec.{eqb}
+use Rattle.std.specs.List.{count_by}
+use Rattle.records_fates.proofs.Counting.{count_having}
 use Rattle.records_fates.proofs.count_of.Goals as goal
-use Rattle.records_fates.proofs.count_of.Goals.{else-marks-i, then-marks-i}
-
-pub marks-init : goal.marks-init
-marks-init c = counting _ _
-
-pub marks-preserved : goal.marks-preserved
-marks-preserved c = let i = c.marks.invariant in let t = c.marks-test.true in elim c.if-marks-i.branch [ then-marks-i w ↦ rw w.n-is (one_more i t w.if-marks-i.true) | else-marks-i w ↦ rw w.n-is (another i t w.if-marks-i.false) ]
 
 pub returns : goal.returns
-returns c = counted c.marks.invariant c.marks-test.false
+returns c =
+    let e : c.count.result ≡ count_by (λ x. eqb x c.args.mark) c.args.marks.now = search rules in
+    e ∙ count_having _ _

@@ -24,35 +24,25 @@ bounds-section-i c =
     let room : c.records.i * c.args.width + c.args.width ≤ length c.args.section.now = index-room c.args.width c.args.section.now (omega (arith, c.requires.moves)) c.records.i here in
     omega (arith, room)
 
-pub overflow_add-i : goal.overflow_add-i
-overflow_add-i c =
-    let here : c.records.i < records_in c.args.width c.args.section.now = omega (arith, c.records-test.true, records-count c.args.width c.args.section.now) in
-    omega (arith, here, records-count c.args.width c.args.section.now, div-le_self (length c.args.section.now) c.args.width)
-
 pub offset_bounds-ends-state : goal.offset_bounds-ends-state
 offset_bounds-ends-state c =
     let here : c.records.i < records_in c.args.width c.args.section.now = omega (arith, c.records-test.true, records-count c.args.width c.args.section.now) in
-    let state : c.wide-state.result ≡ state_at c.args.width c.args.section.now c.records.i = c.wide-state.ensures ∙ state-here c.args.width c.args.section.now (omega (arith, c.requires.moves)) c.records.i here in
-    let small : c.wide-state.result < 40 = omega (arith, state, state-small c.requires here, c.requires.few-states) in
+    let state : c.from-state.result ≡ state_at c.args.width c.args.section.now c.records.i = c.from-state.ensures ∙ state-here c.args.width c.args.section.now (omega (arith, c.requires.moves)) c.records.i here in
+    let small : c.from-state.result < 40 = omega (arith, state, state-small c.requires here, c.requires.few-states) in
     omega (arith, small)
 
 pub bounds-ends-state : goal.bounds-ends-state
 bounds-ends-state c =
     let here : c.records.i < records_in c.args.width c.args.section.now = omega (arith, c.records-test.true, records-count c.args.width c.args.section.now) in
-    let state : c.wide-state.result ≡ state_at c.args.width c.args.section.now c.records.i = c.wide-state.ensures ∙ state-here c.args.width c.args.section.now (omega (arith, c.requires.moves)) c.records.i here in
-    let small : c.wide-state.result < 40 = omega (arith, state, state-small c.requires here, c.requires.few-states) in
+    let state : c.from-state.result ≡ state_at c.args.width c.args.section.now c.records.i = c.from-state.ensures ∙ state-here c.args.width c.args.section.now (omega (arith, c.requires.moves)) c.records.i here in
+    let small : c.from-state.result < 40 = omega (arith, state, state-small c.requires here, c.requires.few-states) in
     small
-
-pub records-smaller : goal.records-smaller
-records-smaller c =
-    let here : c.records.i < records_in c.args.width c.args.section.now = omega (arith, c.records-test.true, records-count c.args.width c.args.section.now) in
-    omega (arith, here)
 
 pub records-preserved : goal.records-preserved
 records-preserved c =
     let here : c.records.i < records_in c.args.width c.args.section.now = omega (arith, c.records-test.true, records-count c.args.width c.args.section.now) in
-    let state : c.wide-state.result ≡ state_at c.args.width c.args.section.now c.records.i = c.wide-state.ensures ∙ state-here c.args.width c.args.section.now (omega (arith, c.requires.moves)) c.records.i here in
-    let small : c.wide-state.result < 40 = omega (arith, state, state-small c.requires here, c.requires.few-states) in
+    let state : c.from-state.result ≡ state_at c.args.width c.args.section.now c.records.i = c.from-state.ensures ∙ state-here c.args.width c.args.section.now (omega (arith, c.requires.moves)) c.records.i here in
+    let small : c.from-state.result < 40 = omega (arith, state, state-small c.requires here, c.requires.few-states) in
     end_on c.records.invariant here state small
 
 pub returns : goal.returns

@@ -53,51 +53,51 @@ bounds-out-i c =
     let here : c.records.i < records_in c.args.width c.args.section.now = omega (arith, c.records-test.true, records-count c.args.width c.args.section.now) in
     omega (arith, here, c.records.invariant.long, c.requires.fitting.2)
 
-pub records-smaller-then-class_at-class : goal.records-smaller-then-class_at-class
-records-smaller-then-class_at-class c =
+pub records-smaller-then-from-class : goal.records-smaller-then-from-class
+records-smaller-then-from-class c =
     let here : c.records.i < records_in c.args.width c.args.section.now = omega (arith, c.records-test.true, records-count c.args.width c.args.section.now) in
     omega (arith, here)
 
-pub records-preserved-then-class_at-class : goal.records-preserved-then-class_at-class
-records-preserved-then-class_at-class c =
+pub records-preserved-then-from-class : goal.records-preserved-then-from-class
+records-preserved-then-from-class c =
     let here : c.records.i < records_in c.args.width c.args.section.now = omega (arith, c.records-test.true, records-count c.args.width c.args.section.now) in
     let some : 0 < c.args.width = omega (arith, c.requires.fitting.0.moves) in
     let fields : take (c.records.i * c.args.width + c.args.width - c.records.i * c.args.width) (drop (c.records.i * c.args.width) c.args.section.now) ≡ record_at c.args.width c.args.section.now c.records.i = record_here c.args.width c.args.section.now some c.records.i here in
-    let class-here : c.class_at.result ≡ class_of c.args.map.now (state_at c.args.width c.args.section.now c.records.i) = c.class_at.ensures ∙ ap (class_of c.args.map.now) (state-here c.args.width c.args.section.now some c.records.i here) in
+    let class-here : c.from.result ≡ class_of c.args.map.now (state_at c.args.width c.args.section.now c.records.i) = c.from.ensures ∙ c.class_at.ensures ∙ ap (class_of c.args.map.now) (state-here c.args.width c.args.section.now some c.records.i here) in
     let s : Stamped c.args.words.now c.args.map.now c.args.stamp (record_at c.args.width c.args.section.now c.records.i) c.records.room c.mark_of.result c.mark_of.new.room =
     subst (λ (r : List ℕ). Stamped c.args.words.now c.args.map.now c.args.stamp r c.records.room c.mark_of.result c.mark_of.new.room) fields c.mark_of.ensures in
-    mark_on c.requires.fitting.0 c.records.invariant here (sym class-here ∙ c.if-class_at-class.true) c.requires.fitting.2 s
+    mark_on c.requires.fitting.0 c.records.invariant here (sym class-here ∙ c.if-from-class.true) c.requires.fitting.2 s
 
-pub offset_bounds-ends-wide : goal.offset_bounds-ends-wide
-offset_bounds-ends-wide c =
+pub offset_bounds-ends-from : goal.offset_bounds-ends-from
+offset_bounds-ends-from c =
     let here : c.records.i < records_in c.args.width c.args.section.now = omega (arith, c.records-test.true, records-count c.args.width c.args.section.now) in
     let some : 0 < c.args.width = omega (arith, c.requires.fitting.0.moves) in
-    let state : c.wide.result ≡ state_at c.args.width c.args.section.now c.records.i = c.wide.ensures ∙ state-here c.args.width c.args.section.now some c.records.i here in
-    let small : c.wide.result < 40 = omega (arith, state, state-small c.requires.fitting.0 here, c.requires.fitting.0.few-states) in
+    let state : c.from-else-from-class.result ≡ state_at c.args.width c.args.section.now c.records.i = c.from-else-from-class.ensures ∙ state-here c.args.width c.args.section.now some c.records.i here in
+    let small : c.from-else-from-class.result < 40 = omega (arith, state, state-small c.requires.fitting.0 here, c.requires.fitting.0.few-states) in
     omega (arith, small)
 
-pub bounds-ends-wide : goal.bounds-ends-wide
-bounds-ends-wide c =
+pub bounds-ends-from : goal.bounds-ends-from
+bounds-ends-from c =
     let here : c.records.i < records_in c.args.width c.args.section.now = omega (arith, c.records-test.true, records-count c.args.width c.args.section.now) in
     let some : 0 < c.args.width = omega (arith, c.requires.fitting.0.moves) in
-    let state : c.wide.result ≡ state_at c.args.width c.args.section.now c.records.i = c.wide.ensures ∙ state-here c.args.width c.args.section.now some c.records.i here in
-    let small : c.wide.result < 40 = omega (arith, state, state-small c.requires.fitting.0 here, c.requires.fitting.0.few-states) in
+    let state : c.from-else-from-class.result ≡ state_at c.args.width c.args.section.now c.records.i = c.from-else-from-class.ensures ∙ state-here c.args.width c.args.section.now some c.records.i here in
+    let small : c.from-else-from-class.result < 40 = omega (arith, state, state-small c.requires.fitting.0 here, c.requires.fitting.0.few-states) in
     small
 
 pub records-smaller : goal.records-smaller
 records-smaller c =
     let here : c.records.i < records_in c.args.width c.args.section.now = omega (arith, c.records-test.true, records-count c.args.width c.args.section.now) in
     let some : 0 < c.args.width = omega (arith, c.requires.fitting.0.moves) in
-    let state : c.wide.result ≡ state_at c.args.width c.args.section.now c.records.i = c.wide.ensures ∙ state-here c.args.width c.args.section.now some c.records.i here in
+    let state : c.from-else-from-class.result ≡ state_at c.args.width c.args.section.now c.records.i = c.from-else-from-class.ensures ∙ state-here c.args.width c.args.section.now some c.records.i here in
     omega (arith, here, ahead c.requires.fitting.1 here state)
 
 pub records-preserved : goal.records-preserved
 records-preserved c =
     let here : c.records.i < records_in c.args.width c.args.section.now = omega (arith, c.records-test.true, records-count c.args.width c.args.section.now) in
     let some : 0 < c.args.width = omega (arith, c.requires.fitting.0.moves) in
-    let class-here : c.class_at.result ≡ class_of c.args.map.now (state_at c.args.width c.args.section.now c.records.i) = c.class_at.ensures ∙ ap (class_of c.args.map.now) (state-here c.args.width c.args.section.now some c.records.i here) in
-    let state : c.wide.result ≡ state_at c.args.width c.args.section.now c.records.i = c.wide.ensures ∙ state-here c.args.width c.args.section.now some c.records.i here in
-    skip c.requires.fitting.0 c.records.invariant c.requires.fitting.1 here state (λ e. c.if-class_at-class.false (class-here ∙ ap (class_of c.args.map.now) (sym state) ∙ e))
+    let class-here : c.from.result ≡ class_of c.args.map.now (state_at c.args.width c.args.section.now c.records.i) = c.from.ensures ∙ c.class_at.ensures ∙ ap (class_of c.args.map.now) (state-here c.args.width c.args.section.now some c.records.i here) in
+    let state : c.from-else-from-class.result ≡ state_at c.args.width c.args.section.now c.records.i = c.from-else-from-class.ensures ∙ state-here c.args.width c.args.section.now some c.records.i here in
+    skip c.requires.fitting.0 c.records.invariant c.requires.fitting.1 here state (λ e. c.if-from-class.false (class-here ∙ ap (class_of c.args.map.now) (sym state) ∙ e))
 
 pub shape_of-out : goal.shape_of-out
 shape_of-out c = c.records.invariant.long

@@ -18,11 +18,6 @@ mark_class-requires c =
     let i = c.classes.invariant in
     record { fitting = (c.requires.0, c.ends_of-ends.ensures, omega (arith, c.requires.1, i.long)); stamp_nonzero = (omega arith, record { places = i.small.places; small = λ p. omega (arith, i.small.small p) }) }
 
-pub overflow_add-class : goal.overflow_add-class
-overflow_add-class c =
-    let within : c.classes.class < classes c.args.map.now = omega (arith, c.classes-test.true, c.class_count-classes.ensures) in
-    omega (arith, within, c.requires.0.few-classes)
-
 pub classes-preserved : goal.classes-preserved
 classes-preserved c =
     let within : c.classes.class < classes c.args.map.now = omega (arith, c.classes-test.true, c.class_count-classes.ensures) in

@@ -1,5 +1,6 @@
 -- `reduce::deliver_held` meets its contract: the map of the trial held, the quotient under it, and then the map is written. Assumes nothing.
-use mathlib.Core.Path.{◌≡◌, sym}
+use mathlib.Core.Path.{◌≡◌, refl, sym}
+use Rattle.refusals.proofs.Numbers.{passed_up}
 use mathlib.Core.List.{List, ◌++◌}
 use Prim.Native.Nat.{ℕ}
 use lib.ListN.{length, take, drop}
@@ -16,16 +17,16 @@ copied_front n xs a e l = rw (e, take_all (length (take n xs)) (take n xs) (omeg
 
 pub map_of-classes-requires : goal.map_of-classes-requires
 map_of-classes-requires c =
-    (c.requires.known.1, omega (arith, c.requires.held_for.long))
+    (c.requires.n_within.0, omega (arith, c.requires.held_for.long))
 
 pub slice_bounds-quotient_known-end : goal.slice_bounds-quotient_known-end
 slice_bounds-quotient_known-end c =
-    sym (laws.prefix_long c.map_of-classes.result.map c.args.n c.map_of-classes.ensures.long c.requires.known.1)
+    sym (laws.prefix_long c.map_of-classes.result.map c.args.n c.map_of-classes.ensures.long c.requires.n_within.0)
 
-pub returns-in-Refused : goal.returns-in-Refused
-returns-in-Refused c =
-    λ L readable list. laws.not_delivered L c.args.table.now list c.args.map.now c.args.out.now c.args.values.now c.args.n c.args.guesses c.args.ceiling c.args.spent c.map_of-classes.ensures (c.quotient_known-written.ensures L readable) c.in-Refused.is
+pub returns-in_err-length : goal.returns-in_err-length
+returns-in_err-length c =
+    λ L readable list. laws.not_delivered L c.args.examined.now.bytes.now list c.args.map.now c.args.out.now c.args.values.now c.args.n c.args.made.guesses c.args.ceiling c.args.made.spent c.map_of-classes.ensures (c.in_err-length.ensures L readable) (passed_up c.from_residual.ensures) refl
 
-pub returns-in-Length : goal.returns-in-Length
-returns-in-Length c =
-    λ L readable list. laws.delivered L c.args.table.now list c.args.map.now c.args.out.now c.args.values.now c.args.n c.args.guesses c.args.ceiling c.args.spent c.map_of-classes.ensures (c.quotient_known-written.ensures L readable) c.requires.held_for c.not_false-joined.ensures c.in-Length.is c.requires.known.3 (copied_front c.args.n c.map_of-classes.result.map c.args.map.now c.copy_from_slice.ensures.after (laws.prefix_long c.map_of-classes.result.map c.args.n c.map_of-classes.ensures.long c.requires.known.1))
+pub returns : goal.returns
+returns c =
+    λ L readable list. laws.delivered L c.args.examined.now.bytes.now list c.args.map.now c.args.out.now c.args.values.now c.args.n c.args.made.guesses c.args.ceiling c.args.made.spent c.map_of-classes.ensures (c.in_ok-length.ensures L readable) c.requires.held_for c.not_false-joined.ensures refl c.requires.words_of_list (copied_front c.args.n c.map_of-classes.result.map c.args.map.now c.copy_from_slice.ensures.after (laws.prefix_long c.map_of-classes.result.map c.args.n c.map_of-classes.ensures.long c.requires.n_within.0))

@@ -1,5 +1,4 @@
 -- `reduce_map::lowest_joined` meets its contract: each state has its lowest joined state among the variables so far. Assumes nothing.
-use Prim.Native.Nat.{◌-◌}
 use native.Mathlib.Omega.{arith}
 use Rattle.lists.specs.Lists.{upto}
 use Rattle.reduce_map.proofs.Lowest.{all_own, seen_false, seen-later, seen-lower, high_below, seen_all}
@@ -9,20 +8,20 @@ pub variables-init : goal.variables-init
 unfolding upto
 variables-init c = record { inside = omega arith; lowest = all_own _ }
 
-pub variables-preserved-then-values-x-ne1 : goal.variables-preserved-then-values-x-ne1
-variables-preserved-then-values-x-ne1 c = seen_false c.requires c.variables.invariant (omega (arith, c.pairs_of-count.ensures, c.variables-test.true)) c.if-values-x-ne1.true
+pub variables-preserved-then-values-from-ne1 : goal.variables-preserved-then-values-from-ne1
+variables-preserved-then-values-from-ne1 c = seen_false c.requires c.variables.invariant (omega (arith, c.pairs_of-count.ensures, c.variables-test.true)) (rw c.from.ensures at c.if-values-from-ne1.true)
 
 pub bounds-low-q : goal.bounds-low-q
-bounds-low-q c = high_below c.requires c.variables.invariant (omega (arith, c.pairs_of-count.ensures, c.variables-test.true)) c.pair_table-table.ensures c.pair_of-pair.ensures c.wide-q.ensures
+bounds-low-q c = high_below c.requires c.variables.invariant (omega (arith, c.pairs_of-count.ensures, c.variables-test.true)) c.pair_table-table.ensures c.pair_of-pair.ensures c.from-q.ensures
 
 pub variables-preserved-then-low-q : goal.variables-preserved-then-low-q
-variables-preserved-then-low-q c = seen-later c.requires c.variables.invariant (omega (arith, c.pairs_of-count.ensures, c.variables-test.true)) c.pair_table-table.ensures c.pair_of-pair.ensures c.wide-q.ensures c.if-low-q.true
+variables-preserved-then-low-q c = seen-later c.requires c.variables.invariant (omega (arith, c.pairs_of-count.ensures, c.variables-test.true)) c.pair_table-table.ensures c.pair_of-pair.ensures c.from-q.ensures c.if-low-q.true
 
 pub bounds-low-q-in-variables : goal.bounds-low-q-in-variables
-bounds-low-q-in-variables c = high_below c.requires c.variables.invariant (omega (arith, c.pairs_of-count.ensures, c.variables-test.true)) c.pair_table-table.ensures c.pair_of-pair.ensures c.wide-q.ensures
+bounds-low-q-in-variables c = high_below c.requires c.variables.invariant (omega (arith, c.pairs_of-count.ensures, c.variables-test.true)) c.pair_table-table.ensures c.pair_of-pair.ensures c.from-q.ensures
 
 pub variables-preserved : goal.variables-preserved
-variables-preserved c = seen-lower c.requires c.variables.invariant (omega (arith, c.pairs_of-count.ensures, c.variables-test.true)) c.pair_table-table.ensures c.pair_of-pair.ensures c.wide-q.ensures c.if-values-x-ne1.false c.if-low-q.false
+variables-preserved c = seen-lower c.requires c.variables.invariant (omega (arith, c.pairs_of-count.ensures, c.variables-test.true)) c.pair_table-table.ensures c.pair_of-pair.ensures c.from-q.ensures (rw c.from.ensures at c.if-values-from-ne1.false) c.if-low-q.false
 
 pub returns : goal.returns
 returns c = seen_all c.variables.invariant (omega (arith, c.pairs_of-count.ensures, c.variables-test.false))

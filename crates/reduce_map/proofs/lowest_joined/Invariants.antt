@@ -1,11 +1,6 @@
 -- `reduce_map::lowest_joined` meets its contract: each state has its lowest joined state among the variables so far. Assumes nothing.
-use Prim.Native.Nat.{◌-◌}
-use Rattle.pairs.specs.Pairs.{pairs}
 use Rattle.reduce_map.proofs.Lowest.{Seen}
 use Rattle.reduce_map.proofs.lowest_joined.Given as goal
 
 abbrev pub invariant-variables : goal.invariant-variables
-invariant-variables l = Seen l.values l.n l.v l.low
-
-abbrev pub decreases-variables : goal.decreases-variables
-decreases-variables l = pairs l.n - l.v
+invariant-variables l = Seen l.values l.n l.x l.low

@@ -1,46 +1,31 @@
--- `sat_counters::count_literals` meets its contract. The loop's invariant: the clauses passed have their counters. Assumes nothing.
-use native.Mathlib.Omega.{arith}
-use mathlib.Core.Path.{refl, ◌∙◌}
-use Prim.Native.Nat.{◌-◌}
-use lib.ListN.{length-set}
-use Rattle.sat_literal.proofs.Walking.{end_inside}
+-- `sat_counters::count_literals` meets its contract. Assumes nothing.
+use Rattle.std.proofs.Common.{rules, arith, ◌≡◌}
+use Rattle.sat_literal.specs.Walk.{clauses_rest}
+use Rattle.sat_literal.proofs.Walking.{over_on}
 use Rattle.sat_counters.proofs.Counting as laws
 use Rattle.sat_counters.proofs.count_literals.Goals as goal
 
 pub clauses-init : goal.clauses-init
-clauses-init c = (laws.tallying _ _ c.requires.list_value.0, refl)
-
-pub overflow_add-at : goal.overflow_add-at
-overflow_add-at c =
-    let the-taken = c.clauses-test.true in
-    omega (arith, end_inside c.clauses.invariant.0.before the-taken, c.wide.ensures, c.requires.list_len_bound.0)
-
-pub slice_bounds-weigh_clause-end : goal.slice_bounds-weigh_clause-end
-slice_bounds-weigh_clause-end c =
-    let the-taken = c.clauses-test.true in
-    omega (arith, end_inside c.clauses.invariant.0.before the-taken, c.wide.ensures)
+clauses-init c =
+    let e : clauses_rest c.into_iter-literals-iterator.result ≡ c.args.list.now = search rules in
+    rw e (laws.tallying _ c.requires.list_value.0 c.requires.list_value.1 c.requires.list_len_bound.0)
 
 pub weigh_clause-requires : goal.weigh_clause-requires
 weigh_clause-requires c =
-    let the-taken = c.clauses-test.true in
-    (laws.lent-over c.clauses.invariant.0 the-taken c.requires.list_value.1 c.wide.ensures, c.requires.list_value.2, laws.lent-short c.clauses.invariant.0 the-taken c.wide.ensures c.requires.list_len_bound.0)
+    let i = c.clauses.invariant in
+    let e = c.in-Some.ensures.steps in
+    (over_on _ _ _ e i.formed, c.requires.list_value.2, laws.clause-short i _ _ e)
 
 pub bounds-counters-count : goal.bounds-counters-count
 bounds-counters-count c =
-    let the-taken = c.clauses-test.true in
-    omega (arith, laws.count-inside c.clauses.invariant.0 the-taken, c.requires.list_len_bound.1, c.clauses.invariant.1)
+    omega (arith, laws.count-inside c.clauses.invariant _ _ c.in-Some.ensures.steps, c.requires.list_len_bound.1, c.clauses.auto.counters)
 
 pub clauses-preserved : goal.clauses-preserved
 clauses-preserved c =
-    let the-taken = c.clauses-test.true in
-    let the-room = laws.count-inside c.clauses.invariant.0 the-taken in (
-      laws.count_literals_on c.clauses.invariant.0 the-taken c.wide.ensures (omega (arith, the-room, c.requires.list_len_bound.1, c.clauses.invariant.1)) c.weigh_clause.ensures,
-      length-set c.clauses.counters c.clauses.count c.weigh_clause.result ∙ c.clauses.invariant.1,
-    )
-
-pub shape_of-counters : goal.shape_of-counters
-shape_of-counters c = c.clauses.invariant.1
+    let i = c.clauses.invariant in
+    let e = c.in-Some.ensures.steps in
+    laws.count_literals_on i _ _ e (omega (arith, laws.count-inside i _ _ e, c.requires.list_len_bound.1, c.clauses.auto.counters)) c.weigh_clause.ensures
 
 pub returns : goal.returns
 returns c =
-    laws.tallied c.clauses.invariant.0 c.clauses-test.false (omega (arith, c.requires.list_len_bound.1, c.clauses.invariant.1))
+    laws.tallied c.clauses.invariant c.in-None.ensures.steps.0 (omega (arith, c.requires.list_len_bound.1, c.clauses.auto.counters))

@@ -3,4 +3,4 @@ use Rattle.sat_trail.proofs.Trails.{unset-at}
 use Rattle.sat_literal.proofs.is_unset.Goals as goal
 
 pub returns : goal.returns
-returns c = unset-at _ _ c.requires c.wide.ensures
+returns c = unset-at _ _ c.requires c.from.ensures

@@ -10,7 +10,7 @@ use Rattle.sat_passes.proofs.propagate_passes.Given as goal
 
 abbrev pub invariant-passes : goal.invariant-passes
 invariant-passes l =
-    laws.Settling (clauses_in l.list) (triangles l.n) l.initial.values l.initial.trail l.start l.values l.trail l.at l.count × Rows l.n l.values l.joined l.apart
+    laws.Settling (clauses_in l.list) (triangles l.n) l.initial.values l.initial.trail l.start l.values l.trail l.at l.count × Rows l.n l.values l.rows.joined l.rows.apart
 
 abbrev pub decreases-passes : goal.decreases-passes
 decreases-passes l =

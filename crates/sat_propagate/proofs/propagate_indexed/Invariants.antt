@@ -12,7 +12,7 @@ use Rattle.sat_propagate.proofs.propagate_indexed.Given as goal
 
 abbrev pub invariant-queue : goal.invariant-queue
 invariant-queue l =
-    groups.Both (clauses_in l.list) (triangles l.n) l.initial.values l.initial.trail l.start l.values l.trail l.count l.at × Rows l.n l.values l.joined l.apart × CountersBefore l.list l.values l.trail l.at l.count l.counters × (length l.counters ≡ length l.initial.counters) × (length l.noted ≡ length l.initial.noted)
+    groups.Both (clauses_in l.list) (triangles l.n) l.initial.values l.initial.trail l.start l.values l.trail l.count l.at × Rows l.n l.values l.rows.joined l.rows.apart × CountersBefore l.list l.values l.trail l.at l.count l.counters × (length l.counters ≡ length l.initial.counters) × (length l.noted ≡ length l.initial.noted)
 
 abbrev pub decreases-queue : goal.decreases-queue
 decreases-queue l =

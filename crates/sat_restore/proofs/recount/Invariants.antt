@@ -7,6 +7,3 @@ use Rattle.sat_restore.proofs.recount.Given as goal
 
 abbrev pub invariant-trail : goal.invariant-trail
 invariant-trail l = CountersBefore l.list l.values l.trail l.i l.count l.counters × (l.mark ≤ l.i) × (l.i ≤ l.base) × (length l.counters ≡ length l.initial.counters)
-
-abbrev pub decreases-trail : goal.decreases-trail
-decreases-trail l = l.i

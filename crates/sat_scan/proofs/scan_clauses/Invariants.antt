@@ -20,7 +20,7 @@ decreases-literals l =
 
 abbrev pub invariant-clauses : goal.invariant-clauses
 invariant-clauses l =
-    laws.Sifting l.list l.initial.values l.initial.trail l.start l.values l.trail l.places l.count l.kept l.at × (l.broken ≡ false) × Rows l.n l.values l.joined l.apart × (length l.places ≡ length l.initial.places)
+    laws.Sifting l.list l.initial.values l.initial.trail l.start l.values l.trail l.places l.count l.kept l.at × (l.broken ≡ false) × Rows l.n l.values l.rows.joined l.rows.apart × (length l.places ≡ length l.initial.places)
 
 abbrev pub decreases-clauses : goal.decreases-clauses
 decreases-clauses l =

@@ -13,7 +13,7 @@ use Rattle.sat_search.proofs.turns.Given as goal
 
 abbrev pub invariant-turns : goal.invariant-turns
 invariant-turns l =
-    laws.Turning (with_triangles l.list l.n) (length l.initial.values) l.budget (not_false l.initial.values) l.values l.trail l.levels l.at l.count l.depth l.made l.low × Rows l.n l.values l.joined l.apart × CountersBeforeIf l.list l.clauses l.values l.trail l.at l.count l.counters × wording.Marked l.levels l.depth l.at
+    laws.Turning (with_triangles l.list l.n) (length l.initial.values) l.budget (not_false l.initial.values) l.values l.trail l.levels l.at l.count l.depth l.made l.low × Rows l.n l.values l.rows.joined l.rows.apart × CountersBeforeIf l.list l.clauses l.values l.trail l.at l.count l.counters × wording.Marked l.levels l.depth l.at
     × (length l.list ≤ length l.clauses → 0 < l.depth → l.saved ≡ l.counters) × (length l.counters ≡ length l.initial.counters) × (length l.saved ≡ length l.initial.counters) × (length l.noted ≡ length l.initial.noted)
 
 abbrev pub decreases-turns : goal.decreases-turns

@@ -1,5 +1,4 @@
 -- `sat_segments::add_segments` meets its contract. The loop's invariant: the words before j have gained those of the variables. Assumes nothing.
-use Prim.Native.Nat.{◌-◌}
 use Rattle.sat_segments.proofs.Gathering as laws
 use Rattle.sat_segments.proofs.add_segments.Goals as goal
 

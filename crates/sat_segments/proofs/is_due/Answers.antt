@@ -1,8 +1,7 @@
 -- `sat_segments::is_due` meets its contract. Assumes nothing.
-use borrow.Author.Rules.{rules}
-use Rattle.lists.specs.Bits.{has_bit, has}
+use Rattle.lists.specs.Bits.{has}
 use Rattle.sat_segments.proofs.is_due.Goals as goal
 
 pub returns : goal.returns
-unfolding has has_bit
-returns c = search rules
+unfolding has
+returns c = c.has_bit.ensures

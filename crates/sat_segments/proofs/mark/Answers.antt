@@ -1,6 +1,6 @@
 -- `sat_segments::mark` meets its contract. The loops' invariant: the segments before this one are whole, and every clause passed is marked. Assumes nothing.
 use native.Mathlib.Omega.{arith}
-use Prim.Native.Nat.{◌-◌, ◌<◌}
+use Prim.Native.Nat.{◌<◌}
 use lib.ListN.{length}
 use lib.Seq.{get_or-set_same}
 use Rattle.sat_segments.proofs.Cutting as laws
@@ -18,18 +18,18 @@ bounds-list-at c =
 pub overflow_add-end : goal.overflow_add-end
 overflow_add-end c =
     let inside : c.clauses.at < length c.args.list.now = omega (arith, c.clauses-test.true, c.limit_of-limit.ensures, laws.limit_inside (length c.args.list.now) c.segments.at c.segments.k c.segments.invariant.0.before.inside) in
-    omega (arith, laws.lent_end c.clauses.invariant inside c.wide.ensures)
+    omega (arith, laws.lent_end c.clauses.invariant inside c.from.ensures)
 
 pub slice_bounds-mark_clause-end : goal.slice_bounds-mark_clause-end
 slice_bounds-mark_clause-end c =
     let inside : c.clauses.at < length c.args.list.now = omega (arith, c.clauses-test.true, c.limit_of-limit.ensures, laws.limit_inside (length c.args.list.now) c.segments.at c.segments.k c.segments.invariant.0.before.inside) in
-    laws.lent_end c.clauses.invariant inside c.wide.ensures
+    laws.lent_end c.clauses.invariant inside c.from.ensures
 
 pub mark_clause-requires : goal.mark_clause-requires
 mark_clause-requires c =
     let inside : c.clauses.at < length c.args.list.now = omega (arith, c.clauses-test.true, c.limit_of-limit.ensures, laws.limit_inside (length c.args.list.now) c.segments.at c.segments.k c.segments.invariant.0.before.inside) in
     let i = c.clauses.invariant in
-    (laws.lent-over i inside c.wide.ensures c.requires.list_value.1, c.segments-test.true, i.room)
+    (laws.lent-over i inside c.from.ensures c.requires.list_value.1, c.segments-test.true, i.room)
 
 pub clauses-smaller : goal.clauses-smaller
 clauses-smaller c =
@@ -39,7 +39,7 @@ clauses-smaller c =
 pub clauses-preserved : goal.clauses-preserved
 clauses-preserved c =
     let inside : c.clauses.at < length c.args.list.now = omega (arith, c.clauses-test.true, c.limit_of-limit.ensures, laws.limit_inside (length c.args.list.now) c.segments.at c.segments.k c.segments.invariant.0.before.inside) in
-    laws.mark-lent c.clauses.invariant inside c.wide.ensures c.mark_clause.ensures
+    laws.mark-lent c.clauses.invariant inside c.from.ensures c.mark_clause.ensures
 
 pub segments-preserved : goal.segments-preserved
 segments-preserved c =

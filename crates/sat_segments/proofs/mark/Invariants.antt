@@ -13,6 +13,3 @@ decreases-clauses l = length l.list - l.at
 
 abbrev pub invariant-segments : goal.invariant-segments
 invariant-segments l = laws.Marking l.list l.starts l.masks l.k l.at × (get_or l.starts l.k 0 ≡ l.at) × (l.k ≤ 1024) × (1024 ≤ l.k → length l.list ≤ l.at)
-
-abbrev pub decreases-segments : goal.decreases-segments
-decreases-segments l = 1024 - l.k

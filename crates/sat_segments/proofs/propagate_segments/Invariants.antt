@@ -11,7 +11,7 @@ use Rattle.sat_passes.proofs.Passes as passing
 use Rattle.sat_segments.proofs.propagate_segments.Given as goal
 
 abbrev pub invariant-passes : goal.invariant-passes
-invariant-passes l = passing.Settling (clauses_in l.list) (triangles l.n) l.initial.values l.initial.trail l.start l.values l.trail l.at l.count × Waiting (clauses_in l.list) l.values (slice l.at l.count l.trail) × Rows l.n l.values l.joined l.apart
+invariant-passes l = passing.Settling (clauses_in l.list) (triangles l.n) l.initial.values l.initial.trail l.start l.values l.trail l.at l.count × Waiting (clauses_in l.list) l.values (slice l.at l.count l.trail) × Rows l.n l.values l.rows.joined l.rows.apart
 
 abbrev pub decreases-passes : goal.decreases-passes
 decreases-passes l = length l.values - l.count

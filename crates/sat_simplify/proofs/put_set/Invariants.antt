@@ -1,12 +1,6 @@
--- `sat_simplify::put_set` meets its contract. Assumes nothing.
-use Prim.Native.Nat.{◌-◌}
-use mathlib.Core.Path.{◌≡◌}
-use lib.ListN.{length}
+-- `sat_simplify::put_set` meets its contract. The loop's invariant: the clauses of the variables below x that are set are put. Assumes nothing.
 use Rattle.sat_simplify.proofs.Simplifying as laws
 use Rattle.sat_simplify.proofs.put_set.Given as goal
 
 abbrev pub invariant-variables : goal.invariant-variables
-invariant-variables l = laws.Setting l.values l.out l.at l.x × (length l.out ≡ length l.initial.out)
-
-abbrev pub decreases-variables : goal.decreases-variables
-decreases-variables l = length l.values - l.x
+invariant-variables l = laws.Setting l.values l.out l.at l.x

@@ -1,12 +1,6 @@
--- `sat_simplify::put_units` meets its contract. Assumes nothing.
-use Prim.Native.Nat.{◌-◌}
-use mathlib.Core.Path.{◌≡◌}
-use lib.ListN.{length}
+-- `sat_simplify::put_units` meets its contract. The loop's invariant: the clauses of the variables passed are put. Assumes nothing.
 use Rattle.sat_simplify.proofs.Simplifying as laws
 use Rattle.sat_simplify.proofs.put_units.Given as goal
 
 abbrev pub invariant-variables : goal.invariant-variables
-invariant-variables l = laws.Uniting l.values l.variables l.out l.at l.i × (length l.out ≡ length l.initial.out)
-
-abbrev pub decreases-variables : goal.decreases-variables
-decreases-variables l = length l.variables - l.i
+invariant-variables l = laws.Uniting l.values l.variables l.out l.at l.x-index

@@ -1,6 +1,6 @@
 -- `sat_solve::turns_indexed` meets its contract. Assumes nothing.
 use native.Mathlib.Omega.{arith}
-use mathlib.Core.Path.{refl, sym, ◌∙◌}
+use mathlib.Core.Path.{sym}
 use lib.Seq.{length-take-le}
 use Rattle.cnf.specs.Clauses.{clauses_in}
 use Rattle.pairs.specs.Triangles.{triangles}

@@ -1,13 +1,11 @@
 -- `sat_solve::turns_marked` meets its contract. Assumes nothing.
-use native.Mathlib.Omega.{arith}
-use mathlib.Core.Path.{refl}
 use Prim.Native.Nat.{ℕ}
 use lib.ListN.{length-replicate}
 use Rattle.cnf.specs.Clauses.{clauses_in}
 use Rattle.pairs.specs.Triangles.{triangles}
 use Rattle.sat_trail.proofs.Working.{formed-part}
 use Rattle.sat_passes.proofs.Attending.{to_cs}
-use Rattle.sat_solve.proofs.Rooms.{formed-most, unprepared}
+use Rattle.sat_solve.proofs.Rooms.{formed-most}
 use Rattle.sat_solve.proofs.turns_marked.Goals as goal
 
 pub mark-requires : goal.mark-requires

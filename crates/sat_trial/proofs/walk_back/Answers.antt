@@ -13,32 +13,21 @@ pub trial_holds-requires : goal.trial_holds-requires
 trial_holds-requires c =
     (c.requires.list_value.0, rw c.guesses.invariant.0.size c.requires.list_value.1)
 
-pub shape_of-values-then-trial_holds : goal.shape_of-values-then-trial_holds
-shape_of-values-then-trial_holds c =
-    c.hold.auto.values ∙ c.guesses.invariant.0.size
-
 pub returns-then-trial_holds : goal.returns-then-trial_holds
 returns-then-trial_holds c =
     laws.retrace_holds c.guesses.invariant.0 (sym c.trial_holds.ensures ∙ c.if-trial_holds.true) c.hold.ensures
 
-pub shape_of-values-then-depth-eq0 : goal.shape_of-values-then-depth-eq0
-shape_of-values-then-depth-eq0 c =
-    c.hold-then-depth-eq0.auto.values ∙ c.guesses.invariant.0.size
-
 pub returns-then-depth-eq0 : goal.returns-then-depth-eq0
 returns-then-depth-eq0 c =
     laws.retrace_none c.guesses.invariant.0 (sym c.trial_holds.ensures ∙ c.if-trial_holds.false) c.if-depth-eq0.true c.hold-then-depth-eq0.ensures
-
-pub offset_bounds-levels-depth : goal.offset_bounds-levels-depth
-offset_bounds-levels-depth c = omega (arith, c.guesses.invariant.0.able.few)
 
 pub bounds-levels-depth : goal.bounds-levels-depth
 bounds-levels-depth c = omega (arith, c.guesses.invariant.0.able.few, c.if-depth-eq0.false)
 
 pub undo_to-requires : goal.undo_to-requires
 undo_to-requires c =
-    (c.requires.pair_table.0, laws.can_retrace c.guesses.invariant.0 (sym c.trial_holds.ensures ∙ c.if-trial_holds.false) (c.guesses.depth - 1) (omega (arith, c.if-depth-eq0.false)) c.wide-mark.ensures, c.guesses.invariant.1)
+    (c.requires.pair_table.0, laws.can_retrace c.guesses.invariant.0 (sym c.trial_holds.ensures ∙ c.if-trial_holds.false) (c.guesses.depth - 1) (omega (arith, c.if-depth-eq0.false)) c.from-mark.ensures, c.guesses.invariant.1)
 
 pub guesses-preserved : goal.guesses-preserved
 guesses-preserved c =
-    (laws.retrace_on c.guesses.invariant.0 (sym c.trial_holds.ensures ∙ c.if-trial_holds.false) (c.guesses.depth - 1) (omega (arith, c.if-depth-eq0.false)) c.wide-mark.ensures c.undo_to.ensures.values, c.undo_to.ensures.rows)
+    (laws.retrace_on c.guesses.invariant.0 (sym c.trial_holds.ensures ∙ c.if-trial_holds.false) (c.guesses.depth - 1) (omega (arith, c.if-depth-eq0.false)) c.from-mark.ensures c.undo_to.ensures.values, c.undo_to.ensures.rows)

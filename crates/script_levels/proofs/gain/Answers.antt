@@ -1,6 +1,4 @@
 -- `script_levels::gain` meets its contract. Assumes nothing.
-use native.Mathlib.Omega.{arith}
-use lib.Pow.{shl_exact}
 use Rattle.script_levels.proofs.Stepping.{gain-internal, gain-none, gain-call}
 use mathlib.Core.Path.{refl, ◌∙◌}
 use Rattle.script_levels.proofs.gain.Goals as goal
@@ -12,4 +10,4 @@ pub returns-then-word-eq0 : goal.returns-then-word-eq0
 returns-then-word-eq0 c = gain-none _ _ refl c.if-not-call.false c.if-word-eq0.true
 
 pub returns : goal.returns
-returns c = shl_exact {a = 1} 1 c.args.q 64 (omega arith) (omega (arith, c.requires)) ∙ omega arith ∙ gain-call _ _ refl c.if-not-call.false c.if-word-eq0.false
+returns c = c.bit.ensures ∙ gain-call _ _ refl c.if-not-call.false c.if-word-eq0.false

@@ -1,12 +1,14 @@
--- `script_levels::gain_returns` meets its contract. Assumes nothing.
-use Prim.Native.Nat.{◌-◌}
-use Rattle.table_spec.specs.File.{records}
+-- `script_levels::gain_returns` meets its contract: what the records to come gain is still to be gained. Assumes nothing.
+use mathlib.Core.Path.{◌≡◌}
+use Prim.Native.Nat.{◌<◌}
+use Rattle.std.specs.Slice.Iter.{chunks_exact_rest, chunks_exact_size}
 use Rattle.script_levels.specs.Levels.{popped}
 use Rattle.script_levels.proofs.Stepping.{Running}
 use Rattle.script_levels.proofs.gain_returns.Given as goal
 
 abbrev pub invariant-records : goal.invariant-records
-invariant-records l = Running (popped l.reached l.below) 3 (records 4 l.section) l.from l.to l.initial.words l.k l.words
-
-abbrev pub decreases-records : goal.decreases-records
-decreases-records l = l.to - l.k
+invariant-records l = record {
+  can_next : 0 < chunks_exact_size l.fields-iterator;
+  size : chunks_exact_size l.fields-iterator ≡ 4;
+  left : Running (popped l.reached l.below) 3 4 l.found l.initial.words (chunks_exact_rest l.fields-iterator) l.words;
+}

@@ -1,5 +1,4 @@
 -- `script_levels::moved` meets its contract. Assumes nothing.
-use Prim.Native.Nat.{◌-◌}
 use lib.ListN.{get_or}
 use Rattle.table_spec.specs.File.{records}
 use Rattle.script_spec.specs.Script.{gain}
@@ -8,6 +7,3 @@ use Rattle.script_levels.proofs.moved.Given as goal
 
 abbrev pub invariant-states : goal.invariant-states
 invariant-states l = Stepping (λ r. gain l.call l.level (get_or r 0 0)) 2 l.a (records 3 l.section) l.starts l.n l.initial.words l.q l.words
-
-abbrev pub decreases-states : goal.decreases-states
-decreases-states l = l.n - l.q

@@ -1,7 +1,6 @@
 -- `search::search_within` meets its contract: 39 comes first. Assumes nothing.
 use mathlib.Core.Path.{sym, ◌∙◌}
 use native.Mathlib.Omega.{arith}
-use borrow.Author.Tests.{not-true, not-false}
 use Rattle.pairs.proofs.Pairs.{few-pairs}
 use Rattle.search_spec.proofs.Answers as answers
 use Rattle.search.proofs.search_within.Goals as goal

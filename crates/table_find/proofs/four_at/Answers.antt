@@ -6,25 +6,9 @@ use Rattle.table_find.specs.Keys.{key}
 use Rattle.table_find.proofs.Keys.{next_byte, part_small}
 use Rattle.table_find.proofs.four_at.Goals as goal
 
-pub two_at-requires : goal.two_at-requires
-two_at-requires c = omega (arith, c.requires)
-
-pub overflow_add-at : goal.overflow_add-at
-overflow_add-at c = omega (arith, c.requires, c.well_formed.0.0)
-
-pub bounds-section-at : goal.bounds-section-at
-bounds-section-at c = omega (arith, c.requires)
-
 pub with_byte-requires : goal.with_byte-requires
 with_byte-requires c =
     omega (arith, c.two_at.ensures, part_small c.args.section.now (λ i. (c.shared_slice_known-1.given i).fits) c.args.at 2 (omega arith))
-
-pub overflow_add-at-2 : goal.overflow_add-at-2
-overflow_add-at-2 c =
-    omega (arith, c.requires, c.well_formed.0.0)
-
-pub bounds-section-at-2 : goal.bounds-section-at-2
-bounds-section-at-2 c = omega (arith, c.requires)
 
 pub with_byte-requires-2 : goal.with_byte-requires-2
 with_byte-requires-2 c =

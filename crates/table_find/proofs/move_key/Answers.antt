@@ -1,12 +1,8 @@
 -- `table_find::move_key` meets its contract. Assumes nothing.
 use mathlib.Core.Path.{ap, ◌∙◌}
 use Prim.Native.Nat.{◌+◌, ◌*◌}
-use native.Mathlib.Omega.{arith}
 use Rattle.table_find.proofs.Keys.{two_keyed}
 use Rattle.table_find.proofs.move_key.Goals as goal
-
-pub with_byte-requires-2 : goal.with_byte-requires-2
-with_byte-requires-2 c = omega (arith, c.with_byte.ensures, c.ranges.q.fits)
 
 pub returns : goal.returns
 returns c =

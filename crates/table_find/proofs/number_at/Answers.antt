@@ -1,19 +1,10 @@
 -- `table_find::number_at` meets its contract. Assumes nothing.
-use mathlib.Core.Path.{◌≡◌, refl, sym, ap, ◌∙◌}
+use mathlib.Core.Path.{refl, sym, ap, ◌∙◌}
 use native.Mathlib.Omega.{arith}
 use lib.ListN.{take, drop}
 use Rattle.table_find.specs.Keys.{key}
 use Rattle.table_find.proofs.Keys.{next_byte, part_small}
 use Rattle.table_find.proofs.number_at.Goals as goal
-
-pub two_at-requires : goal.two_at-requires
-two_at-requires c = omega (arith, c.requires)
-
-pub overflow_add-at : goal.overflow_add-at
-overflow_add-at c = omega (arith, c.requires, c.well_formed.0.0)
-
-pub bounds-section-at : goal.bounds-section-at
-bounds-section-at c = omega (arith, c.requires)
 
 pub with_byte-requires : goal.with_byte-requires
 with_byte-requires c =
@@ -23,11 +14,3 @@ pub returns-then-width-eq3 : goal.returns-then-width-eq3
 returns-then-width-eq3 c =
     next_byte c.args.section.now c.args.at 2 c.two_at.ensures (omega (arith, c.requires)) refl c.with_byte.ensures
     ∙ ap (λ w. key (take w (drop c.args.at c.args.section.now))) (sym c.if-width-eq3.true)
-
-pub four_at-requires : goal.four_at-requires
-four_at-requires c = omega (arith, c.requires, c.if-width-eq3.false)
-
-pub returns : goal.returns
-returns c =
-    let w : 4 ≡ c.args.width = omega (arith, c.requires, c.if-width-eq3.false) in
-    c.four_at.ensures ∙ ap (λ n. key (take n (drop c.args.at c.args.section.now))) w

@@ -1,12 +1,7 @@
 -- `table_index::starts_of` meets its contract. Assumes nothing.
-use Prim.Native.Nat.{◌-◌, ◌/◌}
-use lib.ListN.{length}
 use Rattle.table_spec.specs.File.{records}
 use Rattle.table_index.proofs.Index.{Indexing}
 use Rattle.table_index.proofs.starts_of.Given as goal
 
 abbrev pub invariant-records : goal.invariant-records
 invariant-records l = Indexing (records l.width l.section) l.starts l.x l.k
-
-abbrev pub decreases-records : goal.decreases-records
-decreases-records l = length l.section / l.width - l.k

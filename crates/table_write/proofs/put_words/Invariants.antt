@@ -2,12 +2,7 @@
 use Rattle.table_write.proofs.Writing.{Listing}
 use Rattle.table_spec.specs.File.{bytes16}
 use Rattle.lists.specs.Lists.{concat_map, over}
-use lib.ListN.{length}
-use Prim.Native.Nat.{◌-◌}
 use Rattle.table_write.proofs.put_words.Given as goal
 
 abbrev pub invariant-words : goal.invariant-words
-invariant-words l = Listing bytes16 l.words (over (concat_map bytes16 l.words) l.initial.out) l.out l.at l.i
-
-abbrev pub decreases-words : goal.decreases-words
-decreases-words l = length l.words - l.i
+invariant-words l = Listing bytes16 l.words (over (concat_map bytes16 l.words) l.initial.out) l.out l.at l.word-index

@@ -1,11 +1,8 @@
--- `tops::count_tops` meets its contract. The invariant: what was found, and the ones of the words from here on. Assumes nothing.
-use Prim.Native.Nat.{◌-◌}
-use lib.Count.{ones_in}
-use Rattle.tops.proofs.Loops.{Summing}
+-- `tops::count_tops` meets its contract: the ones of the words so far. Assumes nothing.
+use Rattle.std.proofs.Common.{◌≡◌, take}
+use Rattle.std.specs.List.{sum_by}
+use Rattle.std.specs.Int.Count.{ones_in}
 use Rattle.tops.proofs.count_tops.Given as goal
 
 abbrev pub invariant-words : goal.invariant-words
-invariant-words l = Summing (ones_in 64) 64 l.words l.n l.found l.q
-
-abbrev pub decreases-words : goal.decreases-words
-decreases-words l = l.n - l.q
+invariant-words l = l.found ≡ sum_by (ones_in 64) (take l.word-index l.words)

@@ -1,5 +1,6 @@
 -- `tops::step` meets its contract. Assumes nothing.
 use borrow.Author.Tests.{eq-eqb, ne_eqb}
+use Rattle.lists.specs.Bits.{has}
 use Rattle.tops.specs.Steps.{step_by}
 use Rattle.tops.proofs.step.Goals as goal
 
@@ -16,11 +17,11 @@ pub returns-else-words-from-ne0 : goal.returns-else-words-from-ne0
 unfolding step_by
 returns-else-words-from-ne0 c = rw (c.in-Call.is, step_by, eq-eqb _ _ c.if-words-from-ne0.false)
 
-pub returns-then-has_top : goal.returns-then-has_top
-unfolding step_by
-returns-then-has_top c =
-    rw (c.in-Return.is, step_by, ← c.has_top.ensures, c.if-has_top.true) c.add-then-has_top.ensures
+pub returns-then-has_bit : goal.returns-then-has_bit
+unfolding step_by has
+returns-then-has_bit c =
+    rw (c.in-Return.is, step_by, ← c.has_bit.ensures, c.if-has_bit.true) c.add-then-has_bit.ensures
 
-pub returns-else-has_top : goal.returns-else-has_top
-unfolding step_by
-returns-else-has_top c = rw (c.in-Return.is, step_by, ← c.has_top.ensures, c.if-has_top.false)
+pub returns-else-has_bit : goal.returns-else-has_bit
+unfolding step_by has
+returns-else-has_bit c = rw (c.in-Return.is, step_by, ← c.has_bit.ensures, c.if-has_bit.false)

@@ -5,9 +5,10 @@ use Rattle.tops.proofs.tops_read.Goals as goal
 
 pub tops_of-requires : goal.tops_of-requires
 tops_of-requires c =
-    (parts_sections _ c.requires.0 c.part.ensures c.part-2.ensures c.part-3.ensures c.part-4.ensures, c.requires.1)
+    let s = c.sections_of.ensures in
+    (parts_sections _ c.requires.0 s.states s.internals s.calls s.returns, c.requires.1)
 
 pub returns : goal.returns
 returns c =
-    c.tops_of.ensures
-    ∙ parts-tops _ c.requires.0 c.part.ensures c.part-2.ensures c.part-3.ensures c.part-4.ensures
+    let s = c.sections_of.ensures in
+    c.tops_of.ensures ∙ parts-tops _ c.requires.0 s.states s.internals s.calls s.returns

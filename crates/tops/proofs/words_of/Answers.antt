@@ -3,9 +3,6 @@ use Rattle.tops.proofs.Padded.{words-made}
 use Rattle.tops.proofs.Sums.{start_small}
 use Rattle.tops.proofs.words_of.Goals as goal
 
-pub start_words-requires : goal.start_words-requires
-start_words-requires c = (c.requires.0.few, c.requires.1)
-
 pub fixpoint-requires : goal.fixpoint-requires
 fixpoint-requires c =
     let p = c.requires.0 in (p, start_small _ p.few c.start_words.ensures)

@@ -1,11 +1,7 @@
--- `uses::add_lines` meets its contract. The loop's invariant: what the lines from here on add to the sums and the total as they are. Assumes nothing.
-use Prim.Native.Nat.{◌-◌}
-use lib.ListN.{length}
+-- `uses::add_lines` meets its contract. The loop's invariant: what the lines that are left add to the sums and the total as they are. Assumes nothing.
+use Rattle.std.specs.Slice.Iter.{chunks_exact_rest, chunks_exact_size}
 use Rattle.uses.proofs.Adding.{Adding}
 use Rattle.uses.proofs.add_lines.Given as goal
 
 abbrev pub invariant-lines : goal.invariant-lines
-invariant-lines l = Adding l.map l.lines l.at l.sums l.total
-
-abbrev pub decreases-lines : goal.decreases-lines
-decreases-lines l = length l.lines - l.at
+invariant-lines l = Adding l.map l.lines (chunks_exact_size l.line-iterator) (chunks_exact_rest l.line-iterator) l.sums l.total

@@ -1,22 +1,26 @@
 -- `uses::uses_within` meets its contract: refused as the check refuses the map, or counted under it. Assumes nothing.
-use mathlib.Core.Path.{sym, ◌∙◌, subst}
+use mathlib.Core.Path.{sym, subst, ◌∙◌}
+use Rattle.std.specs.Prelude.{Result}
+use Rattle.std.specs.Result.{IfOk}
+use Rattle.refusals.specs.declared.Refusal.{Refusal}
+use Rattle.refusals.proofs.Numbers.{passed_up}
 use Rattle.check_spec.proofs.Answers.{accepted-number, refused_number}
+use Rattle.uses_spec.specs.declared.Counted.{Counted}
 use Rattle.uses_spec.specs.Demands.{Fits}
-use Rattle.uses_spec.proofs.Promises.{class-small, uses-accepted, uses_refused, refused_fits, promised}
+use Rattle.uses_spec.proofs.Promises.{class-small, uses-accepted, uses_refused, promised, number_counted}
 use Rattle.uses.proofs.uses_within.Goals as goal
 
 pub uses_under-requires : goal.uses_under-requires
-uses_under-requires c = class-small _ _ _ (accepted-number _ _ _ (sym c.check_within-checked.ensures.answers ∙ c.in-Accepted.is))
+uses_under-requires c = class-small _ _ _ (accepted-number _ _ _ (sym c.in_ok-check_within.ensures.answers))
 
-pub returns-in-Accepted : goal.returns-in-Accepted
-returns-in-Accepted c =
-    let e = accepted-number _ _ _ (sym c.check_within-checked.ensures.answers ∙ c.in-Accepted.is) in
+pub returns-in_err-check_within : goal.returns-in_err-check_within
+returns-in_err-check_within c =
+    let e = passed_up c.from_residual.ensures in
+    let the_facts = promised _ _ _ _ (e ∙ uses_refused _ _ _ _ (refused_number _ _ _ (sym c.in_err-check_within.ensures.answers))) (subst (λ (r : Result Counted Refusal). IfOk r Fits) (sym e) tt) in
+    record { answers = the_facts.0; promises = the_facts.1; number = number_counted _ _ _ _ the_facts.0 }
+
+pub returns : goal.returns
+returns c =
+    let e = accepted-number _ _ _ (sym c.in_ok-check_within.ensures.answers) in
     let the_facts = promised _ _ _ _ (c.uses_under.ensures.value ∙ uses-accepted _ _ _ _ e) c.uses_under.ensures.fits in
-    record { answers = the_facts.0; promises = the_facts.1 }
-
-pub returns-in-Refused : goal.returns-in-Refused
-returns-in-Refused c =
-    let n = refused_number _ _ _ (sym c.check_within-checked.ensures.answers ∙ c.in-Refused.is) in
-    let the_facts = let e = c.refused.ensures in
-    promised _ _ _ _ (e ∙ uses_refused _ _ _ _ n.0 n.1) (subst Fits (sym e) (refused_fits _)) in
-    record { answers = the_facts.0; promises = the_facts.1 }
+    record { answers = the_facts.0; promises = the_facts.1; number = number_counted _ _ _ _ the_facts.0 }

@@ -12,7 +12,7 @@ block-found-requires c =
 
 pub matched-requires : goal.matched-requires
 matched-requires c =
-    (move_premised c.args.section.now c.args.p c.args.a c.args.target c.args.q c.block-found.result.now c.block-found.ensures c.no_literals.ensures c.with_premise-premises.ensures c.requires.0, c.requires.4)
+    move_premised c.args.section.now c.args.p c.args.a c.args.target c.args.q c.block-found.result.now c.block-found.ensures c.no_literals.ensures c.with_premise-premises.ensures c.requires.0
 
 pub returns : goal.returns
 returns c =

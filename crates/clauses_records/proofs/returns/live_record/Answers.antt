@@ -1,5 +1,4 @@
 -- `clauses_records::returns::live_record` meets its contract. Assumes nothing.
-use borrow.Author.Tests.{not-true, not-false}
 use Rattle.clauses_records.proofs.Returning.{dead, alive}
 use Rattle.clauses_records.proofs.returns.live_record.Goals as goal
 

@@ -1,5 +1,4 @@
 -- `clauses_records::returns::reached` meets its contract: no record passed has the stack state. Assumes nothing.
-use Prim.Native.Nat.{◌-◌}
 use borrow.Author.Rules.{rules}
 use Rattle.clauses_records.proofs.Walking.{reaching, reach_inside, reach_on, reach_there, reach_end}
 use Rattle.clauses_records.proofs.returns.reached.Goals as goal

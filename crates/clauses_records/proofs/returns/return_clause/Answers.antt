@@ -15,9 +15,9 @@ with_premise-premises-requires c =
 pub matched-requires : goal.matched-requires
 matched-requires c =
     let s = c.args.found.now in
-    (return_premised s c.args.x c.args.q c.args.u s (equal_range_all c.requires.0) c.no_literals.ensures c.with_premise.ensures c.with_premise-premises.ensures c.requires.0.lent, c.requires.1)
+    return_premised s c.args.x c.args.q c.args.u s (equal_range_all c.requires) c.no_literals.ensures c.with_premise.ensures c.with_premise-premises.ensures c.requires.lent
 
 pub returns : goal.returns
 returns c =
     let s = c.args.found.now in
-    return-other s c.args.x c.args.q c.args.u s (equal_range_all c.requires.0) c.no_literals.ensures c.with_premise.ensures c.with_premise-premises.ensures _ c.same_place.ensures c.if-same_place.false c.matched.ensures
+    return-other s c.args.x c.args.q c.args.u s (equal_range_all c.requires) c.no_literals.ensures c.with_premise.ensures c.with_premise-premises.ensures _ c.same_place.ensures c.if-same_place.false c.matched.ensures

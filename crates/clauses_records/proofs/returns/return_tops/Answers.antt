@@ -16,7 +16,7 @@ use Rattle.clauses_records.proofs.returns.return_tops.Goals as goal
 -- ---- the needs
 
 pub tops-init : goal.tops-init
-tops-init c = (toward _ _ _ _ (search rules) c.requires.1, walked _ _)
+tops-init c = (toward _ _ _ _ (search rules), walked _ _)
 
 pub shape_of-list-then-top-count : goal.shape_of-list-then-top-count
 shape_of-list-then-top-count c = c.tops.invariant.0.coming.long
@@ -58,8 +58,8 @@ slice_bounds-return_clause-end c =
 pub return_clause-so_far-requires : goal.return_clause-so_far-requires
 return_clause-so_far-requires c =
     let lowest : LowestBit c.tops.rest c.next_state-top.result = low c.tops.invariant.0 c.tops-test.true c.next_state-top.ensures in
-    let found : records 4 (take (c.reached-at.result * 4 - c.reached-from.result * 4) (drop (c.reached-from.result * 4) c.args.block.now)) ≡ filter (starts_with (c.args.q ∷ c.args.x.symbol ∷ c.next_state-top.result ∷ [])) (records 4 c.args.block.now) = walk-found c.tops.invariant.1 lowest c.reached-from.ensures c.reached-at.ensures c.requires.0 in
-    (equal_range_kept _ _ c.requires.0.lent found, c.tops.invariant.0.coming.ordered)
+    let found : records 4 (take (c.reached-at.result * 4 - c.reached-from.result * 4) (drop (c.reached-from.result * 4) c.args.block.now)) ≡ filter (starts_with (c.args.q ∷ c.args.x.symbol ∷ c.next_state-top.result ∷ [])) (records 4 c.args.block.now) = walk-found c.tops.invariant.1 lowest c.reached-from.ensures c.reached-at.ensures c.requires in
+    equal_range_kept _ _ c.requires.lent found
 
 pub tops-smaller : goal.tops-smaller
 tops-smaller c =
@@ -69,7 +69,7 @@ tops-smaller c =
 pub tops-preserved : goal.tops-preserved
 tops-preserved c =
     let lowest : LowestBit c.tops.rest c.next_state-top.result = low c.tops.invariant.0 c.tops-test.true c.next_state-top.ensures in
-    let found : records 4 (take (c.reached-at.result * 4 - c.reached-from.result * 4) (drop (c.reached-from.result * 4) c.args.block.now)) ≡ filter (starts_with (c.args.q ∷ c.args.x.symbol ∷ c.next_state-top.result ∷ [])) (records 4 c.args.block.now) = walk-found c.tops.invariant.1 lowest c.reached-from.ensures c.reached-at.ensures c.requires.0 in (
+    let found : records 4 (take (c.reached-at.result * 4 - c.reached-from.result * 4) (drop (c.reached-from.result * 4) c.args.block.now)) ≡ filter (starts_with (c.args.q ∷ c.args.x.symbol ∷ c.next_state-top.result ∷ [])) (records 4 c.args.block.now) = walk-found c.tops.invariant.1 lowest c.reached-from.ensures c.reached-at.ensures c.requires in (
       toward_on c.tops.invariant.0 c.tops-test.true c.next_state-top.ensures c.if-top-count.false
           (of_top c.args.block.now _ c.args.x c.args.q c.next_state-top.result found _ c.return_clause-so_far.ensures) c.later_states-rest.ensures,
       walk_on c.tops.invariant.1 lowest c.reached-from.ensures c.reached-at.ensures (c.later_states-rest.ensures ∙ ap (λ x. c.tops.rest - 2 ^ x) (sym c.next_state-top.ensures)),

@@ -1,5 +1,4 @@
 -- `clauses_records::returns::return_tops` meets its contract: the tops so far have their clauses, and the records before the one at hand are below those to come. Assumes nothing.
-use Prim.Native.Nat.{◌-◌}
 use Rattle.lists.specs.Lists.{concat_map, filter, upto}
 use Rattle.lists.specs.Bits.{has_bit}
 use Rattle.table_spec.specs.File.{records}

@@ -1,6 +1,5 @@
 -- `combine::states::put_states` meets its contract: the bytes from here on are still to be written. Assumes nothing.
 use native.Mathlib.Omega.{arith}
-use Prim.Native.Nat.{◌-◌}
 use Rattle.lists.proofs.Copying as laws
 use Rattle.combine.proofs.StateBytes.{bytes-long}
 use Rattle.combine.proofs.states.put_states.Goals as goal

@@ -12,8 +12,8 @@ sum-requires c =
 
 pub returns-in-Intersection : goal.returns-in-Intersection
 returns-in-Intersection c =
-    product_collected c.args.width c.args.firsts c.args.seconds c.args.symbols c.args.first.now c.args.second.now c.in-Intersection.is c.requires c.product.ensures
+    product_collected c.args.width c.args.firsts c.args.seconds c.args.symbols c.args.first.now c.args.second.now _ _ _ c.in-Intersection.is c.requires c.product.ensures
 
 pub returns-in-Union : goal.returns-in-Union
 returns-in-Union c =
-    sum_collected c.args.width c.args.firsts c.args.seconds c.args.first.now c.args.second.now c.in-Union.is c.sum.ensures
+    sum_collected c.args.width c.args.firsts c.args.seconds c.args.first.now c.args.second.now _ _ _ c.in-Union.is c.sum.ensures

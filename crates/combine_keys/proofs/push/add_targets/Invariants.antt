@@ -1,13 +1,16 @@
 -- `combine_keys::push::add_targets` meets its contract: the rows of the first's targets so far are added. Assumes nothing.
-use Prim.Native.Nat.{◌-◌, ◌*◌}
+use Prim.Native.Nat.{◌-◌, ◌*◌, ◌<◌}
+use mathlib.Core.Path.{◌≡◌}
 use lib.ListN.{get_or}
+use Rattle.std.specs.Slice.Iter.{chunks_exact_rest, chunks_exact_size}
 use Rattle.table_spec.specs.File.{records}
 use Rattle.combine_keys.specs.Adding.{row_keys}
 use Rattle.combine_keys.proofs.Adding.{Adding}
 use Rattle.combine_keys.proofs.push.add_targets.Given as goal
 
 abbrev pub invariant-records : goal.invariant-records
-invariant-records l = Adding (λ r. row_keys l.prefix (get_or r (l.width - 1) 0 * l.states) l.width l.second) (records l.width l.first) l.initial.keys l.count l.keys l.held l.i
-
-abbrev pub decreases-records : goal.decreases-records
-decreases-records l = l.records - l.i
+invariant-records l = record {
+  can_next : 0 < chunks_exact_size l.fields-iterator;
+  size : chunks_exact_size l.fields-iterator ≡ l.width;
+  walk : Adding (λ r. row_keys l.prefix (get_or r (l.width - 1) 0 * l.states) l.width l.second) (records l.width l.first) l.initial.keys l.count l.keys l.held (records l.width (chunks_exact_rest l.fields-iterator));
+}

@@ -1,68 +1,49 @@
 -- `combine_keys::shift::add_shifted` meets its contract: the keys of the records so far are added. Assumes nothing.
-use Prim.Native.Nat.{◌+◌, ◌-◌, ◌*◌, ◌<◌, ◌≤◌}
 use native.Mathlib.Omega.{arith}
-use mathlib.Core.Path.{◌≡◌, ap, ◌∙◌}
-use mathlib.Core.List.{[], ◌∷◌}
-use lib.ListN.{length, get_or}
-use Rattle.table_spec.specs.File.{records}
+use mathlib.Core.Path.{◌≡◌, refl, ap, ◌∙◌}
+use mathlib.Core.List.{List, [], ◌∷◌, Memᴰ}
+use Prim.Native.Nat.{ℕ, ◌+◌, ◌<◌}
+use lib.ListN.{length, take, drop}
+use lib.Seq.{take_all}
 use Rattle.table_find.specs.Keys.{key}
-use Rattle.table_find.proofs.Spanning.{record_inside}
-use Rattle.lists.proofs.Members.{get_d_mem}
+use Rattle.table_spec.proofs.Chunks.{chunk_on, chunk_end}
 use Rattle.combine_keys.specs.Adding.{shifted_keys}
-use Rattle.combine_keys.proofs.Adding.{adding, add-next, added}
-use Rattle.combine_keys.proofs.Sections.{number-there, one-there, none-there, under-bytes}
-use borrow.Author.Rules.{rules}
+use Rattle.combine_keys.proofs.Adding.{add_on, add_stop, added}
 use Rattle.combine_keys.proofs.shift.add_shifted.Goals as goal
 
-pub nonzero_div-records : goal.nonzero_div-records
-nonzero_div-records c =
-    omega (arith, c.requires.0)
+number_is : (w : ℕ) (x : List ℕ) {r : ℕ} → r ≡ key (take w (drop 0 x)) → length x ≡ w → r ≡ key x
+number_is w x e l = e ∙ ap key (take_all w x (omega arith))
 
-pub records-init : goal.records-init
-records-init c = adding
-
-pub overflow_mul-at : goal.overflow_mul-at
-overflow_mul-at c =
-    let inside : c.records.i * c.args.width + c.args.width ≤ length c.args.section.now = record_inside c.args.width c.args.section.now c.records.i c.records-test.true in
-    let l = inside in search rules
-
-pub number_at-requires : goal.number_at-requires
-number_at-requires c =
-    let inside : c.records.i * c.args.width + c.args.width ≤ length c.args.section.now = record_inside c.args.width c.args.section.now c.records.i c.records-test.true in
-    (c.requires.0, c.requires.1, inside)
-
-pub overflow_cast-number_at : goal.overflow_cast-number_at
-overflow_cast-number_at c =
-    let number : c.number_at.result ≡ key (get_or (records c.args.width c.args.section.now) c.records.i []) = c.number_at.ensures ∙ number-there c.args.width c.args.section.now c.records-test.true in
-    let small : c.number_at.result + c.args.by < 4294967296 = omega (arith, number, c.requires.2 (get_or (records c.args.width c.args.section.now) c.records.i []) (get_d_mem (records c.args.width c.args.section.now) c.records.i [] (one-there c.args.width c.args.section.now c.records-test.true))) in
-    omega (arith, small)
+small : (c : goal.After-number_at) → key c.in-Some.fields.now + c.args.by < 4294967296
+small c =
+    let i = c.records.invariant in
+    let h = c.in-Some.ensures.steps in
+    c.requires.2 c.in-Some.fields.now (i.among _ (rw (chunk_on _ _ _ (omega (arith, c.requires.0)) h.1.0 (h.1.1 ∙ i.size)) (Memᴰ.head refl)))
 
 pub overflow_add-number_at : goal.overflow_add-number_at
-overflow_add-number_at c =
-    let number : c.number_at.result ≡ key (get_or (records c.args.width c.args.section.now) c.records.i []) = c.number_at.ensures ∙ number-there c.args.width c.args.section.now c.records-test.true in
-    let small : c.number_at.result + c.args.by < 4294967296 = omega (arith, number, c.requires.2 (get_or (records c.args.width c.args.section.now) c.records.i []) (get_d_mem (records c.args.width c.args.section.now) c.records.i [] (one-there c.args.width c.args.section.now c.records-test.true))) in
-    omega (arith, small)
+overflow_add-number_at c = omega (arith, number_is c.args.width c.in-Some.fields.now c.number_at.ensures (c.in-Some.ensures.steps.1.1 ∙ c.records.invariant.size), small c)
 
-pub push-held-requires : goal.push-held-requires
-push-held-requires c =
-    let number : c.number_at.result ≡ key (get_or (records c.args.width c.args.section.now) c.records.i []) = c.number_at.ensures ∙ number-there c.args.width c.args.section.now c.records-test.true in
-    let small : c.number_at.result + c.args.by < 4294967296 = omega (arith, number, c.requires.2 (get_or (records c.args.width c.args.section.now) c.records.i []) (get_d_mem (records c.args.width c.args.section.now) c.records.i [] (one-there c.args.width c.args.section.now c.records-test.true))) in
-    omega (arith, small)
+pub push-requires : goal.push-requires
+push-requires c = omega (arith, number_is c.args.width c.in-Some.fields.now c.number_at.ensures (c.in-Some.ensures.steps.1.1 ∙ c.records.invariant.size), small c)
 
-pub overflow_add-i : goal.overflow_add-i
-overflow_add-i c =
-    let l = under-bytes c.args.width c.args.section.now c.records-test.true in search rules
+pub returns-in_err-held : goal.returns-in_err-held
+unfolding shifted_keys
+returns-in_err-held c =
+    let i = c.records.invariant in
+    let h = c.in-Some.ensures.steps in
+    add_stop i.walk _ _ (chunk_on _ _ _ (omega (arith, c.requires.0)) h.1.0 (h.1.1 ∙ i.size)) _ _ (ap (λ x. (x + c.args.by) ∷ []) (number_is c.args.width c.in-Some.fields.now c.number_at.ensures (h.1.1 ∙ i.size))) c.from_residual.ensures c.in_err-held.ensures
 
 pub records-preserved : goal.records-preserved
 records-preserved c =
-    let number : c.number_at.result ≡ key (get_or (records c.args.width c.args.section.now) c.records.i []) = c.number_at.ensures ∙ number-there c.args.width c.args.section.now c.records-test.true in
-    add-next c.records.invariant [] (one-there c.args.width c.args.section.now c.records-test.true) c.push-held.auto.keys
-    (ap (λ x. (x + c.args.by) ∷ []) number) c.push-held.ensures
-
-pub shape_of-keys : goal.shape_of-keys
-shape_of-keys c =
-    c.records.invariant.long
+    let i = c.records.invariant in
+    let h = c.in-Some.ensures.steps in
+    record {
+      can_next = omega (arith, h.0, i.can_next);
+      size = h.0 ∙ i.size;
+      among = λ r m. i.among r (rw (chunk_on _ _ _ (omega (arith, c.requires.0)) h.1.0 (h.1.1 ∙ i.size)) (Memᴰ.tail m));
+      walk = add_on i.walk _ _ (chunk_on _ _ _ (omega (arith, c.requires.0)) h.1.0 (h.1.1 ∙ i.size)) _ _ (ap (λ x. (x + c.args.by) ∷ []) (number_is c.args.width c.in-Some.fields.now c.number_at.ensures (h.1.1 ∙ i.size))) c.push.auto.keys c.in_ok-held.ensures;
+    }
 
 pub returns : goal.returns
-returns c =
-    unfold shifted_keys in added c.records.invariant (none-there c.args.width c.args.section.now (omega (arith, c.records-test.false)))
+unfolding shifted_keys
+returns c = added c.records.invariant.walk (chunk_end _ (omega (arith, c.in-None.ensures.steps.1.0, c.records.invariant.size)))

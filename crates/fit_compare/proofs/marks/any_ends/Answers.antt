@@ -3,7 +3,6 @@ use borrow.Author.Rules.{rules}
 use Rattle.fit_compare.proofs.Marking.{ending, ending_on, ending_met, ending_done}
 use Rattle.fit_rounds.proofs.Passing.{few-pairs}
 use mathlib.Core.Path.{sym, ◌∙◌}
-use Prim.Native.Nat.{◌-◌}
 use native.Mathlib.Omega.{arith}
 use Rattle.fit_compare.proofs.marks.any_ends.Goals as goal
 
@@ -21,10 +20,6 @@ ends_at-requires c =
 pub returns-then-ends_at : goal.returns-then-ends_at
 returns-then-ends_at c =
     ending_met c.pairs.invariant c.pairs-test.true c.byte_at-p.ensures c.byte_at-q.ensures (λ F h. sym c.if-ends_at.true ∙ c.ends_at.ensures F h)
-
-pub overflow_add-u : goal.overflow_add-u
-overflow_add-u c =
-    let h = few-pairs c.requires.0 c.requires.1 in search rules
 
 pub pairs-preserved : goal.pairs-preserved
 pairs-preserved c =

@@ -2,7 +2,6 @@
 use borrow.Author.Rules.{rules}
 use Rattle.fit_compare.proofs.Marking.{equal_range, equal_range_on, started}
 use Rattle.fit_rounds.proofs.Passing.{few-pairs}
-use Prim.Native.Nat.{◌-◌}
 use native.Mathlib.Omega.{arith}
 use Rattle.fit_compare.proofs.marks.start_rows.Goals as goal
 
@@ -16,10 +15,6 @@ pairs-init c = equal_range _ _ _
 pub start_at-requires : goal.start_at-requires
 start_at-requires c =
     let h = few-pairs c.requires.0 c.requires.1 in (omega (arith, h, c.pairs-test.true), omega (arith, h))
-
-pub overflow_add-u : goal.overflow_add-u
-overflow_add-u c =
-    let h = few-pairs c.requires.0 c.requires.1 in search rules
 
 pub pairs-preserved : goal.pairs-preserved
 pairs-preserved c =

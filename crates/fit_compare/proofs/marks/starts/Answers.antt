@@ -1,12 +1,11 @@
 -- `fit_compare::marks::starts` meets its contract. Assumes nothing.
-use Rattle.fit_compare.proofs.Marking.{starts_told, first-not, second-not}
+use mathlib.Core.Path.{◌∙◌}
+use borrow.Author.Tests.{ne_eqb}
+use Rattle.fit_compare.proofs.Marking.{starts_by, first-not}
 use Rattle.fit_compare.proofs.marks.starts.Goals as goal
 
-pub returns-then-first-ne1 : goal.returns-then-first-ne1
-returns-then-first-ne1 c = first-not _ _ c.if-first-ne1.true
+pub returns-then-first-eq1 : goal.returns-then-first-eq1
+returns-then-first-eq1 c = starts_by _ _ c.if-first-eq1.true
 
-pub returns-then-second-ne1 : goal.returns-then-second-ne1
-returns-then-second-ne1 c = second-not _ _ c.if-second-ne1.true
-
-pub returns : goal.returns
-returns c = starts_told _ _ c.if-first-ne1.false c.if-second-ne1.false
+pub returns-else-first-eq1 : goal.returns-else-first-eq1
+returns-else-first-eq1 c = ne_eqb _ _ c.if-first-eq1.false ∙ first-not _ _ c.if-first-eq1.false

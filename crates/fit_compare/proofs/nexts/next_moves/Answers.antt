@@ -3,7 +3,6 @@ use borrow.Author.Rules.{rules}
 use Rattle.fit_compare.proofs.Targets.{filling, fill_on, filled, next-moves, moves-most}
 use mathlib.Core.Path.{◌∙◌}
 use mathlib.Core.List.{[], ◌∷◌}
-use Prim.Native.Nat.{◌-◌}
 use Rattle.table_spec.specs.File.{records}
 use Rattle.fit_spec.specs.Fit.{after}
 use Rattle.fit_compare.proofs.nexts.next_moves.Goals as goal

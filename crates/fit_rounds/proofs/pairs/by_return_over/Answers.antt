@@ -1,7 +1,7 @@
 -- `fit_rounds::pairs::by_return_over` meets its contract. The invariant: the popped states below c are done. Assumes nothing.
 use borrow.Author.Rules.{rules}
 use Rattle.fit_rounds.proofs.Passing.{unders, pair_fits, unders_on, unders_done}
-use Prim.Native.Nat.{◌+◌, ◌-◌, ◌*◌}
+use Prim.Native.Nat.{◌+◌, ◌*◌}
 use native.Mathlib.Omega.{arith}
 use Rattle.fit_rounds.proofs.pairs.by_return_over.Goals as goal
 
@@ -24,19 +24,19 @@ overflow_add-s c =
 
 pub overflow_mul-q : goal.overflow_mul-q
 overflow_mul-q c =
-    let h = pair_fits {b = c.wide-to.result} c.requires.4 c.requires.5.few (omega (arith, c.wide-to.ensures, c.requires.5.within ((c.args.b * 32 + c.args.a) * 25 + c.unders.c))) in search rules
+    let h = pair_fits {b = c.from-to.result} c.requires.4 c.requires.5.few (omega (arith, c.from-to.ensures, c.requires.5.within ((c.args.b * 32 + c.args.a) * 25 + c.unders.c))) in search rules
 
 pub overflow_add-q : goal.overflow_add-q
 overflow_add-q c =
-    let h = pair_fits {b = c.wide-to.result} c.requires.4 c.requires.5.few (omega (arith, c.wide-to.ensures, c.requires.5.within ((c.args.b * 32 + c.args.a) * 25 + c.unders.c))) in search rules
+    let h = pair_fits {b = c.from-to.result} c.requires.4 c.requires.5.few (omega (arith, c.from-to.ensures, c.requires.5.within ((c.args.b * 32 + c.args.a) * 25 + c.unders.c))) in search rules
 
 pub return_pair-requires : goal.return_pair-requires
 return_pair-requires c =
-    (pair_fits {b = c.args.b} c.requires.0 c.requires.5.few (omega (arith, c.requires.2)), pair_fits c.requires.3 c.requires.5.few c.unders-test.true, pair_fits {b = c.wide-to.result} c.requires.4 c.requires.5.few (omega (arith, c.wide-to.ensures, c.requires.5.within ((c.args.b * 32 + c.args.a) * 25 + c.unders.c))))
+    (pair_fits {b = c.args.b} c.requires.0 c.requires.5.few (omega (arith, c.requires.2)), pair_fits c.requires.3 c.requires.5.few c.unders-test.true, pair_fits {b = c.from-to.result} c.requires.4 c.requires.5.few (omega (arith, c.from-to.ensures, c.requires.5.within ((c.args.b * 32 + c.args.a) * 25 + c.unders.c))))
 
 pub unders-preserved : goal.unders-preserved
 unders-preserved c =
-    unders_on c.unders.invariant c.requires.5 c.requires.1 c.requires.2 c.unders-test.true c.wide-to.ensures c.return_pair.ensures
+    unders_on c.unders.invariant c.requires.5 c.requires.1 c.requires.2 c.unders-test.true c.from-to.ensures c.return_pair.ensures
 
 pub returns : goal.returns
 returns c = unders_done c.unders.invariant c.unders-test.false

@@ -4,6 +4,3 @@ use Rattle.fit_rounds.proofs.rows.join.Given as goal
 
 abbrev pub invariant-words : goal.invariant-words
 invariant-words l = Joining l.u l.v l.initial.rows l.rows l.k
-
-abbrev pub decreases-words : goal.decreases-words
-decreases-words l = l.k

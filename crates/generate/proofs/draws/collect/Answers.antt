@@ -1,5 +1,5 @@
 -- `generate::draws::collect` meets its contract: what is present of the records from here on is still to be collected. Assumes nothing.
-use Rattle.std.proofs.Common.{◌-◌, arith}
+use Rattle.std.proofs.Common.{arith}
 use Rattle.generate.proofs.Places.{Sizes, sizes_of, plain_shape}
 use Rattle.generate.proofs.Drawing.{collecting, passed_over, taken, over-full, all_drawn}
 use Rattle.generate.proofs.draws.collect.Goals as goal
@@ -20,21 +20,10 @@ overflow_mul-all-2 c =
 pub records-init : goal.records-init
 records-init c = collecting _ _ _ _
 
-pub overflow_add-next : goal.overflow_add-next
-overflow_add-next c =
-    let sizes : Sizes c.args.width c.args.states c.args.from c.args.symbols c.tails_of.result = sizes_of c.requires c.tails_of.ensures in
-    omega (arith, c.records-test.true, sizes)
-
-pub records-smaller-then-density-s : goal.records-smaller-then-density-s
-records-smaller-then-density-s c = omega (arith, c.records-test.true)
-
 pub records-preserved-then-density-s : goal.records-preserved-then-density-s
 records-preserved-then-density-s c =
     let sizes : Sizes c.args.width c.args.states c.args.from c.args.symbols c.tails_of.result = sizes_of c.requires c.tails_of.ensures in
     passed_over c.records.invariant (omega (arith, c.records-test.true, sizes.all)) c.step-s.ensures c.if-density-s.true
-
-pub shape_of-keys-then-count-keys : goal.shape_of-keys-then-count-keys
-shape_of-keys-then-count-keys c = c.records.invariant.same-room
 
 pub returns-then-count-keys : goal.returns-then-count-keys
 returns-then-count-keys c =
@@ -48,9 +37,6 @@ key_at-requires c =
 
 pub bounds-keys-count : goal.bounds-keys-count
 bounds-keys-count c = omega (arith, c.records.invariant.few, c.if-count-keys.false)
-
-pub records-smaller : goal.records-smaller
-records-smaller c = omega (arith, c.records-test.true)
 
 pub records-preserved : goal.records-preserved
 records-preserved c =

@@ -1,5 +1,5 @@
 -- `generate::write::put_symbols` meets its contract: the bytes from here on are still to be written. Assumes nothing.
-use Rattle.std.proofs.Common.{◌-◌, ◌∙◌, arith}
+use Rattle.std.proofs.Common.{◌∙◌, arith}
 use Rattle.lists.proofs.Copying as laws
 use Rattle.generate_spec.proofs.Bytes.{length_symbols, symbol-at}
 use Rattle.generate.proofs.write.put_symbols.Goals as goal

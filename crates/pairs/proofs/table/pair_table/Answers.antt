@@ -6,5 +6,5 @@ use Rattle.pairs.proofs.Entries.{is_for, is_table, table_of}
 use Rattle.pairs.proofs.table.pair_table.Goals as goal
 
 pub returns : goal.returns
-unfolding is_table is_for all upto pairs variable_of
+unfolding is_table is_for upto pairs variable_of
 returns c = table_of _ refl

@@ -1,5 +1,4 @@
 -- `print_lines::digits::put_hex` meets its contract. The loop's invariant: the first bytes stand as text. Assumes nothing.
-use Prim.Native.Nat.{◌-◌}
 use native.Mathlib.Omega.{arith}
 use lib.ListN.{length-set}
 use Rattle.print_lines.proofs.Text.{none_hexed, hexed_length, hex_on, hex_all}
@@ -11,9 +10,6 @@ bytes-init c = none_hexed _ _ c.requires
 pub bounds-text-at : goal.bounds-text-at
 bounds-text-at c =
     omega (arith, hexed_length _ _ _ _ c.bytes.invariant, c.bytes.invariant.room, c.bytes-test.true)
-
-pub digit-requires : goal.digit-requires
-digit-requires c = omega (arith, c.shared_slice_known-in-bytes-1.given c.bytes.i)
 
 pub bounds-text-at-in-bytes : goal.bounds-text-at-in-bytes
 bounds-text-at-in-bytes c =

@@ -1,11 +1,6 @@
 -- `print_lines::digits::put_hex` meets its contract. The loop's invariant: the first bytes stand as text. Assumes nothing.
-use Prim.Native.Nat.{◌-◌}
-use lib.ListN.{length}
 use Rattle.print_lines.proofs.Text.{Hexed}
 use Rattle.print_lines.proofs.digits.put_hex.Given as goal
 
 abbrev pub invariant-bytes : goal.invariant-bytes
 invariant-bytes l = Hexed l.bytes l.initial.text l.text l.i
-
-abbrev pub decreases-bytes : goal.decreases-bytes
-decreases-bytes l = length l.bytes - l.i

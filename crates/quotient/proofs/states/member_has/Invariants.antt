@@ -1,11 +1,6 @@
 -- `quotient::states::member_has` meets its contract: no member before this state has the flag. Assumes nothing.
 use Rattle.quotient.proofs.ClassBytes.{Seeing}
-use lib.ListN.{length}
-use Prim.Native.Nat.{◌-◌}
 use Rattle.quotient.proofs.states.member_has.Given as goal
 
 abbrev pub invariant-states : goal.invariant-states
 invariant-states l = Seeing l.flag l.states l.map l.class l.q
-
-abbrev pub decreases-states : goal.decreases-states
-decreases-states l = length l.states - l.q

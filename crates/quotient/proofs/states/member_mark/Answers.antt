@@ -1,6 +1,5 @@
 -- `quotient::states::member_mark` meets its contract: no state before this one is a member. Assumes nothing.
 use Rattle.quotient.proofs.ClassBytes.{marking, mark-passed, mark-found, mark-none}
-use Prim.Native.Nat.{◌-◌}
 use Rattle.quotient.proofs.states.member_mark.Goals as goal
 
 pub states-init : goal.states-init

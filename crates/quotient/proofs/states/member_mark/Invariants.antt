@@ -1,11 +1,6 @@
 -- `quotient::states::member_mark` meets its contract: no state before this one is a member. Assumes nothing.
 use Rattle.quotient.proofs.ClassBytes.{Marking}
-use lib.ListN.{length}
-use Prim.Native.Nat.{◌-◌}
 use Rattle.quotient.proofs.states.member_mark.Given as goal
 
 abbrev pub invariant-states : goal.invariant-states
 invariant-states l = Marking l.states l.map l.class l.q
-
-abbrev pub decreases-states : goal.decreases-states
-decreases-states l = length l.states - l.q

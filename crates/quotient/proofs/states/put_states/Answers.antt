@@ -3,7 +3,6 @@ use Rattle.table_spec.specs.File.{of_states}
 use Rattle.lists.proofs.Copying as laws
 use Rattle.quotient.proofs.ClassBytes.{length-bytes, byte_of-class}
 use native.Mathlib.Omega.{arith}
-use Prim.Native.Nat.{◌-◌}
 use mathlib.Core.Path.{◌∙◌}
 use Rattle.quotient.proofs.states.put_states.Goals as goal
 

@@ -2,11 +2,7 @@
 use Rattle.table_spec.specs.File.{of_states}
 use Rattle.lists.proofs.Copying as laws
 use Rattle.quotient.specs.Classes.{class_bytes}
-use Prim.Native.Nat.{◌-◌}
 use Rattle.quotient.proofs.states.put_states.Given as goal
 
 abbrev pub invariant-classes : goal.invariant-classes
 invariant-classes l = laws.Writing (class_bytes (of_states l.states) l.map l.classes) l.initial.out l.out l.c
-
-abbrev pub decreases-classes : goal.decreases-classes
-decreases-classes l = l.classes - l.c

@@ -8,4 +8,4 @@ assign-requires c =
 
 pub returns : goal.returns
 returns c =
-    laws.flipped c.requires.1 c.undo_to.ensures c.assign.ensures c.wide.ensures
+    laws.flipped c.requires.1 c.undo_to.ensures c.assign.ensures c.from.ensures

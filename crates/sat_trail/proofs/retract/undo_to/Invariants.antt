@@ -3,7 +3,4 @@ use Rattle.sat_trail.proofs.UndoingTo as laws
 use Rattle.sat_trail.proofs.retract.undo_to.Given as goal
 
 abbrev pub invariant-trail : goal.invariant-trail
-invariant-trail l = laws.Unwinding l.n l.initial.values l.trail l.mark l.count l.values l.joined l.apart l.i
-
-abbrev pub decreases-trail : goal.decreases-trail
-decreases-trail l = l.i
+invariant-trail l = laws.Unwinding l.n l.initial.values l.trail l.mark l.count l.values l.rows.joined l.rows.apart l.i

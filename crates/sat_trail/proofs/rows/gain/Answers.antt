@@ -4,4 +4,4 @@ use Rattle.sat_trail.proofs.rows.gain.Goals as goal
 
 pub returns : goal.returns
 unfolding gain
-returns c = rw (c.bit.ensures, c.wide-i.ensures)
+returns c = rw (c.bit.ensures, c.from.ensures, c.from-i.ensures)

@@ -4,4 +4,4 @@ use Rattle.sat_trail.proofs.rows.lose.Goals as goal
 
 pub returns : goal.returns
 unfolding lose
-returns c = rw (c.without.ensures, c.bit.ensures, c.wide-i.ensures)
+returns c = rw (c.without.ensures, c.bit.ensures, c.from.ensures, c.from-i.ensures)

@@ -24,14 +24,14 @@ bounds-literals-i c = omega (arith, c.literals-test.true, c.literals.invariant.0
 
 pub returns-then-variables-x : goal.returns-then-variables-x
 returns-then-variables-x c =
-    (let w = c.literals.invariant in laws.mark-past (omega (arith, c.literals-test.true)) w.0 w.1 c.requires.0 (omega (arith, c.literals-test.true, w.0.inside)) c.wide-x.ensures c.if-variables-x.true, c.literals.invariant.1.below)
+    (let w = c.literals.invariant in laws.mark-past (omega (arith, c.literals-test.true)) w.0 w.1 c.requires.0 (omega (arith, c.literals-test.true, w.0.inside)) c.from-x.ensures c.if-variables-x.true, c.literals.invariant.1.below)
 
 pub bounds-marks-x : goal.bounds-marks-x
 bounds-marks-x c = omega (arith, c.requires.0, c.if-variables-x.false)
 
 pub returns-then-marks-x : goal.returns-then-marks-x
 returns-then-marks-x c =
-    (let w = c.literals.invariant in laws.mark_twice (omega (arith, c.literals-test.true)) w.0 w.1 c.requires.0 (omega (arith, c.literals-test.true, w.0.inside)) c.wide-x.ensures c.if-variables-x.false c.if-marks-x.true, c.literals.invariant.1.below)
+    (let w = c.literals.invariant in laws.mark_twice (omega (arith, c.literals-test.true)) w.0 w.1 c.requires.0 (omega (arith, c.literals-test.true, w.0.inside)) c.from-x.ensures c.if-variables-x.false c.if-marks-x.true, c.literals.invariant.1.below)
 
 pub bounds-marks-x-in-literals : goal.bounds-marks-x-in-literals
 bounds-marks-x-in-literals c =
@@ -39,7 +39,7 @@ bounds-marks-x-in-literals c =
 
 pub literals-preserved : goal.literals-preserved
 literals-preserved c =
-    (let w = c.literals.invariant in laws.mark-new (omega (arith, c.literals-test.true)) w.0 w.1 c.requires.0 (omega (arith, c.literals-test.true, w.0.inside)) c.wide-x.ensures c.if-variables-x.false c.if-marks-x.false, laws.mark_on (omega (arith, c.literals-test.true)) c.literals.invariant.1 (omega (arith, c.literals-test.true, c.literals.invariant.0.inside)) c.wide-x.ensures (omega (arith, c.requires.0, c.if-variables-x.false)))
+    (let w = c.literals.invariant in laws.mark-new (omega (arith, c.literals-test.true)) w.0 w.1 c.requires.0 (omega (arith, c.literals-test.true, w.0.inside)) c.from-x.ensures c.if-variables-x.false c.if-marks-x.false, laws.mark_on (omega (arith, c.literals-test.true)) c.literals.invariant.1 (omega (arith, c.literals-test.true, c.literals.invariant.0.inside)) c.from-x.ensures (omega (arith, c.requires.0, c.if-variables-x.false)))
 
 pub returns : goal.returns
 returns c =

@@ -5,6 +5,3 @@ use Rattle.search.proofs.fits.clause_fits.Given as goal
 
 abbrev pub invariant-literals : goal.invariant-literals
 invariant-literals l = laws.Fitting l.literals l.variables l.i × laws.Marked l.literals l.marks l.mark l.i
-
-abbrev pub decreases-literals : goal.decreases-literals
-decreases-literals l = l.i

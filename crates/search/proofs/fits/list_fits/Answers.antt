@@ -1,9 +1,7 @@
 -- `search::fits::list_fits` meets its contract. The loop's invariant: whether the list fits is whether the words still to come do, and no mark is
 -- that of a clause still to come. Assumes nothing.
 use native.Mathlib.Omega.{arith}
-use Prim.Native.Nat.{◌-◌}
 use mathlib.Core.Path.{refl, sym, ◌∙◌}
-use borrow.Author.Tests.{not-true, not-false}
 use Rattle.search.proofs.Fitting as laws
 use Rattle.search.proofs.fits.list_fits.Goals as goal
 
@@ -13,7 +11,7 @@ clauses-init c = (laws.judging _ _, c.no_marks-marks.ensures)
 pub returns-then-list-at : goal.returns-then-list-at
 returns-then-list-at c =
     let i = c.clauses.invariant.0 in
-    laws.judge_short i c.clauses-test.true (rw c.wide-k.ensures at c.if-list-at.true)
+    laws.judge_short i c.clauses-test.true (rw c.from-k.ensures at c.if-list-at.true)
 
 pub clause_fits-requires : goal.clause_fits-requires
 clause_fits-requires c =
@@ -21,7 +19,7 @@ clause_fits-requires c =
 
 pub returns-then-not-clause_fits : goal.returns-then-not-clause_fits
 returns-then-not-clause_fits c =
-    let k = c.wide-k.ensures in
+    let k = c.from-k.ensures in
     laws.judge_unfit
     c.clauses.invariant.0
     c.clauses-test.true
@@ -31,7 +29,7 @@ returns-then-not-clause_fits c =
 
 pub clauses-preserved : goal.clauses-preserved
 clauses-preserved c =
-    let k = c.wide-k.ensures in (
+    let k = c.from-k.ensures in (
       laws.judge_on
           c.clauses.invariant.0
           c.clauses-test.true

@@ -6,16 +6,16 @@ use Rattle.search.proofs.fits.two_fit.Goals as goal
 
 pub returns-then-variables-x : goal.returns-then-variables-x
 returns-then-variables-x c =
-    sym (laws.two_is c.args.variables _ c.requires c.wide-x.ensures c.wide-y.ensures ∙ rw (le-ltb _ _ c.if-variables-x.true))
+    sym (laws.two_is c.args.variables _ c.requires c.from-x.ensures c.from-y.ensures ∙ rw (le-ltb _ _ c.if-variables-x.true))
 
 pub returns-then-variables-y : goal.returns-then-variables-y
 returns-then-variables-y c =
-    sym (laws.two_is c.args.variables _ c.requires c.wide-x.ensures c.wide-y.ensures ∙ rw (lt-ltb _ _ c.if-variables-x.false, le-ltb _ _ c.if-variables-y.true))
+    sym (laws.two_is c.args.variables _ c.requires c.from-x.ensures c.from-y.ensures ∙ rw (lt-ltb _ _ c.if-variables-x.false, le-ltb _ _ c.if-variables-y.true))
 
 pub returns-then-x-y : goal.returns-then-x-y
 returns-then-x-y c =
-    sym (laws.two_is c.args.variables _ c.requires c.wide-x.ensures c.wide-y.ensures ∙ rw (lt-ltb _ _ c.if-variables-x.false, lt-ltb _ _ c.if-variables-y.false, eq-eqb _ _ c.if-x-y.true))
+    sym (laws.two_is c.args.variables _ c.requires c.from-x.ensures c.from-y.ensures ∙ rw (lt-ltb _ _ c.if-variables-x.false, lt-ltb _ _ c.if-variables-y.false, eq-eqb _ _ c.if-x-y.true))
 
 pub returns : goal.returns
 returns c =
-    sym (laws.two_is c.args.variables _ c.requires c.wide-x.ensures c.wide-y.ensures ∙ rw (lt-ltb _ _ c.if-variables-x.false, lt-ltb _ _ c.if-variables-y.false, ne_eqb _ _ c.if-x-y.false))
+    sym (laws.two_is c.args.variables _ c.requires c.from-x.ensures c.from-y.ensures ∙ rw (lt-ltb _ _ c.if-variables-x.false, lt-ltb _ _ c.if-variables-y.false, ne_eqb _ _ c.if-x-y.false))

@@ -13,11 +13,11 @@ returns-then-lengths-gt8 c = too_many _ _ c.if-lengths-gt8.true
 pub lengths-init : goal.lengths-init
 lengths-init c = begin_lefts _ _ (search rules) (search rules)
 
-pub returns-then-left-lengths : goal.returns-then-left-lengths
-returns-then-left-lengths c = too_long c.lengths.invariant (search rules) c.if-left-lengths.true
+pub returns-then-left-length : goal.returns-then-left-length
+returns-then-left-length c = too_long c.lengths.invariant (search rules) c.if-left-length.true
 
 pub lengths-preserved : goal.lengths-preserved
-lengths-preserved c = next-left c.lengths.invariant (search rules) c.if-left-lengths.false
+lengths-preserved c = next-left c.lengths.invariant (search rules) c.if-left-length.false
 
 pub returns : goal.returns
 returns c = left_over c.lengths.invariant c.lengths-test.false

@@ -1,11 +1,6 @@
 -- `season::lengths::lengths_fit` meets its contract: what is left of the buffer after the lengths so far. Assumes nothing.
-use Prim.Native.Nat.{◌-◌}
-use lib.ListN.{length}
 use Rattle.season.proofs.Sums.{Lefts}
 use Rattle.season.proofs.lengths.lengths_fit.Given as goal
 
 abbrev pub invariant-lengths : goal.invariant-lengths
-invariant-lengths l = Lefts l.all l.lengths l.left l.i
-
-abbrev pub decreases-lengths : goal.decreases-lengths
-decreases-lengths l = length l.lengths - l.i
+invariant-lengths l = Lefts l.all l.lengths l.left l.length-index

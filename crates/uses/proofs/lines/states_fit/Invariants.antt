@@ -1,15 +1,13 @@
--- `uses::lines::states_fit` meets its contract: every line so far has a state below n. Assumes nothing.
-use Prim.Native.Nat.{◌-◌}
-use lib.ListN.{length}
+-- `uses::lines::states_fit` meets its contract: the answer is that over the lines that are left. Assumes nothing.
 use lib.Dec.{ltb}
+use Rattle.std.specs.Slice.Iter.{chunks_exact_rest, chunks_exact_size}
 use Rattle.lists.specs.Lists.{all}
 use Rattle.table_spec.specs.File.{records}
-use Rattle.table_find.proofs.Walks.{Still}
+use Rattle.table_spec.proofs.Chunks.{Left}
 use Rattle.uses_spec.specs.Uses.{line_of}
 use Rattle.uses.proofs.lines.states_fit.Given as goal
 
 abbrev pub invariant-lines : goal.invariant-lines
-invariant-lines l = Still (λ s. all (λ r. ltb (line_of r).state l.n) (records 5 s)) l.lines l.at
-
-abbrev pub decreases-lines : goal.decreases-lines
-decreases-lines l = length l.lines - l.at
+invariant-lines l =
+    let fit = all (λ r. ltb (line_of r).state l.n) in
+    Left (fit (records 5 l.lines)) fit 5 (chunks_exact_size l.line-iterator) (chunks_exact_rest l.line-iterator)
