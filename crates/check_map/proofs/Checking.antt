@@ -18,7 +18,7 @@ use Rattle.refusals.specs.Refusals.{number_of, tested}
 use Rattle.refusals.proofs.Numbers.{some_number, refused_by, ok_by}
 use Rattle.limits.specs.Limits.{widest}
 use Rattle.table_spec.specs.File.{records, table_of, of_states}
-use Rattle.table_spec.specs.Reading.{Readable, read_number}
+use Rattle.table_spec.specs.Reading.{read_number}
 use Rattle.table_spec.specs.Maps.{numbered}
 use Rattle.table_spec.specs.declared.Starts.{Starts}
 use Rattle.table_view.specs.Sections.{part_of}

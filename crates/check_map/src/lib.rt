@@ -8,13 +8,14 @@ ghost use Rattle.refusals.specs.Refusals.{tested};
 ghost use Rattle.table_spec.specs.File.{table_of};
 ghost use Rattle.check_spec.specs.Check.{map_tests, check_of, CheckSays};
 ghost use Rattle.check_spec.specs.Demands.{AcceptsExactly};
-ghost use Rattle.check_map.specs.Known.{PartedSections, section_tests};
+ghost use Rattle.check_map.specs.Known.{Known, PartedSections, section_tests};
 
 use check_matching::labels_agree;
 use check_numbering::{class_count, numbered};
 use check_sections::{live_matched, records_matched};
 use limits::Limits;
 use refusals::Refusal;
+use table_spec::Starts;
 use table_view::Sections;
 use tops::Examined;
 
@@ -57,6 +58,14 @@ pub fn test_map(examined: &Examined<'_>, map: &[u8]) -> Result<(), Refusal>
 {
     let sections = table_view::sections_of(examined.bytes, examined.starts);
     test_parts(&sections, &examined.words, map)
+}
+
+// The same of a table that was read and whose tops are known, by its bytes, its starts and these.
+pub fn test_known(table: &[u8], starts: Starts, words: &[u64], map: &[u8]) -> Result<(), Refusal>
+    requires { Known table.now starts words.now }
+    ensures { result ≡ tested (first_failed (map_tests (table_of table.now) map.now)) }
+{
+    test_map(&tops::examined_known(table, starts, words), map)
 }
 
 // Checks a map of a table that is read at limits: the class count, or the first refusal that applies.

@@ -5,9 +5,8 @@ ghost use Rattle.std.specs.Prelude.{◌≡◌, true, false, leb};
 ghost use Rattle.choose_spec.specs.declared.Which.TheVariants.{First, Second};
 ghost use Rattle.table_spec.specs.Maps.{classes};
 ghost use Rattle.limits.specs.Limits.{standard};
-ghost use Rattle.refusals.specs.Refusals.{number_in};
 ghost use Rattle.check_map.specs.Known.{WhereReadable};
-ghost use Rattle.choose_spec.specs.Choose.{which_of, choose_number, choice_of, slice_of, choose_of};
+ghost use Rattle.choose_spec.specs.Choose.{which_of, choose_number, choice_of, slice_of, choose_of, DecideSays};
 ghost use Rattle.choose_spec.specs.Demands.{NumberTells, NeitherPasses, ZeroTells, HandedBack};
 
 use choose_spec::Which;
@@ -52,7 +51,7 @@ pub fn decide_within(
 ) -> Result<Which, Refusal>
     ensures answers { result ≡ choice_of limits table.now first.now second.now }
     ensures tells { NumberTells result }
-    ensures number { number_in result ≡ choose_number limits table.now first.now second.now }
+    ensures number { DecideSays limits table.now first.now second.now result }
 {
     let examined = tops::examine(limits, table)?;
     let which = which_known(&examined, first, second);
@@ -100,7 +99,7 @@ pub fn choose_number_within(limits: Limits, table: &[u8], first: &[u8], second: 
 pub fn decide(table: &[u8], first: &[u8], second: &[u8]) -> Result<Which, Refusal>
     ensures answers { result ≡ choice_of standard table.now first.now second.now }
     ensures tells { NumberTells result }
-    ensures number { number_in result ≡ choose_number standard table.now first.now second.now }
+    ensures number { DecideSays standard table.now first.now second.now result }
 {
     decide_within(limits::standard(), table, first, second)
 }

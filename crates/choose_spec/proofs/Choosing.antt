@@ -11,12 +11,12 @@ use lib.Dec.{leb}
 use borrow.Author.Tests.{leb-true, leb-false, le-leb, lt-leb}
 use denote.Ref.{Bor}
 use Rattle.std.specs.Prelude.{Option, Some, None, Result, Ok, Err}
-use Rattle.lists.specs.Lists.{first_failed}
-use Rattle.lists.proofs.Refusals.{passes, fails, no_test, stage-passes, stage_fails, stage-passed}
+use Rattle.lists.specs.Lists.{first_failed, Says}
+use Rattle.lists.proofs.Refusals.{passes, fails, no_test, stage-passes, stage_fails, stage-passed, told_says, refused_says}
 use Rattle.limits.specs.declared.Limits.{Limits}
 use Rattle.refusals.specs.declared.Refusal.{Refusal}
 use Rattle.refusals.specs.declared.Refusal.TheVariants.{NeitherMap}
-use Rattle.refusals.specs.Refusals.{number_of, refusal, Known, number_in}
+use Rattle.refusals.specs.Refusals.{number_of, refusal, Known, number_in, values_in}
 use Rattle.refusals.proofs.Numbers.{some_number, own_number, known_of, failed_known, none_known, was_ok, was_refused}
 use Rattle.table_spec.specs.Reading.{read_number, Readable}
 use Rattle.table_spec.specs.Maps.{classes}
@@ -27,7 +27,7 @@ use Rattle.check_spec.proofs.Accepted.{accepted, Accepted as Accepted'}
 use Rattle.check_spec.proofs.Answers.{passes-number, number-passes, check-known}
 use Rattle.choose_spec.specs.declared.Which.{Which}
 use Rattle.choose_spec.specs.declared.Which.TheVariants.{First, Second}
-use Rattle.choose_spec.specs.Choose.{pick, which_of, some, choose_number, choice_of, Slice, slice_of, handed, choose_of}
+use Rattle.choose_spec.specs.Choose.{pick, which_of, some, choose_number, choice_of, which_values, picked_values, DecideSays, Slice, slice_of, handed, choose_of}
 use Rattle.choose_spec.specs.Demands.{Passes, Chosen, NumberTells, NeitherPasses, ZeroTells, HandedBack}
 
 -- of a map that passes the table is readable and has a state, and the map a byte for it
@@ -173,6 +173,16 @@ module _ (L : Limits) (b m n : List ℕ) where
         go : (v : Option Which) → v ≡ which_of L b m n → number_in (elim v as (λ _. Result Which Refusal) [ None ↦ Err (refusal (choose_number L b m n)) | Some u ↦ Ok u ]) ≡ choose_number L b m n
         go None h = choose-known (refused h)
         go (Some u) h = sym (number-some (ap some (sym h)))
+
+    -- and its values are those of the map that was picked
+    pub decided_says : DecideSays L b m n x
+    unfolding choice_of some picked_values
+    decided_says = rw e (go (which_of L b m n) refl)
+      where
+        go : (v : Option Which) → v ≡ which_of L b m n
+            → (let r : Result Which Refusal = elim v as (λ _. Result Which Refusal) [ None ↦ Err (refusal (choose_number L b m n)) | Some u ↦ Ok u ] in Says (number_in r) (values_in which_values r) (choose_number L b m n) (picked_values v))
+        go None h = refused_says [] (sym (choose-known (refused h))) (some_number _)
+        go (Some u) h = told_says (which_values u) (number-some (ap some (sym h)))
 
   -- the number says whether a value says which
   tells : (x : Result Which Refusal) → NumberTells x

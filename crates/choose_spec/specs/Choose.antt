@@ -1,10 +1,10 @@
 -- Two maps on the desk (document 02, request (xiv)). Assumes nothing.
 use Rattle.std.specs.Prelude.{Bool, true, false, Option, Some, None, Result, Ok, Err, List, [], ◌∷◌, ℕ, leb}
 use Rattle.std.specs.Borrow.{Bor}
-use Rattle.lists.specs.Lists.{first_failed, stage}
+use Rattle.lists.specs.Lists.{first_failed, stage, Says}
 use Rattle.limits.specs.declared.Limits.{Limits}
 use Rattle.refusals.specs.declared.Refusal.{Refusal}
-use Rattle.refusals.specs.Refusals.{refusal}
+use Rattle.refusals.specs.Refusals.{refusal, number_in, values_in}
 use Rattle.table_spec.specs.Reading.{read_number}
 use Rattle.check_spec.specs.Check.{check_of}
 use Rattle.choose_spec.specs.declared.Which.{Which}
@@ -38,6 +38,15 @@ choice_of L b m n = elim (which_of L b m n) [ None ↦ Err (refusal (choose_numb
 abbrev pub which_values : Which → List ℕ
 which_values First = 1 ∷ []
 which_values Second = 2 ∷ []
+
+-- those of what was picked
+unfoldable pub picked_values : Option Which → List ℕ
+picked_values None = []
+picked_values (Some w) = which_values w
+
+-- the answer by its number and its values
+abbrev pub DecideSays : Limits → List ℕ → List ℕ → List ℕ → Result Which Refusal → Type 0
+DecideSays L b m n r = Says (number_in r) (values_in which_values r) (choose_number L b m n) (picked_values (which_of L b m n))
 
 -- a lent slice: the place where it starts, and the bytes from there on
 pub record Slice : Type 0 where

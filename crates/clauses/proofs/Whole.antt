@@ -23,7 +23,7 @@ use Rattle.table_view.proofs.Parts.{states-at, internals-at, calls_at, returns-a
 use Rattle.tops_spec.specs.Tops.{top_words, live_returns}
 use Rattle.check_map.specs.Known.{Known}
 use Rattle.clauses_spec.specs.declared.Listed.{Listed}
-use Rattle.clauses_spec.specs.Clauses.{look_clauses, transitivity, move_clauses, return_clauses, clause_list, short_list, clause_words, clauses_number, ClausesDone, clauses_of}
+use Rattle.clauses_spec.specs.Clauses.{look_clauses, transitivity, move_clauses, return_clauses, clause_list, short_list, clause_words, clauses_number, clauses_of}
 use Rattle.clauses_emit.specs.Emit.{State, emit}
 use Rattle.clauses_records.specs.Returns.{return_clauses_by}
 use Rattle.clauses.specs.Whole.{list_for, closure_for, list_by, listed_by}

@@ -5,6 +5,7 @@ ghost use Rattle.std.specs.Prelude.{◌≡◌, ◌≤◌, min, length};
 ghost use Rattle.lists.specs.Lists.{over};
 ghost use Rattle.limits.specs.Limits.{standard, state_most};
 ghost use Rattle.table_spec.specs.File.{table_of, of_states};
+ghost use Rattle.check_map.specs.Known.{Known};
 ghost use Rattle.clauses_spec.specs.Clauses.{clauses_of, ClausesSays};
 ghost use Rattle.clauses_spec.specs.Demands.{ListSound};
 ghost use Rattle.clauses_emit.specs.Emit.{counts_of, state, emit};
@@ -16,6 +17,7 @@ use clauses_spec::Listed;
 use clauses_states::{labels_apart, transitive};
 use limits::Limits;
 use refusals::Refusal;
+use table_spec::Starts;
 use table_view::{Section, part};
 use tops::Examined;
 
@@ -155,6 +157,20 @@ pub fn list_read(whole: bool, examined: &Examined<'_>, list: &mut [u16]) -> Resu
         return list_by(whole, examined, &mut no_words::<512>(), list);
     }
     list_by(whole, examined, &mut no_words::<32768>(), list)
+}
+
+// The same of a table that was read and whose tops are known, by its bytes, its starts and these.
+pub fn list_known(
+    whole: bool,
+    table: &[u8],
+    starts: Starts,
+    tops: &[u64; 40],
+    list: &mut [u16],
+) -> Result<Listed, Refusal>
+    requires { Known table.now starts tops.now }
+    ensures { record { answer = result; list = list.new } ≡ listed_by (list_for whole (table_of table.now)) list.old }
+{
+    list_read(whole, &tops::examined_known(table, starts, tops), list)
 }
 
 // The clause list of a table that is read at limits.

@@ -118,6 +118,23 @@ unfolding emit
 length-emit [] s = refl
 length-emit (c ∷ cs) s = length-emit cs (emit_one c s) ∙ length-emit_one c s
 
+-- the counts stay in order through one clause, and through several
+one_kept : (c : List ℕ) (s : State) → s.tally.clauses ≤ s.tally.words → (emit_one c s).tally.clauses ≤ (emit_one c s).tally.words
+unfolding emit_one
+one_kept c s h = go (ltb (length s.list) s.tally.words) refl
+  where
+    go : (b : Bool) → ltb (length s.list) s.tally.words ≡ b → (emit_one c s).tally.clauses ≤ (emit_one c s).tally.words
+    go true e = rw (e, emit_one) h
+    go false e = rw (e, emit_one) (omega arith)
+
+kept : (cs : List (List ℕ)) (s : State) → s.tally.clauses ≤ s.tally.words → (emit cs s).tally.clauses ≤ (emit cs s).tally.words
+unfolding emit
+kept [] s h = h
+kept (c ∷ cs) s h = kept cs (emit_one c s) (one_kept c s h)
+
+pub ordered_by : (cs : List (List ℕ)) (s : State) {next : State} → next ≡ emit cs s → s.tally.clauses ≤ s.tally.words → next.tally.clauses ≤ next.tally.words
+ordered_by cs s e h = rw e (kept cs s h)
+
 -- ---- a loop: the clauses still to come make of the with_list now what all clauses make of the first with_list
 
 pub record Coming (all : List (List ℕ)) (start : State) (rest : List (List ℕ)) (now : State) : Type 0 where

@@ -1,12 +1,12 @@
 -- The draws: the walk that collects what is present of possible records. Assumes nothing.
 use Rattle.std.proofs.Common.{◌≡◌, ℕ, ◌+◌, ◌/◌, ◌<◌, ◌≤◌, List, [], ◌∷◌, ◌++◌, length, get_or, take, drop, set, sym, refl, ap, ◌∙◌, subst, append-nil, add-one, arith, length-append, length-set, drop_of_length-le, length-take-le, drop-cons, take-suc-set}
 use lib.ListN.{length-map}
-use lib.Seq.{append_snoc}
+use lib.Seq.{append_snoc, take_at}
 use Rattle.table_find.specs.Keys.{key}
 use Rattle.table_write.specs.Keys.{keys_of}
 use Rattle.generate_spec.specs.Loads.{draw, present, after}
 use Rattle.generate_spec.proofs.Present.{present_in, present-out}
-use Rattle.generate.specs.Draws.{record_at, Drew}
+use Rattle.generate.specs.Draws.{record_at, Drew, Overfull}
 
 -- ---- the walk that collects the keys
 
@@ -54,8 +54,18 @@ module _ {d s₀ : ℕ} {rs : List (List ℕ)} {room : ℕ} {keys : List ℕ} {s
       }
 
       -- one more than there is room for
-      pub over-full : count ≡ length keys → room < length (present d s₀ rs)
-      over-full l = omega (arith, sym (length-map (present d s₀ rs) key) ∙ ap length there ∙ length-append (take count keys) (record_at rs next ∷ keys_of (present d t (drop (next + 1) rs))), length-take-le count keys w.few, w.same-room)
+      over-many : count ≡ length keys → room < length (present d s₀ rs)
+      over-many l = omega (arith, sym (length-map (present d s₀ rs) key) ∙ ap length there ∙ length-append (take count keys) (record_at rs next ∷ keys_of (present d t (drop (next + 1) rs))), length-take-le count keys w.few, w.same-room)
+
+      -- and the first of them, as many as there is room for, are held
+      over-first : count ≡ length keys → take room (keys_of (present d s₀ rs)) ≡ take count keys
+      over-first l = ap (take room) there ∙ take_at (take count keys) (record_at rs next ∷ keys_of (present d t (drop (next + 1) rs))) room (length-take-le count keys w.few ∙ l ∙ w.same-room)
+
+      pub over-full : count ≡ length keys → Overfull d s₀ rs room keys
+      over-full l =
+          let n : room ≡ count = sym (l ∙ w.same-room) in
+          let long = ap length (over-first l) ∙ length-take-le count keys w.few in
+          record { many = over-many l; holds = record { count = n ∙ sym long; same = ap (λ k. take k keys) n ∙ sym (over-first l) } }
 
   pub all_drawn : length rs ≤ next → Drew d s₀ rs room (record { count = count; s = s }) keys
   unfolding present after

@@ -1,5 +1,5 @@
 -- What the functions of src/ are stated with: the possible records of a section by number, and what the draws for them give. Assumes nothing.
-use Rattle.std.specs.Prelude.{◌≡◌, ℕ, ◌+◌, ◌-◌, ◌<◌, ◌≤◌, ◌⊎◌, Option, MatchOption, List, [], length, replicate, slice_index_or}
+use Rattle.std.specs.Prelude.{◌≡◌, ℕ, ◌+◌, ◌-◌, ◌<◌, ◌≤◌, ◌⊎◌, Option, MatchOption, List, [], length, take, replicate, slice_index_or}
 use Rattle.lists.specs.Lists.{upto}
 use Rattle.limits.specs.Limits.{state_most, symbol_most}
 use Rattle.table_find.specs.Keys.{key}
@@ -27,6 +27,11 @@ pub record Drew (density s : ℕ) (rs : List (List ℕ)) (room : ℕ) (r : Drawn
   pub holds : Holds keys r.count (keys_of (present density s rs))
   pub last : r.s ≡ after s rs
 
--- .. and nothing where there is not
+-- of more records than there is room for, the keys of the first of them, as many as there is room for
+pub record Overfull (density s : ℕ) (rs : List (List ℕ)) (room : ℕ) (keys : List ℕ) : Type 0 where
+  pub many : room < length (present density s rs)
+  pub holds : Holds keys room (take room (keys_of (present density s rs)))
+
+-- .. and no count where there is not room for all
 abbrev pub Draws : ℕ → ℕ → List (List ℕ) → ℕ → Option Drawn → List ℕ → Type 0
-Draws density s rs room r keys = MatchOption r (room < length (present density s rs)) (λ x. Drew density s rs room x keys)
+Draws density s rs room r keys = MatchOption r (Overfull density s rs room keys) (λ x. Drew density s rs room x keys)

@@ -98,6 +98,6 @@ pub said : {number k : ℕ} {values listed : List ℕ} → Says number values k 
 said {number} {k} {values} {listed} s e = let z : k ≡ 0 = sym s.numbered ∙ e in (z, s.valued ∙ sym (not_refused k listed [] z))
 
 -- what holds of the values of x, where the number is 0, is said of the answer
-pub on_values : {A : Type 0} (k : ℕ) (x y : A) (number : A → ℕ) (values : A → List ℕ) (P : A → (ℕ → ℕ) → Type 0) → (k ≡ 0 → P x (λ i. get_or (values x) i 0)) → number y ≢ 0
+pub on_values : {A : Type 0} (k : ℕ) (x y : A) (number : A → ℕ) (values : A → List ℕ) (P : A → (ℕ → ℕ) → Type 0) → (k ≡ 0 → P x (λ i. get_or (values x) i 0)) → (k ≢ 0 → number y ≢ 0)
     → (let r : A = elim (eqb k 0) as (λ _. A) [ true ↦ x | false ↦ y ] in OnValues (number r) (values r) (P r))
-on_values k x y number values P h e = by_number k x y (λ r. OnValues (number r) (values r) (P r)) (λ z _. h z) (λ n f. absurd (e f))
+on_values k x y number values P h e = by_number k x y (λ r. OnValues (number r) (values r) (P r)) (λ z _. h z) (λ n f. absurd (e n f))

@@ -13,7 +13,7 @@ use lib.ListN.{length, get_or, take, replicate, length-append}
 use lib.Seq.{take-suc, take-length}
 use lib.Dec.{eqb}
 use borrow.Author.Tests.{eqb-true, eqb-false, ne_eqb}
-use Rattle.lists.specs.Lists.{filter, concat_map, upto, same}
+use Rattle.lists.specs.Lists.{filter, upto, same}
 use Rattle.lists.specs.Bits.{Bit, has_bit, has, ones_over}
 use Rattle.lists.proofs.Bits.{some-bit, no_bit}
 use Rattle.lists.proofs.Counts.{filter-append, filter_map, concat_map-append, grid}

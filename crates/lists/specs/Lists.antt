@@ -1,5 +1,5 @@
 -- Walks over lists that the definitions of the other crates are written with, and how a call is refused. Assumes nothing.
-use Rattle.std.specs.Prelude.{◌≡◌, Bool, true, false, ◌&&◌, ◌||◌, List, [], ◌∷◌, ◌++◌, ℕ, zero, suc, ◌+◌, ◌<◌, length, get_or, take, drop, eqb}
+use Rattle.std.specs.Prelude.{◌≡◌, Bool, true, false, ◌&&◌, List, [], ◌∷◌, ◌++◌, ℕ, zero, suc, ◌+◌, ◌<◌, length, get_or, take, drop, eqb}
 use Rattle.std.specs.List.{list_all, list_any, flat_map, concat as std_concat}
 
 module _ {A : Type 0} where

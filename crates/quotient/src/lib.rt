@@ -4,7 +4,7 @@
 ghost use Rattle.std.specs.Prelude.{◌≡◌};
 ghost use Rattle.limits.specs.Limits.{standard};
 ghost use Rattle.table_spec.specs.File.{bytes_of};
-ghost use Rattle.check_map.specs.Known.{WhereReadable};
+ghost use Rattle.check_map.specs.Known.{Known, WhereReadable};
 ghost use Rattle.quotient_spec.specs.Quotient.{quotient_bytes, quotient_of, QuotientSays};
 ghost use Rattle.quotient_spec.specs.Demands.{Promises};
 ghost use Rattle.table_write.specs.Tables.{written_for};
@@ -14,6 +14,7 @@ use check_numbering::class_count;
 use limits::Limits;
 use quotient_images::collect;
 use refusals::Refusal;
+use table_spec::Starts;
 use table_view::Sections;
 use table_write::put_table;
 use tops::Examined;
@@ -89,6 +90,20 @@ pub fn quotient_known(examined: &Examined<'_>, map: &[u8], out: &mut [u8]) -> Re
 {
     check_map::test_map(examined, map)?;
     write_read(examined, map, out)
+}
+
+// The same of a table that was read and whose tops are known, by its bytes, its starts and these.
+pub fn quotient_lent(
+    table: &[u8],
+    starts: Starts,
+    words: &[u64],
+    map: &[u8],
+    out: &mut [u8],
+) -> Result<usize, Refusal>
+    requires { Known table.now starts words.now }
+    ensures { WhereReadable table.now (λ L. record { answer = result; out = out.new } ≡ quotient_of L table.now map.now out.old) }
+{
+    quotient_known(&tops::examined_known(table, starts, words), map, out)
 }
 
 // Writes the quotient of a table that is read at limits under a map: its length, or the first refusal that applies, the output then unchanged.

@@ -30,7 +30,7 @@ module _ (k : ℕ) (c out : List ℕ) where
   unfolding over
   on_writing P h =
       on_values k written refused (λ (d : QuotientDone). number_in d.answer) (λ (d : QuotientDone). values_in one_value d.answer) (λ d v. P (take (v 0) d.out))
-      (λ z. subst P (sym (take-append_seam c (drop (length c) out))) (h z)) (some_number (refusal k))
+      (λ z. subst P (sym (take-append_seam c (drop (length c) out))) (h z)) (λ _. some_number (refusal k))
 
   pub says_length : Known k → Says (number_in done.answer) (values_in one_value done.answer) k (length c ∷ [])
   says_length h = says k written refused (λ (d : QuotientDone). number_in d.answer) (λ (d : QuotientDone). values_in one_value d.answer) refl refl h refl

@@ -1,5 +1,5 @@
 -- What the functions of src/ are stated with: one table's turn, and all of them. Assumes nothing.
-use Rattle.std.specs.Prelude.{◌≡◌, List, ℕ, length, replicate}
+use Rattle.std.specs.Prelude.{◌≡◌, List, ℕ, replicate}
 use Rattle.lists.specs.Lists.{concat_map, over}
 use Rattle.limits.specs.declared.Limits.{Limits}
 use Rattle.reduce_spec.specs.Reduce.{reduce_of}

@@ -4,8 +4,7 @@
 ghost use Rattle.std.specs.Prelude.{◌≡◌, true, ◌*◌, ◌<◌, ◌^◌, length};
 ghost use Rattle.std.proofs.Math.Seq.{paste};
 ghost use Rattle.limits.specs.Limits.{standard};
-ghost use Rattle.refusals.specs.Refusals.{number_in};
-ghost use Rattle.season_spec.specs.Seasons.{lengths_fit, season_number, SeasonDone, season_of};
+ghost use Rattle.season_spec.specs.Seasons.{lengths_fit, SeasonDone, season_of, SeasonSays};
 ghost use Rattle.season_spec.specs.Demands.{SeasonPromises};
 ghost use Rattle.season.specs.Turns.{Turned, Ran};
 
@@ -127,7 +126,7 @@ pub fn season_within(
         (season_of limits tables.now lengths.now guesses list.old maps.old out.old) }
     ensures promises { SeasonPromises limits tables.now lengths.now guesses list.old maps.old out.old result
         maps.new out.new }
-    ensures number { number_in result ≡ season_number limits tables.now lengths.now }
+    ensures number { SeasonSays limits tables.now lengths.now guesses list.old maps.old out.old result }
 {
     if !limits::limits_fit(limits) {
         return Err(Refusal::LimitsRange);
@@ -152,7 +151,7 @@ pub fn season(
         (season_of standard tables.now lengths.now guesses list.old maps.old out.old) }
     ensures promises { SeasonPromises standard tables.now lengths.now guesses list.old maps.old out.old result
         maps.new out.new }
-    ensures number { number_in result ≡ season_number standard tables.now lengths.now }
+    ensures number { SeasonSays standard tables.now lengths.now guesses list.old maps.old out.old result }
 {
     season_within(
         limits::standard(),

@@ -35,7 +35,7 @@ use Rattle.reduce_spec.specs.Demands.{OnDelivery, Promises, map_written}
 use Rattle.reduce_spec.specs.declared.Reduction.{Reduction}
 use Rattle.reduce_spec.proofs.Ways.{list-formed}
 use Rattle.reduce_spec.proofs.Theorems.{promises, on_delivery}
-use Rattle.season_spec.specs.Seasons.{row, guesses_in, map_taken, out_taken, Reductions, reductions_from, share_of, lengths_fit, season_number, SeasonDone, season_of, season_values}
+use Rattle.season_spec.specs.Seasons.{row, guesses_in, map_taken, out_taken, Reductions, reductions_from, share_of, lengths_fit, season_number, SeasonDone, season_of, season_values, SeasonSays}
 use Rattle.season_spec.specs.Demands.{table_at, answer_at, allowed_to, maps_before, out_before, IsLone, answers_of, Alone, SolvedWithin, EachPromised, guesses_reported, WithinAll, SeasonPromises}
 use Rattle.season_spec.proofs.Each.{allowed, moved, used, counted, alone_in}
 
@@ -210,3 +210,9 @@ pub number_run : (L : Limits) (tables lengths : List ℕ) (guesses : ℕ) (list 
     → record { answer = r; list = list'; maps = maps'; out = out' } ≡ season_of L tables lengths guesses list maps out
     → number_in r ≡ season_number L tables lengths
 number_run L tables lengths guesses list maps out e = ap (λ (d : SeasonDone). number_in d.answer) e ∙ (season-says L tables lengths guesses list maps out).numbered
+
+pub says_run : (L : Limits) (tables lengths : List ℕ) (guesses : ℕ) (list maps out : List ℕ) {r : Result (List ℕ) Refusal} {list' maps' out' : List ℕ}
+    → record { answer = r; list = list'; maps = maps'; out = out' } ≡ season_of L tables lengths guesses list maps out
+    → SeasonSays L tables lengths guesses list maps out r
+says_run L tables lengths guesses list maps out e =
+    subst (λ (d : SeasonDone). SeasonSays L tables lengths guesses list maps out d.answer) (sym e) (season-says L tables lengths guesses list maps out)

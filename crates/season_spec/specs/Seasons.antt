@@ -1,6 +1,6 @@
 -- A season on one budget (document 02, request (ix)): tables back to back, reduced in order with shared guesses. Assumes nothing.
 use Rattle.std.specs.Prelude.{Bool, true, false, ◌&&◌, Result, Ok, Err, List, [], ◌∷◌, ◌++◌, ℕ, ◌+◌, ◌-◌, ◌/◌, length, get_or, take, drop, replicate, eqb, leb}
-use Rattle.lists.specs.Lists.{concat_map, sum, over, first_failed}
+use Rattle.lists.specs.Lists.{concat_map, sum, over, first_failed, Says}
 use Rattle.limits.specs.declared.Limits.{Limits}
 use Rattle.refusals.specs.declared.Refusal.{Refusal}
 use Rattle.refusals.specs.Refusals.{refusal, number_in, values_in}
@@ -75,3 +75,9 @@ season_of L tables lengths guesses list maps out = elim (eqb (season_number L ta
 -- an answer's values: all 64, none with a refusal
 abbrev pub season_values : Result (List ℕ) Refusal → List ℕ
 season_values r = values_in (λ vs. vs) r
+
+-- the answer by its number and its values
+abbrev pub SeasonSays : Limits → List ℕ → List ℕ → ℕ → List ℕ → List ℕ → List ℕ → Result (List ℕ) Refusal → Type 0
+SeasonSays L tables lengths guesses list maps out r =
+    let run = reductions_from L (share_of guesses lengths) 0 lengths tables list maps out in
+    Says (number_in r) (season_values r) (season_number L tables lengths) (over (concat_map row run.answers) (replicate 64 0))

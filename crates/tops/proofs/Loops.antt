@@ -126,6 +126,9 @@ ones_sum k (w ∷ ws) = sum_by-cons (ones_in k) w ws ∙ ap (λ n. ones_in k w +
 pub ones_fit : (n : ℕ) (ws : List ℕ) → n ≤ state_most → sum_by (ones_in 64) (take n ws) < 2 ^ 32
 ones_fit n ws h = omega (arith, sum_most (ones_in 64) 64 (take n ws) (λ q. ones_le 64 (get_or (take n ws) q 0)), length-take n ws)
 
+pub ones_whole : (ws : List ℕ) → length ws ≤ state_most → sum_by (ones_in 64) ws < 2 ^ 32
+ones_whole ws h = omega (arith, sum_most (ones_in 64) 64 ws (λ q. ones_le 64 (get_or ws q 0)))
+
 -- ---- the rounds
 
 pub section_within : {w n : ℕ} {s : List ℕ} → n ≤ state_most → StateRecords w n s → StateRecords w state_most s

@@ -24,10 +24,10 @@ use Rattle.table_view.specs.Sections.{sectioned, part_of, HasRead}
 use Rattle.table_view.specs.declared.Section.TheVariants.{States, Internals, Calls, Returns}
 use Rattle.table_view.proofs.Parts.{states-at, internals-at, calls_at, returns-at}
 use Rattle.table_view.proofs.Handed.{read_as, read_refused}
-use Rattle.tops_spec.specs.Tops.{round, rounds, start_words, top_words, top_words_at, top_count, tops_of}
+use Rattle.tops_spec.specs.Tops.{round, rounds, start_words, top_words, top_words_at, top_count, tops_of, TopsSays}
 use Rattle.tops_spec.specs.Demands.{TopsExact}
 use Rattle.tops_spec.specs.declared.TopWords.{TopWords}
-use Rattle.tops_spec.proofs.Theorems.{tops-exact}
+use Rattle.tops_spec.proofs.Theorems.{tops-exact, tops-says}
 use Rattle.tops.specs.Steps.{StateParts, tops_found, examined_of}
 
 -- ---- the tops do not look at the version and the symbols
@@ -111,6 +111,9 @@ module _ (L : Limits) (b : List ℕ) where
   -- the tops alone
   pub tops-promised : {r : Result TopWords Refusal} → r ≡ tops_of L b → (r ≡ tops_of L b) × TopsExact L b r
   tops-promised e = (e, subst (TopsExact L b) (sym e) (tops-exact L b))
+
+  pub tops_told : {r : Result TopWords Refusal} → r ≡ tops_of L b → TopsSays L b r
+  tops_told e = subst (TopsSays L b) (sym e) (tops-says L b)
 
   pub tops-answer : {x : TopWords} → Readable L b → x.words ≡ top_words (table_of b) → x.found ≡ top_count (table_of b) → Ok x ≡ tops_of L b
   unfolding tops_of

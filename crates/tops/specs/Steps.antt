@@ -1,5 +1,5 @@
 -- The sections of a table that the tops are worked out from, as parts of the file, and what is handed on with them. Assumes nothing.
-use Rattle.std.specs.Prelude.{◌≡◌, ◌≢◌, true, false, Result, ℕ, suc, ◌%◌, ◌^◌, ◌<◌, ◌≤◌, length, get_or, eqb, []}
+use Rattle.std.specs.Prelude.{◌≡◌, ◌≢◌, true, false, Result, Ok, Err, ℕ, suc, ◌%◌, ◌^◌, ◌<◌, ◌≤◌, length, get_or, eqb, []}
 use mathlib.Core.List.{List, Memᴰ}
 use Rattle.lists.specs.Bits.{has}
 use Rattle.limits.specs.Limits.{state_most}
@@ -71,3 +71,8 @@ pub record Examination : Type 0 where
 -- "is lent the whole file and reads it first": those of a readable table, else the refusal
 unfoldable pub examined_of : Limits → List ℕ → Result Examination Refusal
 examined_of L b = answered (read_number L b) (record { starts = starts_of b; words = top_words (table_of b); found = top_count (table_of b) })
+
+-- the examination that is made of what is handed on, or the refusal
+abbrev pub examination_of : {A : Type 0} → (A → Starts) → (A → List ℕ) → (A → ℕ) → Result A Refusal → Result Examination Refusal
+examination_of starts words found (Ok x) = Ok (record { starts = starts x; words = words x; found = found x })
+examination_of starts words found (Err r) = Err r

@@ -4,13 +4,13 @@
 ghost use Rattle.std.specs.Prelude.{◌≡◌, suc, ◌*◌, ◌<◌, ◌^◌, length, sum, sum_by, get_or, ℕ, IfOk, IfErr};
 ghost use Rattle.std.specs.Int.Count.{ones_in};
 ghost use Rattle.limits.specs.Limits.{standard, widest};
-ghost use Rattle.refusals.specs.Refusals.{number_of, number_in};
+ghost use Rattle.refusals.specs.Refusals.{number_of};
 ghost use Rattle.table_spec.specs.Reading.{Readable, read_number, starts_of};
 ghost use Rattle.table_spec.specs.File.{records, table_of};
 ghost use Rattle.table_view.specs.Sections.{HasRead};
-ghost use Rattle.tops_spec.specs.Tops.{add, rounds, top_words, top_count, tops_of};
+ghost use Rattle.tops_spec.specs.Tops.{add, rounds, top_words, top_count, tops_of, TopsSays};
 ghost use Rattle.tops_spec.specs.Demands.{TopsExact};
-ghost use Rattle.tops.specs.Steps.{StateRecords, StateSections, Small, table_in, width_of, step_by, by_records, tops_found};
+ghost use Rattle.tops.specs.Steps.{StateRecords, StateSections, Small, table_in, width_of, step_by, by_records, tops_found, examined_of, examination_of};
 
 use limits::Limits;
 use refusals::Refusal;
@@ -191,8 +191,25 @@ pub fn examine_read<'a>(table: &'a [u8], starts: Starts) -> Examined<'a>
     }
 }
 
+// A table that was read, with its tops, which are known: nothing is worked out but their number.
+pub fn examined_known<'a>(table: &'a [u8], starts: Starts, words: &[u64]) -> Examined<'a>
+    requires { HasRead table.now starts × (words.now ≡ top_words (table_of table.now)) }
+    ensures { result.bytes ≡ table.entry }
+{
+    let mut handed = [0u64; 40];
+    handed.copy_from_slice(words);
+    let found = count_tops(&handed);
+    Examined {
+        bytes: table,
+        starts,
+        words: handed,
+        found,
+    }
+}
+
 // Reads a table at limits and works out its tops.
 pub fn examine<'a>(limits: Limits, table: &'a [u8]) -> Result<Examined<'a>, Refusal>
+    ensures answers { examination_of (λ e. e.starts) (λ e. e.words) (λ e. e.found) result ≡ examined_of limits table.now }
     ensures ok { IfOk result (λ e. (e.bytes ≡ table.entry) × Readable limits table.now) }
     ensures err { IfErr result (λ r. read_number limits table.now ≡ number_of r) }
 {
@@ -204,7 +221,7 @@ pub fn examine<'a>(limits: Limits, table: &'a [u8]) -> Result<Examined<'a>, Refu
 pub fn tops_within(limits: Limits, table: &[u8]) -> Result<TopWords, Refusal>
     ensures answers { result ≡ tops_of limits table.now }
     ensures exact { TopsExact limits table.now result }
-    ensures number { number_in result ≡ read_number limits table.now }
+    ensures number { TopsSays limits table.now result }
 {
     let examined = examine(limits, table)?;
     let words = examined.words;
@@ -218,7 +235,7 @@ pub fn tops_within(limits: Limits, table: &[u8]) -> Result<TopWords, Refusal>
 pub fn tops(table: &[u8]) -> Result<TopWords, Refusal>
     ensures answers { result ≡ tops_of standard table.now }
     ensures exact { TopsExact standard table.now result }
-    ensures number { number_in result ≡ read_number standard table.now }
+    ensures number { TopsSays standard table.now result }
 {
     tops_within(limits::standard(), table)
 }

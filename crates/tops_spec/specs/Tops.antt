@@ -2,11 +2,11 @@
 use Rattle.std.specs.Prelude.{Bool, true, false, Result, List, [], ◌∷◌, ◌++◌, map, ℕ, zero, suc, ◌-◌, ◌*◌, ◌^◌, get_or, set, replicate, eqb}
 use Rattle.std.proofs.Math.Option.{Option, none, some}
 use Rattle.std.specs.Int.Bits.{bit_or}
-use Rattle.lists.specs.Lists.{filter, same}
+use Rattle.lists.specs.Lists.{filter, same, Says}
 use Rattle.lists.specs.Bits.{has, ones_over}
 use Rattle.limits.specs.declared.Limits.{Limits}
 use Rattle.refusals.specs.declared.Refusal.{Refusal}
-use Rattle.refusals.specs.Refusals.{answered}
+use Rattle.refusals.specs.Refusals.{answered, number_in, values_in}
 use Rattle.limits.specs.Limits.{state_most}
 use Rattle.table_spec.specs.File.{Table, table_of}
 use Rattle.table_spec.specs.Reading.{is_initial, read_number}
@@ -72,6 +72,10 @@ tops_of L b = answered (read_number L b) (record { words = top_words (table_of b
 -- an answer's values: the words, then the number of tops found
 abbrev pub tops_values : TopWords → List ℕ
 tops_values r = r.words ++ (r.found ∷ [])
+
+-- the answer by its number and its values
+abbrev pub TopsSays : Limits → List ℕ → Result TopWords Refusal → Type 0
+TopsSays L b r = Says (number_in r) (values_in tops_values r) (read_number L b) (top_words (table_of b) ++ (top_count (table_of b) ∷ []))
 
 -- the live returns, in file order
 unfoldable pub live_returns : Table → List (List ℕ)

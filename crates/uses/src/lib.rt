@@ -5,8 +5,7 @@ ghost use Rattle.std.specs.Prelude.{◌≡◌, ◌*◌, ◌≤◌, length};
 ghost use Rattle.std.specs.Result.{IfOk};
 ghost use Rattle.lists.specs.Lists.{first_failed};
 ghost use Rattle.limits.specs.Limits.{standard};
-ghost use Rattle.refusals.specs.Refusals.{number_in};
-ghost use Rattle.uses_spec.specs.Uses.{lines_tests, counted, answer_by, uses_number, uses_of};
+ghost use Rattle.uses_spec.specs.Uses.{lines_tests, counted, answer_by, uses_of, UsesSays};
 ghost use Rattle.uses_spec.specs.Demands.{Fits, Promises};
 ghost use Rattle.uses.specs.Classes.{FewClasses};
 
@@ -54,7 +53,7 @@ pub fn uses_within(
 ) -> Result<Counted, Refusal>
     ensures answers { result ≡ uses_of limits table.now map.now lines.now }
     ensures promises { Promises limits table.now map.now lines.now result }
-    ensures number { number_in result ≡ uses_number limits table.now map.now lines.now }
+    ensures number { UsesSays limits table.now map.now lines.now result }
 {
     check_map::check_within(limits, table, map)?;
     uses_under(map, lines)
@@ -64,7 +63,7 @@ pub fn uses_within(
 pub fn uses(table: &[u8], map: &[u8], lines: &[u8]) -> Result<Counted, Refusal>
     ensures answers { result ≡ uses_of standard table.now map.now lines.now }
     ensures promises { Promises standard table.now map.now lines.now result }
-    ensures number { number_in result ≡ uses_number standard table.now map.now lines.now }
+    ensures number { UsesSays standard table.now map.now lines.now result }
 {
     uses_within(limits::standard(), table, map, lines)
 }

@@ -1,16 +1,16 @@
 -- The numbers and answers of src/, one law for each way to a return, and what an answer promises. Assumes nothing.
 use mathlib.Core.Path.{◌≡◌, sym, ap, ◌∙◌, subst}
 use mathlib.Core.Bool.{true, false, ◌&&◌}
-use mathlib.Core.List.{List, [], ◌∷◌, map, Memᴰ}
-use Prim.Native.Nat.{ℕ, ◌/◌, ◌%◌, ◌*◌, ◌≤◌, ◌<◌}
+use mathlib.Core.List.{List, [], ◌∷◌, ◌++◌, map, Memᴰ}
+use Prim.Native.Nat.{ℕ, ◌+◌, ◌/◌, ◌%◌, ◌*◌, ◌≤◌, ◌<◌}
 use native.Mathlib.Omega.{arith}
 use native.Mathlib.Decide.{dec_lt}
 use lib.ListN.{length, get_or, get_or-eq_default}
+use lib.Seq.{take_at, get_or-append-add}
 use lib.Dec.{eqb, leb, ltb}
 use borrow.Author.Tests.{eqb-true, eq-eqb, ne_eqb, leb-true, le-leb, lt-leb, ltb-true}
 use Rattle.std.specs.Prelude.{Result, Ok, Err}
 use Rattle.std.specs.Result.{IfOk}
-use Rattle.std.proofs.lemmas.Result.{IfOk-weaker}
 use Rattle.lists.specs.Lists.{upto, first_failed, stage, sum, Says}
 use Rattle.lists.proofs.Members.{and-true, all_true}
 use Rattle.lists.proofs.Refusals.{passed, passes, fails, no_test, stage-passes, stage_fails, stage-passed, by_number}
@@ -30,8 +30,8 @@ use Rattle.check_spec.proofs.Accepted.{accepted}
 use Rattle.check_spec.proofs.Answers.{check-known}
 use Rattle.check_spec.proofs.Numbered.{class-below, classes-few, class-under}
 use Rattle.uses_spec.specs.declared.Counted.{Counted}
-use Rattle.uses_spec.specs.Uses.{Line, lines_of, uses_in, class_sum, state_sum, class_sums, lines_fit, states_fit, lines_tests, uses_number, counted, answer_by, uses_of, counted_values}
-use Rattle.uses_spec.specs.Demands.{AnyOrder, ByStates, MakeTotal, ZeroPast, Fits, Promises}
+use Rattle.uses_spec.specs.Uses.{Line, lines_of, uses_in, class_sum, state_sum, class_sums, lines_fit, states_fit, lines_tests, uses_number, counted, answer_by, uses_of, counted_values, UsesSays}
+use Rattle.uses_spec.specs.Demands.{AnyOrder, ByStates, MakeTotal, ZeroPast, Fits, counted_in, OnCounted, Promises}
 use Rattle.uses_spec.proofs.Sums.{sum_no_part, by_key, by_every_key, any_order, all-any-order, total-any-order, length-sums, sum-at}
 
 -- ---- 32 and 33
@@ -144,13 +144,30 @@ module _ (L : Limits) (b m s : List ℕ) where
         go (yes l) = sum-at m (lines_of s) c l ∙ sum_no_part (λ x. x.uses) (λ x. eqb (class_of m x.state) c) (lines_of s) other
         go (no l) = get_or-eq_default (class_sums m (lines_of s)) 0 {n = c} (omega (arith, length-sums m (lines_of s)))
 
-  -- what holds of an answer
-  abbrev Kept : Counted → Type 0
-  Kept r = ByStates b m s r × MakeTotal r × ZeroPast m r
+  -- the sums and the total are what the values say
+  counted_back : counted_in (counted_values (counted m s)) ≡ counted m s
+  unfolding counted
+  counted_back =
+      let sums = class_sums m (lines_of s) in
+      let total = uses_in (lines_of s) ∷ [] in
+      let long : length sums ≡ state_most = length-sums m (lines_of s) in
+      let at : state_most ≡ length sums + 0 = omega (arith, long) in
+      let last : get_or (sums ++ total) state_most 0 ≡ uses_in (lines_of s) =
+      ap (λ n. get_or (sums ++ total) n 0) at ∙ get_or-append-add sums total 0 0 in
+      λ i. record { sums = take_at sums total state_most long i; total = last i }
 
-  kept : IfOk (uses_of L b m s) Kept
-  unfolding uses_of answer_by sum counted
-  kept = by_number _ _ _ (λ (r : Result Counted Refusal). IfOk r Kept) (λ z. let k : Kept (counted m s) = (by_states z, sums-total z, none-past z) in k) (λ n. tt)
+  -- so what holds of these, where nothing is refused, holds of the answer
+  on_counted : (P : Counted → Type 0) → (uses_number L b m s ≡ 0 → P (counted m s)) → OnCounted (uses_of L b m s) P
+  unfolding uses_of answer_by
+  on_counted P h = by_number _ _ _ (λ (r : Result Counted Refusal). OnCounted r P) (λ z _. subst P (sym counted_back) (h z)) (λ n f. absurd (some_number _ f))
+
+  makes_total : uses_number L b m s ≡ 0 → MakeTotal (counted m s)
+  unfolding sum counted
+  makes_total z = sums-total z
+
+  fits_counted : IfOk (uses_of L b m s) Fits → uses_number L b m s ≡ 0 → Fits (counted m s)
+  unfolding uses_of answer_by
+  fits_counted f z = subst (λ (x : Result Counted Refusal). IfOk x Fits) (sym (ok_by (counted m s) z)) f
 
   same-order : AnyOrder L b m s (uses_of L b m s)
   unfolding uses_of uses_number answer_by counted class_sums class_sum lines_tests lines_fit states_fit
@@ -176,15 +193,19 @@ module _ (L : Limits) (b m s : List ℕ) where
   pub number_counted : {r : Result Counted Refusal} → r ≡ uses_of L b m s → number_in r ≡ uses_number L b m s
   number_counted e = ap number_in e ∙ uses-says.numbered
 
+  pub counted_says : {r : Result Counted Refusal} → r ≡ uses_of L b m s → UsesSays L b m s r
+  counted_says e = subst (UsesSays L b m s) (sym e) uses-says
+
   pub promised : {r : Result Counted Refusal} → r ≡ uses_of L b m s → IfOk r Fits → (r ≡ uses_of L b m s) × Promises L b m s r
   promised {r} e f =
-      let k = subst (λ (x : Result Counted Refusal). IfOk x Kept) (sym e) kept in (
+      let on : (P : Counted → Type 0) → (uses_number L b m s ≡ 0 → P (counted m s)) → OnCounted r P =
+      λ P h. subst (λ (x : Result Counted Refusal). OnCounted x P) (sym e) (on_counted P h) in (
         e,
         record {
           order = λ other l p. same-order other l p ∙ sym e;
-          states = IfOk-weaker r Kept (ByStates b m s) (λ _ x. x.0) k;
-          total = IfOk-weaker r Kept MakeTotal (λ _ x. x.1) k;
-          past = IfOk-weaker r Kept (ZeroPast m) (λ _ x. x.2) k;
-          fits = f;
+          states = on (ByStates b m s) by_states;
+          total = on MakeTotal makes_total;
+          past = on (ZeroPast m) none-past;
+          fits = on Fits (fits_counted (subst (λ (x : Result Counted Refusal). IfOk x Fits) e f));
         },
       )

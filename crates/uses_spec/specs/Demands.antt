@@ -1,17 +1,17 @@
 -- What the use counts promise (document 02, request (vii)): "Summing by state, by class, or over the lines in another order gives the same
 -- totals, and the class sums make the grand total." Assumes nothing.
-use Rattle.std.specs.Prelude.{◌≡◌, Result, ℕ, ◌*◌, ◌<◌, ◌≤◌, length, get_or, eqb}
+use Rattle.std.specs.Prelude.{◌≡◌, Result, ℕ, ◌*◌, ◌<◌, ◌≤◌, length, get_or, take, eqb}
 use mathlib.Core.List.{List, map, Permᴰ}
-use Rattle.std.specs.Result.{IfOk}
 use Rattle.lists.specs.Lists.{filter, upto, sum}
 use Rattle.limits.specs.declared.Limits.{Limits}
 use Rattle.refusals.specs.declared.Refusal.{Refusal}
+use Rattle.refusals.specs.Refusals.{number_in, values_in}
 use Rattle.limits.specs.Limits.{state_most}
 use Rattle.table_spec.specs.File.{table_of}
 use Rattle.table_spec.specs.Language.{count}
 use Rattle.table_spec.specs.Maps.{class_of, classes}
 use Rattle.uses_spec.specs.declared.Counted.{Counted}
-use Rattle.uses_spec.specs.Uses.{lines_of, state_sum, uses_of}
+use Rattle.uses_spec.specs.Uses.{lines_of, state_sum, uses_of, counted_values}
 
 -- "over the lines in another order": bytes with the same lines in any order have this answer, refused or not
 abbrev pub AnyOrder : Limits → List ℕ → List ℕ → List ℕ → Result Counted Refusal → Type 0
@@ -35,10 +35,18 @@ pub record Fits (r : Counted) : Type 0 where
 abbrev pub MakeTotal : Counted → Type 0
 MakeTotal r = sum r.sums ≡ r.total
 
+-- the sums and the total that an answer's values are
+abbrev pub counted_in : List ℕ → Counted
+counted_in vs = record { sums = take state_most vs; total = get_or vs state_most 0 }
+
+-- what is said of them, where nothing is refused: the answer's number is 0
+abbrev pub OnCounted : Result Counted Refusal → (Counted → Type 0) → Type 0
+OnCounted r P = number_in r ≡ 0 → P (counted_in (values_in counted_values r))
+
 -- all of it, of one answer: the order of the lines never matters, the rest holds where nothing is refused
 pub record Promises (L : Limits) (b m s : List ℕ) (r : Result Counted Refusal) : Type 0 where
   pub order : AnyOrder L b m s r
-  pub states : IfOk r (ByStates b m s)
-  pub total : IfOk r MakeTotal
-  pub past : IfOk r (ZeroPast m)
-  pub fits : IfOk r Fits
+  pub states : OnCounted r (ByStates b m s)
+  pub total : OnCounted r MakeTotal
+  pub past : OnCounted r (ZeroPast m)
+  pub fits : OnCounted r Fits

@@ -1,9 +1,9 @@
 -- Use counts by class (document 02, request (vii)). Assumes nothing.
 use Rattle.std.specs.Prelude.{Bool, ◌&&◌, Result, List, [], ◌∷◌, ◌++◌, map, ℕ, ◌+◌, ◌*◌, ◌/◌, ◌%◌, length, get_or, eqb, leb, ltb}
-use Rattle.lists.specs.Lists.{all, filter, upto, sum, first_failed, stage}
+use Rattle.lists.specs.Lists.{all, filter, upto, sum, first_failed, stage, Says}
 use Rattle.limits.specs.declared.Limits.{Limits}
 use Rattle.refusals.specs.declared.Refusal.{Refusal}
-use Rattle.refusals.specs.Refusals.{answered}
+use Rattle.refusals.specs.Refusals.{answered, number_in, values_in}
 use Rattle.limits.specs.Limits.{state_most}
 use Rattle.table_spec.specs.File.{records, table_of}
 use Rattle.table_spec.specs.Language.{count}
@@ -70,3 +70,7 @@ uses_of L b m s = answer_by (uses_number L b m s) m s
 -- an answer's values: the sums, then the total
 abbrev pub counted_values : Counted → List ℕ
 counted_values r = r.sums ++ (r.total ∷ [])
+
+-- the answer by its number and its values
+abbrev pub UsesSays : Limits → List ℕ → List ℕ → List ℕ → Result Counted Refusal → Type 0
+UsesSays L b m s r = Says (number_in r) (values_in counted_values r) (uses_number L b m s) (counted_values (counted m s))

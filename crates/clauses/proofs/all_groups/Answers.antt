@@ -3,7 +3,6 @@ use mathlib.Core.Path.{ap, ◌∙◌}
 use mathlib.Core.List.{List}
 use Prim.Native.Nat.{ℕ}
 use native.Mathlib.Omega.{arith}
-use Rattle.table_index.specs.Index.{LentParts}
 use Rattle.table_index.proofs.Parts.{parts-lent}
 use Rattle.check_map.proofs.Checking.{known_of}
 use Rattle.clauses_emit.specs.Emit.{state, emit}

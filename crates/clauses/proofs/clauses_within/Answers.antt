@@ -6,7 +6,6 @@ use Prim.Native.Nat.{ℕ}
 use Rattle.std.specs.Borrow.{Bor}
 use Rattle.refusals.proofs.Numbers.{passed_up}
 use Rattle.table_spec.specs.File.{table_of}
-use Rattle.clauses_spec.specs.Clauses.{clause_list}
 use Rattle.clauses_spec.proofs.Theorems.{promised}
 use Rattle.clauses.specs.Whole.{listed_by, list_for}
 use Rattle.clauses.proofs.Whole.{listed, unread}

@@ -5,7 +5,7 @@ use Prim.Native.Nat.{◌<◌}
 use native.Mathlib.Omega.{arith}
 use Rattle.std.specs.Slice.Iter.{chunks_exact_rest, chunks_exact_size}
 use Rattle.table_spec.specs.Maps.{class_of}
-use Rattle.uses.proofs.Adding.{adding, long, room, added, added_all, added_fits}
+use Rattle.uses.proofs.Adding.{adding, room, added, added_all, added_fits}
 use Rattle.uses.proofs.add_lines.Goals as goal
 
 -- the class of a line

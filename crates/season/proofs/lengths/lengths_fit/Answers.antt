@@ -1,6 +1,5 @@
 -- `season::lengths::lengths_fit` meets its contract: what is left of the buffer after the lengths so far. Assumes nothing.
 use borrow.Author.Rules.{rules}
-use Prim.Native.Nat.{◌-◌}
 use Rattle.season.proofs.Sums.{begin_lefts, next-left, too_few, too_many, too_long, left_over}
 use Rattle.season.proofs.lengths.lengths_fit.Goals as goal
 
