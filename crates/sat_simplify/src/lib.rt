@@ -69,9 +69,10 @@ fn put_set(values: &[u8], out: &mut [u16]) -> usize
 {
     let mut at: usize = 0;
     'variables: for x in 0..values.len() {
-        if values[x] != 2 {
-            at = put_unit(values, x as u16, out, at);
+        if values[x] == 2 {
+            continue 'variables;
         }
+        at = put_unit(values, x as u16, out, at);
     }
     at
 }
